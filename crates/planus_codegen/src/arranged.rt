@@ -1,6 +1,6 @@
 //! The layout of printed text: where its lines end.
 
-use crate::printer::{ARGUMENT, BREAK, OWN};
+use crate::printer::{ARGUMENT, BREAK, END, OWN};
 use std::alloc::{AllocError, Global};
 
 /// The columns of a line.
@@ -175,6 +175,11 @@ impl Arrangement {
                     mark = mark.saturating_add(1);
                 }
                 OWN => {}
+                END => {
+                    self.put_word()?;
+                    self.apart = false;
+                    self.put_line_end(self.indent.saturating_add(4))?;
+                }
                 letter => self.put_letter(letter)?,
             }
         }

@@ -4,7 +4,6 @@ use crate::arranged::arranged;
 use crate::at::At;
 use crate::context::Context;
 use crate::enums::{print_enum, print_flags, print_flags_layout, print_numbers};
-use crate::field_lines::{print_constant_uses, print_field_lines};
 use crate::names::namespace_around;
 use crate::order::{keys_of, sort_by_key};
 use crate::printer::Printer;
@@ -12,7 +11,7 @@ use crate::refusal::Refusal;
 use crate::root::print_root;
 use crate::structs::{has_padding, print_padded, print_struct, print_struct_layout};
 use crate::supported::refuse_unsupported;
-use crate::tables::{print_read_back, print_table};
+use crate::tables::print_table;
 use crate::unions::{print_union, print_variants};
 use crate::words::{Part, Words};
 use planus_layout::{Body, Declared, Schema};
@@ -21,6 +20,10 @@ use std::alloc::{AllocError, Global};
 
 const ROOT: &str =
     "\npub use root::{\n    finish_root, finish_root_size_prefixed, has_identifier, read_as_root,\n    read_size_prefixed_as_root,\n};\n";
+
+const LAWS_CRATE: &str = "planus_laws";
+
+const LAWS: &str = "pub use planus_laws::Create;\n";
 
 const ROOT_ALONE: &str = "\npub use root::{read_as_root, read_size_prefixed_as_root};\n";
 
@@ -111,13 +114,11 @@ impl<'a> Files<'a> {
         head: &str,
         at: At,
         text: &Printer<'_>,
-        uses: &Printer<'_>,
     ) -> Result<(), AllocError> {
         let mut file = Printer::new(self.context);
         file.put(head, at);
         let words = Words::of(self.context.alloc, text.as_str(), Part::Definitions)?;
         file.put_definition_uses(&words, self.order, at.index);
-        file.join(uses);
         file.put_str("\n");
         file.join(text);
         self.put("specs/$T.antt", at, file)
@@ -125,20 +126,11 @@ impl<'a> Files<'a> {
 
     fn put_declared(&mut self, at: At, declared: &Declared) -> Result<(), AllocError> {
         let context = self.context;
-        let none = Printer::new(context);
         match &declared.body {
             Body::Table(one) => {
                 let plan = Plan::of(context.alloc, context.declared, at.index, one)?;
-                self.put_code(
-                    "//! Tables `$T`.\n",
-                    at,
-                    &print_table(context, &plan, declared),
-                )?;
-                let proof = print_read_back(context, at);
-                self.put("proofs/$M/$T/read_back/Answers.antt", at, proof)?;
-                let lines = print_field_lines(context, &plan);
-                let uses = print_constant_uses(context, &plan);
-                self.put_definitions("-- The fields of `$T`.\n", at, &lines, &uses)
+                let code = print_table(context, &plan, declared);
+                self.put_code("//! Tables `$T`.\n", at, &code)
             }
             Body::Struct(one) => {
                 self.put_code(
@@ -151,21 +143,16 @@ impl<'a> Files<'a> {
                     self.put("proofs/$M/$TPlain/put/Answers.antt", at, proof)?;
                 }
                 let layout = print_struct_layout(context, at);
-                self.put_definitions("-- The layout of `$T`.\n", at, &layout, &none)
+                self.put_definitions("-- The layout of `$T`.\n", at, &layout)
             }
             Body::Enum(one) if one.flags => {
                 self.put_code("//! Flags `$T`.\n", at, &print_flags(context, at, declared))?;
                 let layout = print_flags_layout(context, at);
-                self.put_definitions("-- The layout of `$T`.\n", at, &layout, &none)
+                self.put_definitions("-- The layout of `$T`.\n", at, &layout)
             }
             Body::Enum(_) => {
                 self.put_code("//! Enum `$T`.\n", at, &print_enum(context, at, declared))?;
-                self.put_definitions(
-                    "-- The numbers of `$T`.\n",
-                    at,
-                    &print_numbers(context, at),
-                    &none,
-                )
+                self.put_definitions("-- The numbers of `$T`.\n", at, &print_numbers(context, at))
             }
             Body::Union(one) => {
                 self.put_code(
@@ -174,24 +161,21 @@ impl<'a> Files<'a> {
                     &print_union(context, at, declared),
                 )?;
                 let variants = print_variants(context, at, one);
-                self.put_definitions("-- The variants of `$T`.\n", at, &variants, &none)
+                self.put_definitions("-- The variants of `$T`.\n", at, &variants)
             }
         }
     }
 
-    // The modules of the namespaces in one; outside of all also those of declarations, and the
-    // root's if it is wanted.
-    fn modules_in(&self, namespace: &[u8], root: bool) -> Printer<'a> {
+    // The modules of the namespaces in one; outside of all also those of declarations.
+    fn modules_in(&self, namespace: &[u8]) -> Printer<'a> {
         let context = self.context;
         let mut text = Printer::new(context);
         for index in self.modules {
             let inner = namespace_around(context.names.namespace(*index)) == namespace;
             let (public, wanted) = if *index < context.declared.len() {
                 ("", namespace.is_empty())
-            } else if *index < context.names.places.len() {
-                ("pub ", inner)
             } else {
-                ("", root)
+                ("pub ", inner)
             };
             if wanted {
                 text.put_str(public);
@@ -201,25 +185,26 @@ impl<'a> Files<'a> {
         text
     }
 
-    // Adds the modules in a namespace, and what is declared in it.
+    // Adds the modules in a namespace, and what is declared in it; outside of all also the trait by
+    // which tables are created.
     fn put_namespace(&self, text: &mut Printer<'_>, namespace: &[u8], template: &str) {
         let context = self.context;
         let mut uses = Printer::new(context);
+        let mut laws = if namespace.is_empty() { LAWS } else { "" };
         for index in self.order {
             if let Some(one) = context.declared.get(*index) {
                 if namespace_around(&one.name) == namespace {
+                    if context.names.module(*index) > LAWS_CRATE.as_bytes() {
+                        uses.put_str(laws);
+                        laws = "";
+                    }
                     uses.put_passed_on(template, *index, &one.body);
                 }
             }
         }
-        // Lists of modules with nothing between them are one list.
-        let has_root = namespace.is_empty() && context.root.is_some();
-        let with_root = has_root && uses.as_str().is_empty();
-        text.join_apart(&self.modules_in(namespace, with_root));
+        uses.put_str(laws);
+        text.join_apart(&self.modules_in(namespace));
         text.join_apart(&uses);
-        if has_root && !with_root {
-            text.put_str("\nmod root;\n");
-        }
     }
 
     // Adds the files of the namespaces' modules.
@@ -243,6 +228,7 @@ impl<'a> Files<'a> {
         text.put_str("//! Code of a schema.\n#![tactic(auto)]\n");
         self.put_namespace(&mut text, &[], "pub use $M::");
         if context.root.is_some() {
+            text.put_str("\nmod root;\n");
             text.put_str(if context.identifier.is_some() {
                 ROOT
             } else {
@@ -257,8 +243,10 @@ impl<'a> Files<'a> {
 
     fn put_definition_list(&mut self) -> Result<(), AllocError> {
         let mut text = Printer::new(self.context);
-        for index in 0..self.context.declared.len() {
-            text.put("pub mod $T\n", At::declaration(index));
+        for (index, one) in self.context.declared.iter().enumerate() {
+            if !matches!(one.body, Body::Table(_)) {
+                text.put("pub mod $T\n", At::declaration(index));
+            }
         }
         self.put("specs/Lib.antt", At::declaration(0), text)
     }
@@ -277,7 +265,7 @@ fn in_order(alloc: Global, keys: &[Vec<u8>]) -> Result<Vec<usize>, AllocError> {
 // The indices of modules, by their names.
 fn modules_of(context: &Context<'_>) -> Result<Vec<usize>, AllocError> {
     let mut names = Vec::new(context.alloc);
-    for index in 0..=context.names.places.len() {
+    for index in 0..context.names.places.len() {
         names.push(Vec::from_slice(context.alloc, context.names.module(index))?)?;
     }
     in_order(context.alloc, &names)

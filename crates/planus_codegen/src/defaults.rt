@@ -16,6 +16,15 @@ pub(crate) fn default_number(field: &TableField) -> Number {
     }
 }
 
+/// Returns whether a field's default is the zero of its type.
+pub(crate) fn is_zero(field: &TableField) -> bool {
+    match (field.kind.base, &field.default) {
+        (Base::Scalar(_), None) => true,
+        (Base::Scalar(_), Some(Value::Integer(number))) => number.magnitude == 0,
+        _ => false,
+    }
+}
+
 fn place_of(one: &Enum, number: Number) -> usize {
     for (place, value) in one.values.iter().enumerate() {
         if value.number == number {

@@ -7,7 +7,7 @@
 //! `j` the type of its numbers in definitions and `q` the test of two of them; of a struct `y` the
 //! padding at its end.
 //!
-//! Of a member: `n` its name, `N` the same in capitals, `s` as the schema has it, `p` its place; of
+//! Of a member: `n` its name, `N` the same in capitals, `V` in small letters, `s` as the schema has it, `p` its place; of
 //! a value of an enum `i` its number in code and `k` in definitions; of a field `t` the type of its
 //! value and `h` the name of its shape; of a field of a struct `z` its size and `d` its distance in
 //! bytes, `x` the padding before it, `w` the distance after a colon, if it isn't the first, `f` its
@@ -176,6 +176,12 @@ impl<'a> Printer<'a> {
         }
     }
 
+    fn put_small(&mut self, name: &[u8]) {
+        for letter in name {
+            self.put_char(letter.to_ascii_lowercase() as char);
+        }
+    }
+
     // The name of a field as a record has it.
     fn put_record_name(&mut self, name: &[u8]) {
         let escaped = is_escaped(name);
@@ -294,6 +300,7 @@ impl<'a> Printer<'a> {
             }
             'f' => self.put_record_name(names.member(at.index, at.place)),
             'N' => self.put_capitals(names.member(at.index, at.place)),
+            'V' => self.put_small(names.member(at.index, at.place)),
             's' => self.put_name(context.said(at)),
             'i' | 'l' => self.put_integer(integer(context, at)),
             'k' => self.put_counted(integer(context, at), context.is_signed_enum(at.index)),

@@ -4,86 +4,22 @@ use crate::at::At;
 use crate::printer::Printer;
 use crate::words::Words;
 
-/// The names that clauses may need, by their modules.
-const IN_CLAUSES: [(&str, &str); 17] = [
-    (
-        "std.specs.Prelude",
-        "◌≡◌ ◌≤◌ ◌==◌ ◌↔◌ length codes pos negsuc true false bit_and bit_or IfOk IsOkAnd IsTrue MatchOption ⊤ Some None []",
-    ),
-    ("std.specs.Borrow", "sem"),
-    (
-        "planus.specs.read.Shapes",
-        "u8_shape u16_shape u32_shape u64_shape i8_shape i16_shape i32_shape i64_shape bool_shape f32_shape f64_shape",
-    ),
-    ("planus.specs.read.Bytes", "BytesStand"),
-    ("planus.specs.read.SizePrefixed", "IsPrefixed"),
-    (
-        "planus.specs.write.Finishing",
-        "FinishGives SizedFinishGives EndsAs FinishLeaves SizedFinishLeaves",
-    ),
-    ("planus.specs.write.InBuilder", "IsIn AllIn AllUnionsIn"),
-    ("planus.specs.write.Preparing", "IsPrepared"),
-    ("planus.specs.write.State", "Grows"),
-    (
-        "planus.specs.Accessors",
-        "IsPlainVector IsPlainVectorRequired IsPlainRequired IsTextField IsTextRequired IsBytesField IsBytesRequired IsTextVector IsTextVectorRequired IsTableField IsTableRequired IsTableVector IsTableVectorRequired",
-    ),
-    ("planus.specs.Contents", "WritesContents"),
-    ("planus.specs.ReadPlain", "IsPlainField IsPlainFieldOr"),
-    ("planus.specs.Roots", "IsRoot"),
-    (
-        "planus.specs.UnionAccessors",
-        "IsUnionField IsUnionRequired IsUnionVector IsUnionVectorRequired",
-    ),
-    ("planus.specs.Unions", "ReadsVariants"),
-    ("planus_laws.specs.FieldLines", "contents_of ReadsBack"),
-    ("planus_laws.specs.SizedRoots", "IsSizedRoot"),
-];
+/// Where the library passes on the words of clauses and definitions, and these words.
+const PASSED_ON: &str = "planus_laws.specs.Printed";
 
-/// The names that definitions may need, by their modules.
-const IN_DEFINITIONS: [(&str, &str); 13] = [
-    (
-        "std.specs.Prelude",
-        "ℕ ℤ ◌==◌ Bool true false pos negsuc nat_eq List [] ◌∷◌ Option Some None",
-    ),
-    ("std.specs.Int", "w8 w16 w32 w64"),
-    ("std.specs.Ordering", "int_eq"),
-    ("std.proofs.Common", "refl lit≤ lit<"),
-    ("planus.specs.read.declared.table_reader.Table", "Table"),
-    (
-        "planus.specs.read.Enums",
-        "Numbered u8_enum u16_enum u32_enum u64_enum i8_enum i16_enum i32_enum i64_enum",
-    ),
-    ("planus.specs.read.Plain", "Shape"),
-    (
-        "planus.specs.read.Shapes",
-        "u8_shape u16_shape u32_shape u64_shape i8_shape i16_shape i32_shape i64_shape bool_shape f32_shape f64_shape",
-    ),
-    (
-        "planus.specs.read.Structs",
-        "field force_align no_more struct_layout struct_shape",
-    ),
-    (
-        "planus.specs.Accessors",
-        "plain_kind text_kind bytes_kind table_kind",
-    ),
-    ("planus.specs.Unions", "UnionVariant table_variant"),
-    (
-        "planus_laws.specs.FieldLines",
-        "FieldLine plains judged texts tables",
-    ),
-    (
-        "planus_laws.specs.FieldLines.FieldLine",
-        "optional required plain_if plain_or number_or signed_or union union_required unions unions_required",
-    ),
-];
+const WORDS: &str =
+    "◌≡◌ ◌≤◌ ◌==◌ ◌↔◌ ◌∷◌ [] ℕ ℤ Bool List Option length codes pos negsuc nat_eq true false bit_and bit_or IfOk IsOkAnd IsTrue MatchOption ⊤ Some None sem w8 w16 w32 w64 int_eq Table BytesStand Numbered u8_enum u16_enum u32_enum u64_enum i8_enum i16_enum i32_enum i64_enum Shape u8_shape u16_shape u32_shape u64_shape i8_shape i16_shape i32_shape i64_shape bool_shape f32_shape f64_shape IsPrefixed field force_align no_more struct_layout struct_shape FinishGives SizedFinishGives EndsAs FinishLeaves SizedFinishLeaves IsIn AllIn AllUnionsIn IsPrepared IsPlainVector IsPlainVectorRequired IsPlainRequired IsTextField IsTextRequired IsBytesField IsBytesRequired IsTextVector IsTextVectorRequired IsTableField IsTableRequired IsTableVector IsTableVectorRequired plain_kind text_kind bytes_kind table_kind IsPlainField IsPlainFieldOr IsRoot IsUnionField IsUnionRequired IsUnionVector IsUnionVectorRequired ReadsVariants UnionVariant table_variant plains judged texts tables optional required plain_if plain_or number_or signed_or union union_required unions unions_required IsSizedRoot";
+
+/// Where definitions have the words of their proofs, and these words.
+const OF_PROOFS: &str = "std.proofs.Common";
+
+const PROOF_WORDS: &str = "refl lit≤ lit<";
 
 /// The columns of names that are imported from one module in one line.
 const NAME_COLUMNS: usize = 80;
 
 /// The words behind a module's name that name a definition, and its import.
-const OWN_DEFINITIONS: [(&str, &str); 6] = [
-    ("_lines", " Rattle.$c.specs.$T.{$M_lines}"),
+const OWN_DEFINITIONS: [(&str, &str); 5] = [
     ("_variants", " Rattle.$c.specs.$T.{$M_variants}"),
     ("_is", " Rattle.$c.specs.$T.{$M_is}"),
     ("_shape", " Rattle.$c.specs.$T.{$M_shape}"),
@@ -185,9 +121,7 @@ impl<'a> Printer<'a> {
             end: ";\n",
             own: None,
         };
-        for (path, names) in IN_CLAUSES {
-            self.put_row(imports, path, names);
-        }
+        self.put_row(imports, PASSED_ON, WORDS);
         for index in order {
             self.put_owns(imports, *index);
         }
@@ -201,12 +135,8 @@ impl<'a> Printer<'a> {
             end: "\n",
             own: Some(own),
         };
-        for (path, names) in IN_DEFINITIONS {
-            self.put_row(imports, path, names);
-        }
-        if words.has(&[], "Float") {
-            self.put_str("use lib.Ieee.{Float}\n");
-        }
+        self.put_row(imports, PASSED_ON, WORDS);
+        self.put_row(imports, OF_PROOFS, PROOF_WORDS);
         for index in order {
             self.put_owns(imports, *index);
         }

@@ -12,7 +12,7 @@ const ESCAPED: &str = "axiom infix infixl infixr mutual open unfold";
 
 /// Names of types that code has anyway, and of a file of definitions.
 const KNOWN_TYPES: &str =
-    "Bool BuildError Builder ByteList Clone Copy Debug Default Drop Err ErrorKind FieldLine Float Lib List None Numbered Offset Ok Option OrDefault PartialEq Plain PlainField PlainTotal Result Shape SliceWithStartOffset Some Stride String Table TableKind TableReadUnion TableView TableWriter Text Type UnionOffset UnionVariant UnionVector Unit Vec Vector VectorReadUnion";
+    "Bool BuildError Builder Built ByteList Clone Copy Create Debug Default Drop Err ErrorKind FieldLine Float Lib List None Numbered Offset Ok Option OrDefault PartialEq Plain PlainField PlainTotal Result Shape SliceWithStartOffset Some Stride String Table TableKind TableReadUnion TableView TableWriter Text Type UnionOffset UnionVariant UnionVector Unit Vec Vector VectorReadUnion";
 
 /// Names of what a crate has beside its modules.
 const KNOWN_MODULES: &str =

@@ -13,11 +13,15 @@ pub(crate) const ARGUMENT: char = '\u{2}';
 /// Stands in printed text before a name that no import brings.
 pub(crate) const OWN: char = '\u{3}';
 
+/// Stands in printed text where a line must end and goes on.
+pub(crate) const END: char = '\u{4}';
+
 /// A text to which more is added until memory is refused, and which then says so.
 ///
 /// What is added is a template: in it `$` and a letter stand for what the letter means where the
 /// template is filled (`holes.rt` has the letters), `~` for a blank where the line may end, `^` for
-/// where a call may be broken, and `%` stands before a name that no import brings.
+/// where a call may be broken, `%` stands before a name that no import brings, and `@` where a line
+/// ends and goes on.
 #[derive(Drop)]
 pub(crate) struct Printer<'a> {
     pub(crate) context: &'a Context<'a>,
@@ -30,6 +34,7 @@ fn letter_of(letter: char) -> char {
         '~' => BREAK,
         '^' => ARGUMENT,
         '%' => OWN,
+        '@' => END,
         letter => letter,
     }
 }

@@ -104,13 +104,16 @@ impl<'a> Printer<'a> {
         let mut path = Printer::new(self.context);
         path.put_str("use planus::");
         self.put_use(&path, &names);
-        for name in ["finish_and_read", "read_sized_root"] {
+        let mut laws = Printer::new(self.context);
+        for name in ["Built", "Create", "read_sized_root"] {
             if words.has(&[], name) {
-                self.put_str("use planus_laws::");
-                self.put_str(name);
-                self.put_str(";\n");
+                laws.put_comma();
+                laws.put_str(name);
             }
         }
+        let mut path = Printer::new(self.context);
+        path.put_str("use planus_laws::");
+        self.put_use(&path, &laws);
     }
 
     /// Adds the imports of code.

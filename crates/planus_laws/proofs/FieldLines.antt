@@ -11,10 +11,13 @@ use Rattle.planus.specs.write.Past.{Past}
 use Rattle.planus.specs.write.State.{State, IsPast}
 use Rattle.planus.specs.read.declared.located.Error.{Error}
 use Rattle.planus.specs.Contents.{WritesContents}
-use Rattle.planus.specs.Holds.{as_signed}
+use Rattle.planus.specs.read.Plain.{Shape}
+use Rattle.planus.specs.fields.Contents.{unless}
+use Rattle.planus.specs.Holds.{as_signed, holds_plain}
+use Rattle.planus.specs.ReadPlain.{IsPlainFieldOr}
 use Rattle.planus.specs.ReadBack.{SlotHolds, TableHolds, content_at, is_other, are_apart}
 use Rattle.planus_laws.specs.FieldLines.{FieldLine, holds_first, holds_last, all_first, all_last}
-use Rattle.planus_laws.specs.FieldLines.{contents_of, ReturnsGiven, AllReturnGiven}
+use Rattle.planus_laws.specs.FieldLines.{contents_of, Returns, ReturnsGiven, AllReturnGiven}
 use Rattle.planus_laws.specs.FieldLines.{KeptTablesStandIn, RootIsRead, ReadsBack}
 use Rattle.planus_laws.specs.FieldLines.FieldLine.{optional, required, plain_if, plain_or, number_or, signed_or, union, union_required, unions, unions_required}
 
@@ -66,6 +69,16 @@ module _ (B : List ℕ) (table : Table) where
   last_hold [] ys hold = hold
   last_hold (x ∷ xs) ys hold = last_hold xs ys hold.1
 
+  -- a value is read back, or its default where it was left out
+  or_back : {T : Type 0} {size alignment : ℕ} (shape : Shape T size alignment) (slot : ℕ)
+      (default given : T) (left_out : Bool)
+      → SlotHolds B table slot (unless left_out (holds_plain shape given)) → shape.fits given
+      → Returns (IsPlainFieldOr shape default table slot)
+      (λ r. r ≡ Ok (if left_out then default else given))
+  or_back shape slot default given true holds fits = λ type_ method r is. is.left_out B holds
+  or_back shape slot default given false holds fits =
+      λ type_ method r is. is.read_back B given holds fits
+
   given_back : (line : FieldLine) → AllHold (holds_first line) → AllHold (holds_last line)
       → ReturnsGiven B table line
   given_back (optional kind slot given) first last =
@@ -74,10 +87,8 @@ module _ (B : List ℕ) (table : Table) where
       λ may type_ method r is. is.read_back B (kind.part given) first.0 may
   given_back (plain_if shape slot given) first last =
       λ fits type_ method r is. is.read_back B given first.0 fits
-  given_back (plain_or shape slot default given true) first last =
-      λ fits type_ method r is. is.left_out B first.0
-  given_back (plain_or shape slot default given false) first last =
-      λ fits type_ method r is. is.read_back B given first.0 fits
+  given_back (plain_or shape equal slot default given) first last =
+      or_back shape slot default given (equal given default) first.0
   given_back (number_or shape slot default given) first last =
       λ fits type_ method r is. is.read_back_unless B given (given == default) first.0
       (λ same. eqb-true given default same) fits

@@ -62,13 +62,14 @@ abbrev pub tables :
 tables K = tables_kind K
 
 -- A field by its kind and slot, and what was given for it. One with a default is left out where it
--- is usual.
+-- equals the default, by the equality of its type.
 pub data FieldLine : Type 1 where
   optional : {X G T : Type 0} → FieldKind X G T → ℕ → Option G → FieldLine
   required : {X G T : Type 0} → FieldKind X G T → ℕ → G → FieldLine
   plain_if : {T : Type 0} {size alignment : ℕ} → Shape T size alignment → ℕ → Option T → FieldLine
   plain_or :
-      {T : Type 0} {size alignment : ℕ} → Shape T size alignment → ℕ → T → T → Bool → FieldLine
+      {T : Type 0} {size alignment : ℕ} → Shape T size alignment → (T → T → Bool) → ℕ → T → T
+      → FieldLine
   number_or : {size alignment : ℕ} → Shape ℕ size alignment → ℕ → ℕ → ℕ → FieldLine
   signed_or : {size alignment : ℕ} → Shape ℤ size alignment → Width → ℕ → ℤ → ℤ → FieldLine
   union : {K U : Type 0} → List (UnionVariant U) → ℕ → Option (UnionOffset K) → FieldLine
@@ -82,8 +83,8 @@ holds_first (optional kind slot given) =
     (slot, holds_if (λ one. Some (kind.content (kind.part one))) given) ∷ []
 holds_first (required kind slot given) = (slot, Some (kind.content (kind.part given))) ∷ []
 holds_first (plain_if shape slot given) = (slot, holds_if (holds_plain shape) given) ∷ []
-holds_first (plain_or shape slot default given usual) =
-    (slot, unless usual (holds_plain shape given)) ∷ []
+holds_first (plain_or shape equal slot default given) =
+    (slot, unless (equal given default) (holds_plain shape given)) ∷ []
 holds_first (number_or shape slot default given) =
     (slot, unless (given == default) (holds_plain shape given)) ∷ []
 holds_first (signed_or shape width slot default given) =
@@ -133,10 +134,10 @@ ReturnsGiven B table (required kind slot given) =
 ReturnsGiven B table (plain_if shape slot given) =
     MatchOption given ⊤ shape.fits
     → Returns (IsPlainField shape table slot) (λ r. r ≡ Ok given)
-ReturnsGiven B table (plain_or shape slot default given usual) =
+ReturnsGiven B table (plain_or shape equal slot default given) =
     shape.fits given
     → Returns (IsPlainFieldOr shape default table slot)
-    (λ r. r ≡ Ok (if usual then default else given))
+    (λ r. r ≡ Ok (if equal given default then default else given))
 ReturnsGiven B table (number_or shape slot default given) =
     shape.fits given → Returns (IsPlainFieldOr shape default table slot) (λ r. r ≡ Ok given)
 ReturnsGiven B table (signed_or shape width slot default given) =

@@ -1,2 +1,3 @@
 pub mod FieldLines
 pub mod SizedRoots
+pub mod Printed

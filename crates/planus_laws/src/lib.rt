@@ -2,8 +2,10 @@
 //! given for its field.
 #![tactic(auto)]
 
+mod create;
 mod finished;
 mod sized_roots;
 
+pub use create::{Built, Create};
 pub use finished::finish_and_read;
 pub use sized_roots::read_sized_root;

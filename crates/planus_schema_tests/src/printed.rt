@@ -4,11 +4,11 @@ ghost use Rattle.std.specs.Prelude.{◌≡◌, None, []};
 
 use crate::digits::bytes_of;
 use harbour::{
-    Company, CompanyFields, Fix, Kind, Level, Needs, OwnerRef, Person, PersonFields, Pos, Ship,
-    ShipFields, ShipRef, finish_root, finish_root_size_prefixed, has_identifier, read_as_root,
+    Company, CompanyFields, Create, Fix, Kind, Level, Needs, Owner, OwnerRef, Person, PersonFields,
+    PersonRef, Pos, Ship, ShipFields, ShipRef, finish_root, finish_root_size_prefixed, has_identifier, read_as_root,
     read_size_prefixed_as_root,
 };
-use planus::{BuildError, Builder, ByteList, UnionOffset, table_item, union_item};
+use planus::{BuildError, Builder, ByteList, table_item, union_item};
 use std::alloc::Global;
 
 /// By flatc 2.0.8 of `harbour.fbs`: a ship with the values of `writes_anna`, its tables too.
@@ -194,11 +194,8 @@ fn writes_anna(builder: &mut Builder) -> std::result::Result<bool, BuildError> {
         mate: Some(mate),
         consorts: Some(&[consort]),
         kinds: Some(&[Kind::Ship, Kind::Car]),
-        owner: Some(UnionOffset::new(2, line.downcast())),
-        shares: &[
-            UnionOffset::new(1, pia.downcast()),
-            UnionOffset::new(2, line.downcast()),
-        ],
+        owner: Some(Owner::from_firm(line)),
+        shares: &[Owner::from_person(pia), Owner::from_firm(line)],
         tall: -9_000_000_000,
         temps: Some(&[1.5, -0.5]),
         deltas: Some(&[-128, 127]),
@@ -218,7 +215,10 @@ fn reads_pia_back(builder: &mut Builder) -> bool {
         name: "Pia",
         age: 44,
     };
-    matches!(Person::read_back(builder, pia), Ok(Ok(pia)) if matches!(pia.age(), Ok(44)))
+    matches!(
+        Person::read_back::<PersonRef<'_>>(builder, pia),
+        Ok(Ok(pia)) if matches!(pia.age(), Ok(44))
+    )
 }
 
 fn in_builder(alloc: Global) -> bool {
