@@ -1,8 +1,7 @@
 -- The layout of `Fix`.
+use Rattle.planus_laws.specs.Printed.{Shape, u64_shape, field, no_more, struct_layout}
+use Rattle.planus_laws.specs.Printed.{struct_shape}
 use Rattle.std.proofs.Common.{refl, lit≤, lit<}
-use Rattle.planus.specs.read.Plain.{Shape}
-use Rattle.planus.specs.read.Shapes.{u64_shape}
-use Rattle.planus.specs.read.Structs.{field, no_more, struct_layout, struct_shape}
 use Rattle.harbour.specs.declared.fix.Fix.{Fix}
 use Rattle.harbour.specs.Kind.{kind_shape}
 use Rattle.harbour.specs.Pos.{pos_shape}

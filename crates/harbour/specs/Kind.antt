@@ -1,8 +1,6 @@
 -- The numbers of `Kind`.
-use Rattle.std.specs.Prelude.{ℕ, nat_eq, List, [], ◌∷◌}
+use Rattle.planus_laws.specs.Printed.{◌∷◌, [], ℕ, List, nat_eq, Numbered, u8_enum, Shape}
 use Rattle.std.proofs.Common.{refl}
-use Rattle.planus.specs.read.Enums.{Numbered, u8_enum}
-use Rattle.planus.specs.read.Plain.{Shape}
 use Rattle.harbour.specs.declared.kind.Kind.TheVariants as kind_value
 use Rattle.harbour.specs.declared.kind.Kind.{Kind}
 

@@ -3,7 +3,4 @@ pub mod Level
 pub mod Needs
 pub mod Pos
 pub mod Fix
-pub mod Person
-pub mod Company
 pub mod Owner
-pub mod Ship

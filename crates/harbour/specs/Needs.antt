@@ -1,8 +1,7 @@
 -- The layout of `Needs`.
+use Rattle.planus_laws.specs.Printed.{Shape, u16_shape, field, no_more, struct_layout}
+use Rattle.planus_laws.specs.Printed.{struct_shape}
 use Rattle.std.proofs.Common.{refl, lit≤, lit<}
-use Rattle.planus.specs.read.Plain.{Shape}
-use Rattle.planus.specs.read.Shapes.{u16_shape}
-use Rattle.planus.specs.read.Structs.{field, no_more, struct_layout, struct_shape}
 use Rattle.harbour.specs.declared.needs.Needs.{Needs}
 
 abbrev pub needs_shape : Shape Needs 2 2

@@ -1,7 +1,6 @@
 -- The variants of `Owner`.
-use Rattle.std.specs.Prelude.{List, [], ◌∷◌, Option, Some, None}
-use Rattle.planus.specs.read.declared.table_reader.Table.{Table}
-use Rattle.planus.specs.Unions.{UnionVariant, table_variant}
+use Rattle.planus_laws.specs.Printed.{◌∷◌, [], List, Option, Some, None, Table}
+use Rattle.planus_laws.specs.Printed.{UnionVariant, table_variant}
 use Rattle.harbour.specs.declared.owner.OwnerRef.TheVariants as owner_ref
 use Rattle.harbour.specs.declared.owner.OwnerRef.{OwnerRef}
 

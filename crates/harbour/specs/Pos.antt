@@ -1,8 +1,7 @@
 -- The layout of `Pos`.
+use Rattle.planus_laws.specs.Printed.{Shape, i16_shape, i32_shape, field, no_more}
+use Rattle.planus_laws.specs.Printed.{struct_layout, struct_shape}
 use Rattle.std.proofs.Common.{refl, lit≤, lit<}
-use Rattle.planus.specs.read.Plain.{Shape}
-use Rattle.planus.specs.read.Shapes.{i16_shape, i32_shape}
-use Rattle.planus.specs.read.Structs.{field, no_more, struct_layout, struct_shape}
 use Rattle.harbour.specs.declared.pos.Pos.{Pos}
 
 abbrev pub pos_shape : Shape Pos 12 4

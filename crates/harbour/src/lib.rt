@@ -18,6 +18,7 @@ pub use level::Level;
 pub use needs::Needs;
 pub use owner::{Owner, OwnerRef};
 pub use person::{Person, PersonFields, PersonRef};
+pub use planus_laws::Create;
 pub use pos::Pos;
 pub use ship::{Ship, ShipFields, ShipRef};
 

@@ -1,16 +1,35 @@
 //! Unions `Owner`.
 
-ghost use Rattle.std.specs.Prelude.{◌≡◌, codes};
-ghost use Rattle.planus.specs.Unions.{ReadsVariants};
+ghost use Rattle.planus_laws.specs.Printed.{◌≡◌, codes, ReadsVariants};
 ghost use Rattle.harbour.specs.Owner.{owner_variants};
 
-use crate::company::CompanyRef;
-use crate::person::PersonRef;
+use crate::company::{Company, CompanyRef};
+use crate::person::{Person, PersonRef};
 use planus::errors::ErrorKind;
-use planus::{SliceWithStartOffset, TableReadUnion, VectorReadUnion, read_view};
+use planus::{
+    Offset, SliceWithStartOffset, TableReadUnion, UnionOffset, VectorReadUnion, read_view,
+};
 
 /// The kind of one of some tables.
 pub struct Owner;
+
+impl Owner {
+    /// Returns the variant `Person` with the table at this offset.
+    pub fn from_person(table: Offset<Person>) -> UnionOffset<Owner>
+        ensures tag { result.tag ≡ 1 }
+        ensures offset { result.offset.distance ≡ table.distance }
+    {
+        UnionOffset::new(1, table.downcast())
+    }
+
+    /// Returns the variant `Firm` with the table at this offset.
+    pub fn from_firm(table: Offset<Company>) -> UnionOffset<Owner>
+        ensures tag { result.tag ≡ 2 }
+        ensures offset { result.offset.distance ≡ table.distance }
+    {
+        UnionOffset::new(2, table.downcast())
+    }
+}
 
 /// One in a buffer.
 #[derive(Clone, Copy)]

@@ -1,15 +1,9 @@
 //! The root of a buffer.
 
-ghost use Rattle.std.specs.Prelude.{◌↔◌, codes, IfOk, IsTrue, Some};
-ghost use Rattle.std.specs.Borrow.{sem};
-ghost use Rattle.planus.specs.read.Bytes.{BytesStand};
-ghost use Rattle.planus.specs.read.SizePrefixed.{IsPrefixed};
-ghost use Rattle.planus.specs.write.Finishing.{FinishGives, SizedFinishGives, EndsAs};
-ghost use Rattle.planus.specs.write.Finishing.{FinishLeaves, SizedFinishLeaves};
-ghost use Rattle.planus.specs.write.InBuilder.{IsIn};
-ghost use Rattle.planus.specs.write.Preparing.{IsPrepared};
-ghost use Rattle.planus.specs.Roots.{IsRoot};
-ghost use Rattle.planus_laws.specs.SizedRoots.{IsSizedRoot};
+ghost use Rattle.planus_laws.specs.Printed.{◌↔◌, codes, IfOk, IsTrue, Some, sem, BytesStand};
+ghost use Rattle.planus_laws.specs.Printed.{IsPrefixed, FinishGives, SizedFinishGives, EndsAs};
+ghost use Rattle.planus_laws.specs.Printed.{FinishLeaves, SizedFinishLeaves, IsIn, IsPrepared};
+ghost use Rattle.planus_laws.specs.Printed.{IsRoot, IsSizedRoot};
 ghost use Rattle.harbour.specs.declared.ship.Ship.{Ship};
 
 use crate::FILE_IDENTIFIER;

@@ -1,18 +1,16 @@
 //! Tables `Ship`.
 
-ghost use Rattle.std.specs.Prelude.{◌≡◌, ◌≤◌, length, codes, pos, negsuc, true, false, IfOk};
-ghost use Rattle.std.specs.Prelude.{IsOkAnd, MatchOption, ⊤};
-ghost use Rattle.planus.specs.read.Shapes.{u16_shape, i16_shape, i32_shape, i64_shape, bool_shape};
-ghost use Rattle.planus.specs.read.Shapes.{f32_shape};
-ghost use Rattle.planus.specs.write.InBuilder.{IsIn, AllIn, AllUnionsIn};
-ghost use Rattle.planus.specs.write.State.{Grows};
-ghost use Rattle.planus.specs.Accessors.{IsPlainVector, IsPlainRequired, IsTextRequired};
-ghost use Rattle.planus.specs.Accessors.{IsBytesField, IsTextVector, IsTableField, IsTableVector};
-ghost use Rattle.planus.specs.Contents.{WritesContents};
-ghost use Rattle.planus.specs.ReadPlain.{IsPlainField, IsPlainFieldOr};
-ghost use Rattle.planus.specs.UnionAccessors.{IsUnionField, IsUnionVector};
-ghost use Rattle.planus.specs.Unions.{ReadsVariants};
-ghost use Rattle.planus_laws.specs.FieldLines.{contents_of, ReadsBack};
+ghost use Rattle.planus_laws.specs.Printed.{◌∷◌, [], codes, pos, negsuc, true, false, MatchOption};
+ghost use Rattle.planus_laws.specs.Printed.{⊤, w16, w64, u16_shape, u32_shape, i8_shape};
+ghost use Rattle.planus_laws.specs.Printed.{i16_shape, i32_shape, i64_shape, bool_shape};
+ghost use Rattle.planus_laws.specs.Printed.{f32_shape, f64_shape, IsIn, AllIn, AllUnionsIn};
+ghost use Rattle.planus_laws.specs.Printed.{IsPlainVector, IsPlainRequired, IsTextRequired};
+ghost use Rattle.planus_laws.specs.Printed.{IsBytesField, IsTextVector, IsTableField};
+ghost use Rattle.planus_laws.specs.Printed.{IsTableVector, plain_kind, text_kind, bytes_kind};
+ghost use Rattle.planus_laws.specs.Printed.{table_kind, IsPlainField, IsPlainFieldOr};
+ghost use Rattle.planus_laws.specs.Printed.{IsUnionField, IsUnionVector, ReadsVariants, plains};
+ghost use Rattle.planus_laws.specs.Printed.{judged, texts, tables, optional, required, plain_if};
+ghost use Rattle.planus_laws.specs.Printed.{plain_or, number_or, signed_or, union, unions};
 ghost use Rattle.harbour.specs.Fix.{fix_shape};
 ghost use Rattle.harbour.specs.Kind.{kind_shape};
 ghost use Rattle.harbour.specs.declared.kind.Kind.TheVariants as kind_value;
@@ -21,9 +19,10 @@ ghost use Rattle.harbour.specs.declared.level.Level.TheVariants as level_value;
 ghost use Rattle.harbour.specs.Needs.{needs_shape};
 ghost use Rattle.harbour.specs.Owner.{owner_variants};
 ghost use Rattle.harbour.specs.declared.owner.Owner.{Owner};
+ghost use Rattle.harbour.specs.declared.owner.OwnerRef.{OwnerRef};
 ghost use Rattle.harbour.specs.Pos.{pos_shape};
-ghost use Rattle.harbour.specs.Ship.{ship_lines};
 ghost use Rattle.harbour.specs.declared.ship.Ship.{Ship};
+ghost use Rattle.harbour.specs.declared.ship.ShipRef.{ShipRef};
 
 use crate::fix::Fix;
 use crate::kind::Kind;
@@ -33,12 +32,12 @@ use crate::owner::{Owner, OwnerRef};
 use crate::pos::Pos;
 use planus::table_reader::Table;
 use planus::{
-    BuildError, Builder, ByteList, List, Offset, OrDefault, Result, TableKind, TableRef, TableView,
+    Builder, ByteList, List, Offset, OrDefault, Result, TableKind, TableRef, TableView,
     TableWriter, Text, UnionOffset, UnionVector, Vector, bytes_field, create_table, fields,
     plain_field, plain_field_or, plain_required, plain_vector, table_field, table_vector,
     text_required, text_vector, union_field, union_vector,
 };
-use planus_laws::finish_and_read;
+use planus_laws::{Built, Create};
 
 /// A ship in a harbour.
 pub struct Ship;
@@ -81,28 +80,45 @@ pub struct ShipFields<'a> {
     pub flags: Option<&'a [bool]>,
 }
 
-impl Ship {
-    /// Writes a table with these fields. One that equals its default is left out.
-    ///
-    /// [`BuildError::TooLarge`] and [`BuildError::OutOfMemory`] as of [`Builder::create_vector`].
-    pub fn create(
-        builder: &mut Builder,
-        fields: ShipFields<'_>,
-    ) -> std::result::Result<Offset<Ship>, BuildError>
-        requires mate { MatchOption fields.mate ⊤ (λ x. IsIn builder.old x) }
-        requires consorts { MatchOption fields.consorts ⊤ (λ x. AllIn builder.old x.now) }
-        requires owner { MatchOption fields.owner ⊤ (λ x. IsIn builder.old x.offset) }
-        requires shares { AllUnionsIn builder.old fields.shares.now }
-        ensures kept { IfOk result (λ offset. WritesContents (contents_of (ship_lines
-            (λ x. ⟦<Kind as PartialEq>⟧.eq x kind_value.Bike)
-            (λ x. ⟦<Level as PartialEq>⟧.eq x level_value.Mid)
-            (λ x. ⟦<Needs as PartialEq>⟧.eq x DEFAULT_NEEDS)
-            (λ x. ⟦<f32 as PartialEq>⟧.eq x DEFAULT_HEAT) (λ x. ⟦<bool as PartialEq>⟧.eq x true)
-            (λ x. ⟦<bool as PartialEq>⟧.eq x false) fields.entry)) builder.old offset.distance
-            builder.new) }
-        ensures reached { IfOk result (λ offset. offset.distance ≤ length builder.new.bytes) }
-        ensures grows { Grows builder.old builder.new }
-    {
+impl<'a> Create<ShipFields<'a>> for Ship {
+    ghost use Rattle.harbour.specs.declared.ship.TheConstants.{DEFAULT_NEEDS};
+    ghost use Rattle.harbour.specs.declared.ship.TheConstants.{DEFAULT_HEAT};
+
+    ghost lines = { λ fields.
+        signed_or i64_shape w64 23 (pos 0) fields.tall ∷
+        required (plain_kind fix_shape) 26 fields.fix ∷
+        required text_kind 0 fields.name ∷
+        optional (plains u32_shape) 2 fields.cargo ∷
+        plain_if pos_shape 6 fields.home ∷
+        optional (plains pos_shape) 7 fields.track ∷
+        plain_or f32_shape ⟦<f32 as PartialEq>⟧.eq 8 DEFAULT_HEAT fields.heat ∷
+        plain_if i32_shape 12 fields.maybe ∷
+        optional bytes_kind 13 fields.photo ∷
+        optional texts 14 fields.names ∷
+        optional (table_kind Ship (λ (view : ShipRef). view.table)) 15 fields.mate ∷
+        optional (tables Ship) 16 fields.consorts ∷
+        optional (judged kind_shape) 17 fields.kinds ∷
+        union owner_variants 18 fields.owner ∷
+        unions OwnerRef 20 fields.shares ∷
+        optional (plains f64_shape) 24 fields.temps ∷
+        optional (plains i8_shape) 25 fields.deltas ∷
+        optional (plains bool_shape) 28 fields.flags ∷
+        number_or u16_shape 1 100 fields.hull ∷
+        plain_or level_shape ⟦<Level as PartialEq>⟧.eq 4 level_value.Mid fields.level ∷
+        plain_or needs_shape ⟦<Needs as PartialEq>⟧.eq 5 DEFAULT_NEEDS fields.needs ∷
+        signed_or i16_shape w16 9 (negsuc 4) fields.depth ∷
+        plain_or kind_shape ⟦<Kind as PartialEq>⟧.eq 3 kind_value.Bike fields.kind ∷
+        plain_or bool_shape ⟦<bool as PartialEq>⟧.eq 10 true fields.open ∷
+        plain_or bool_shape ⟦<bool as PartialEq>⟧.eq 11 false fields.shut ∷
+        plain_if kind_shape 27 fields.which ∷
+        [] };
+
+    ghost may = { λ fields builder. MatchOption fields.mate ⊤ (λ x. IsIn builder x) ×
+        MatchOption fields.consorts ⊤ (λ x. AllIn builder x.now) ×
+        MatchOption fields.owner ⊤ (λ x. IsIn builder x.offset) ×
+        AllUnionsIn builder fields.shares.now };
+
+    fn create(builder: &mut Builder, fields: ShipFields<'a>) -> Built<Ship> {
         let lines = fields![
             23: i64 = OrDefault { value: fields.tall, default: 0 },
             26: Fix = fields.fix,
@@ -132,28 +148,6 @@ impl Ship {
             27: Kind = fields.which,
         ];
         create_table::<Ship, _>(builder, lines)
-    }
-
-    /// Writes a table with these fields as the root of a buffer, and reads it: each method of the
-    /// view returns what was given.
-    pub fn read_back<'b>(
-        builder: &'b mut Builder,
-        fields: ShipFields<'_>,
-    ) -> std::result::Result<Result<ShipRef<'b>>, BuildError>
-        requires mate { MatchOption fields.mate ⊤ (λ x. IsIn builder.old x) }
-        requires consorts { MatchOption fields.consorts ⊤ (λ x. AllIn builder.old x.now) }
-        requires owner { MatchOption fields.owner ⊤ (λ x. IsIn builder.old x.offset) }
-        requires shares { AllUnionsIn builder.old fields.shares.now }
-        ensures { IfOk result (λ read. IsOkAnd read (λ view. ReadsBack builder.old (ship_lines
-            (λ x. ⟦<Kind as PartialEq>⟧.eq x kind_value.Bike)
-            (λ x. ⟦<Level as PartialEq>⟧.eq x level_value.Mid)
-            (λ x. ⟦<Needs as PartialEq>⟧.eq x DEFAULT_NEEDS)
-            (λ x. ⟦<f32 as PartialEq>⟧.eq x DEFAULT_HEAT) (λ x. ⟦<bool as PartialEq>⟧.eq x true)
-            (λ x. ⟦<bool as PartialEq>⟧.eq x false) fields.entry) view.table)) }
-    {
-        builder.has_a_past();
-        let root = Ship::create(builder, fields)?;
-        finish_and_read(builder, root, None)
     }
 }
 
@@ -373,9 +367,7 @@ impl TableKind for Ship {
 
     ghost name = { codes "[ShipRef]" };
 
-    fn name() -> &'static str
-        ensures { result.now ≡ codes "[ShipRef]" }
-    {
+    fn name() -> &'static str {
         "[ShipRef]"
     }
 }

@@ -18,7 +18,7 @@ const READ: &str =
 const ARM: &str = "            $g => Ok($TRef::$n(read_view(buffer, offset)?)),\n";
 
 const VECTOR: &str =
-    "            _ => Err(ErrorKind::UnknownUnionTag { tag }),\n        }\n    }\n}\n\nimpl<'a> VectorReadUnion<'a> for $TRef<'a> {\n    ghost name = { codes \"[$T]\" };\n\n    fn vector_name() -> &'static str {\n        \"[$T]\"\n    }\n}\n";
+    "            _ => Err(ErrorKind::UnknownUnionTag { tag }),\n        }\n    }\n}\n\nimpl<'a> VectorReadUnion<'a> for $TRef<'a> {\n    ghost name = { codes \"[$T]\" };\n\n    fn vector_name() -> &'static str\n        ensures {~result.now ≡~codes \"[$T]\" }\n    {\n        \"[$T]\"\n    }\n}\n";
 
 const ONLY: &str =
     "abbrev pub $M_$g : $TRef → Option Table\n$M_$g ($M_ref.$n view) = Some view.table\n\n";
