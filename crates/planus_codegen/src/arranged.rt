@@ -3,7 +3,6 @@
 use crate::printer::{ARGUMENT, BREAK, END, OWN};
 use std::alloc::{AllocError, Global};
 
-/// The columns of a line.
 const COLUMNS: usize = 100;
 
 /// The columns of a line that goes on.
@@ -14,25 +13,23 @@ const ARGUMENT_COLUMNS: usize = 60;
 
 const FIELD_COLUMNS: usize = 18;
 
-/// Text of which each line ends where it must.
 #[derive(Drop)]
 struct Arrangement {
     text: String,
     /// The letters since the last place where the line may end.
     word: String,
-    /// The columns of the last line of the text, and those of the word.
+    /// Of the last line of the text, and of the word.
     column: usize,
     width: usize,
-    /// Whether a blank or the end of a line stands before the word.
+    /// Whether a blank or a line's end is before the word.
     apart: bool,
-    /// The blanks that the line begins with, and whether it is a ghost item or a clause.
+    /// The blanks that the line begins with.
     indent: usize,
     is_ghost: bool,
 }
 
-/// What a line has: its columns without marks, those of the arguments of a call or of the fields of
-/// a struct, how many marks of these there are, and whether they are of a struct, or of a record of
-/// definitions.
+/// The columns of a line without marks, those of a call's arguments or a struct's fields, and how
+/// many of these there are.
 #[derive(Clone, Copy)]
 struct Measure {
     columns: usize,
@@ -79,8 +76,8 @@ fn measure_of(line: &str) -> Measure {
     measure
 }
 
-/// Returns the blanks of a line that goes on with one of so many: 4 more, but as many where they
-/// are 4, in lists of names and in definitions.
+/// Returns the blanks of a continued line: 4 more, but in lists of names and in definitions as
+/// many.
 fn going_on(indent: usize, is_ghost: bool) -> usize {
     if indent == 4 && !is_ghost {
         4
@@ -90,7 +87,7 @@ fn going_on(indent: usize, is_ghost: bool) -> usize {
 }
 
 impl Measure {
-    /// Whether each argument or field stands on a line of its own.
+    /// Whether each argument or field is on a line of its own.
     fn is_broken(self) -> bool {
         let most = match (self.record, self.fields) {
             (true, _) => COLUMNS,
@@ -111,7 +108,6 @@ impl Arrangement {
         Ok(())
     }
 
-    // Adds the word, on a new line where the last is full.
     fn put_word(&mut self) -> Result<(), AllocError> {
         let wanted = self.width.saturating_add(1);
         if self.apart && self.column.saturating_add(wanted) > WORD_COLUMNS {
@@ -136,7 +132,6 @@ impl Arrangement {
         Ok(())
     }
 
-    // Adds what stands before an argument of a call, or after the last one.
     fn put_mark(&mut self, mark: usize, measure: Measure) -> Result<(), AllocError> {
         let last = mark.saturating_add(1) == measure.marks;
         if measure.is_broken() {
@@ -189,7 +184,7 @@ impl Arrangement {
     }
 }
 
-/// Returns printed text with its lines ended where they must, and without marks.
+/// Returns printed text with its lines broken, and without marks.
 pub(crate) fn arranged(alloc: Global, printed: &str) -> Result<String, AllocError> {
     let mut out = Arrangement {
         text: String::new(alloc),

@@ -1,9 +1,6 @@
-//! What a template is filled with.
-
 use planus_plan::Line;
 
-/// What a template is filled with: a declaration by its index, and a member by its place among the
-/// declaration's.
+/// What a template is filled with: a declaration, and one of its members.
 #[derive(Clone, Copy)]
 pub(crate) struct At {
     pub(crate) index: usize,
@@ -11,12 +8,10 @@ pub(crate) struct At {
 }
 
 impl At {
-    /// The declaration of this index.
     pub(crate) fn declaration(index: usize) -> At {
         At { index, place: 0 }
     }
 
-    /// The field of a line of a table's plan.
     pub(crate) fn line(line: &Line<'_>) -> At {
         At {
             index: line.table,
@@ -24,7 +19,6 @@ impl At {
         }
     }
 
-    /// A member of the same declaration.
     pub(crate) fn member(self, place: usize) -> At {
         At {
             index: self.index,

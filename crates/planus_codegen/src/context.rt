@@ -6,16 +6,14 @@ use crate::refusal::Refusal;
 use planus_layout::{Base, Body, Declared, Scalar, Schema, TableField};
 use std::alloc::{AllocError, Global};
 
-/// A schema, the names that its declarations have in code, and what its types are.
+/// A schema, with names and facts of its types.
 #[derive(Drop)]
 pub(crate) struct Context<'a> {
     pub(crate) alloc: Global,
-    /// The name of the crate.
     pub(crate) crate_name: &'a str,
     pub(crate) declared: &'a [Declared],
-    /// The bytes of the file identifier.
+    /// Its bytes.
     pub(crate) identifier: Option<&'a [u8]>,
-    /// The index of the root's table.
     pub(crate) root: Option<usize>,
     pub(crate) names: Names,
     /// Whether a read of each can't fail once its bytes are there.
@@ -55,7 +53,7 @@ fn totals_of(alloc: Global, declared: &[Declared]) -> Result<Vec<bool>, AllocErr
     Ok(totals)
 }
 
-/// The name of a member as the schema has it, and its documentation.
+/// The name of a member in the schema, and its documentation.
 fn member_in(body: &Body, place: usize) -> Option<(&Vec<u8>, &Vec<Vec<u8>>)> {
     match body {
         Body::Table(one) => {
@@ -78,7 +76,6 @@ fn member_in(body: &Body, place: usize) -> Option<(&Vec<u8>, &Vec<Vec<u8>>)> {
 }
 
 impl<'a> Context<'a> {
-    /// Returns what is known of a schema.
     pub(crate) fn new(
         alloc: Global,
         schema: &'a Schema,
@@ -99,7 +96,6 @@ impl<'a> Context<'a> {
         })
     }
 
-    /// Returns what a declaration says.
     pub(crate) fn body(&self, index: usize) -> Option<&'a Body> {
         match self.declared.get(index) {
             Some(one) => Some(&one.body),
@@ -111,7 +107,6 @@ impl<'a> Context<'a> {
         member_in(self.body(at.index)?, at.place)
     }
 
-    /// Returns the name of a member as the schema has it.
     pub(crate) fn said(&self, at: At) -> &'a [u8] {
         match self.member(at) {
             Some((name, _)) => name.as_slice(),
@@ -119,7 +114,6 @@ impl<'a> Context<'a> {
         }
     }
 
-    /// Returns the documentation of a member.
     pub(crate) fn docs(&self, at: At) -> &'a [Vec<u8>] {
         match self.member(at) {
             Some((_, docs)) => docs.as_slice(),
@@ -127,7 +121,6 @@ impl<'a> Context<'a> {
         }
     }
 
-    /// Returns a field of a table.
     pub(crate) fn field(&self, at: At) -> Option<&'a TableField> {
         match self.body(at.index) {
             Some(Body::Table(one)) => one.fields.get(at.place),
@@ -135,7 +128,6 @@ impl<'a> Context<'a> {
         }
     }
 
-    /// Returns whether a declaration is of flags.
     pub(crate) fn is_flags(&self, index: usize) -> bool {
         match self.body(index) {
             Some(Body::Enum(one)) => one.flags,
@@ -143,7 +135,7 @@ impl<'a> Context<'a> {
         }
     }
 
-    /// Returns whether a declaration is an enum of numbers that may be negative.
+    /// Whether a declaration is an enum whose numbers may be negative.
     pub(crate) fn is_signed_enum(&self, index: usize) -> bool {
         match self.body(index) {
             Some(Body::Enum(one)) => is_signed(one.scalar),
@@ -151,7 +143,6 @@ impl<'a> Context<'a> {
         }
     }
 
-    /// Returns the scalar type of an enum.
     pub(crate) fn enum_scalar(&self, index: usize) -> &'static str {
         match self.body(index) {
             Some(Body::Enum(one)) => scalar_name(one.scalar),
@@ -159,18 +150,16 @@ impl<'a> Context<'a> {
         }
     }
 
-    /// Returns whether the read of a declared value can't fail once its bytes are there.
     pub(crate) fn is_total_declaration(&self, index: usize) -> bool {
         self.totals.get(index) == Some(&true)
     }
 
-    /// Returns whether the read of a value can't fail once its bytes are there.
+    /// Whether the read of a value can't fail once its bytes are there.
     pub(crate) fn is_total(&self, base: Base) -> bool {
         is_total_base(&self.totals, base)
     }
 }
 
-/// Returns the name of a scalar's type in code.
 pub(crate) fn scalar_name(scalar: Scalar) -> &'static str {
     match scalar {
         Scalar::Bool => "bool",
@@ -187,7 +176,6 @@ pub(crate) fn scalar_name(scalar: Scalar) -> &'static str {
     }
 }
 
-/// Returns whether the numbers of a scalar may be negative integers.
 pub(crate) fn is_signed(scalar: Scalar) -> bool {
     matches!(
         scalar,

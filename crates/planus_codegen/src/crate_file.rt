@@ -1,5 +1,3 @@
-//! The files of a crate.
-
 use crate::arranged::arranged;
 use crate::at::At;
 use crate::context::Context;
@@ -27,26 +25,25 @@ const LAWS: &str = "pub use planus_laws::Create;\n";
 
 const ROOT_ALONE: &str = "\npub use root::{read_as_root, read_size_prefixed_as_root};\n";
 
-/// A file: its path in the folder of the crate, and its text.
+/// A file: its path in the crate's folder, and its text.
 #[derive(Drop)]
 pub struct PrintedFile {
     pub path: String,
     pub text: String,
 }
 
-/// The files of a crate while they are printed.
 #[derive(Drop)]
 struct Files<'a> {
     context: &'a Context<'a>,
     /// The declarations by their modules' names.
     order: &'a [usize],
-    /// The indices of all modules, by the bytes of their names.
+    /// The indices of all modules by their names.
     modules: &'a [usize],
     files: Vec<PrintedFile>,
 }
 
 impl<'a> Files<'a> {
-    // Adds a file, whose path is a template.
+    // The path is a template.
     fn put(&mut self, path: &str, at: At, text: Printer<'_>) -> Result<(), AllocError> {
         let text = text.finish()?;
         let text = arranged(self.context.alloc, text.as_str())?;
@@ -57,7 +54,6 @@ impl<'a> Files<'a> {
         Ok(())
     }
 
-    // The imports of code.
     fn code_uses(&self, code: &Printer<'_>, own: usize) -> Result<Printer<'a>, AllocError> {
         let mut uses = Printer::new(self.context);
         let words = Words::of(self.context.alloc, code.as_str(), Part::Code)?;
@@ -65,7 +61,6 @@ impl<'a> Files<'a> {
         Ok(uses)
     }
 
-    // The imports of clauses.
     fn clause_uses(&self, code: &Printer<'_>) -> Result<Printer<'a>, AllocError> {
         let mut uses = Printer::new(self.context);
         let words = Words::of(self.context.alloc, code.as_str(), Part::Clauses)?;
@@ -73,8 +68,7 @@ impl<'a> Files<'a> {
         Ok(uses)
     }
 
-    // A file of code: its first line, its imports, and what is printed. `own` is the declaration
-    // whose types it has.
+    // `own` is the declaration whose types the file has.
     fn code_file(
         &self,
         head: &str,
@@ -93,13 +87,11 @@ impl<'a> Files<'a> {
         Ok(file)
     }
 
-    // Adds such a file of a declaration.
     fn put_code(&mut self, head: &str, at: At, code: &Printer<'_>) -> Result<(), AllocError> {
         let file = self.code_file(head, at, at.index, code)?;
         self.put("src/$M.rt", at, file)
     }
 
-    // Adds the file of the functions of a buffer's root.
     fn put_root(&mut self, root: usize) -> Result<(), AllocError> {
         let at = At::declaration(root);
         let code = print_root(self.context, at);
@@ -108,7 +100,6 @@ impl<'a> Files<'a> {
         self.put("src/root.rt", at, file)
     }
 
-    // Adds a file of definitions in the same way.
     fn put_definitions(
         &mut self,
         head: &str,
@@ -185,8 +176,8 @@ impl<'a> Files<'a> {
         text
     }
 
-    // Adds the modules in a namespace, and what is declared in it; outside of all also the trait by
-    // which tables are created.
+    // Adds the modules in a namespace, and its declarations; outside of all also the trait of
+    // tables.
     fn put_namespace(&self, text: &mut Printer<'_>, namespace: &[u8], template: &str) {
         let context = self.context;
         let mut uses = Printer::new(context);
@@ -207,7 +198,6 @@ impl<'a> Files<'a> {
         text.join_apart(&uses);
     }
 
-    // Adds the files of the namespaces' modules.
     fn put_namespaces(&mut self) -> Result<(), AllocError> {
         let context = self.context;
         for index in context.declared.len()..context.names.places.len() {
@@ -221,7 +211,6 @@ impl<'a> Files<'a> {
         Ok(())
     }
 
-    // Adds the root of the crate.
     fn put_library(&mut self) -> Result<(), AllocError> {
         let context = self.context;
         let mut text = Printer::new(context);
@@ -252,7 +241,6 @@ impl<'a> Files<'a> {
     }
 }
 
-// The places of keys, by these.
 fn in_order(alloc: Global, keys: &[Vec<u8>]) -> Result<Vec<usize>, AllocError> {
     let mut order = Vec::new(alloc);
     for index in 0..keys.len() {
@@ -262,7 +250,6 @@ fn in_order(alloc: Global, keys: &[Vec<u8>]) -> Result<Vec<usize>, AllocError> {
     Ok(order)
 }
 
-// The indices of modules, by their names.
 fn modules_of(context: &Context<'_>) -> Result<Vec<usize>, AllocError> {
     let mut names = Vec::new(context.alloc);
     for index in 0..context.names.places.len() {

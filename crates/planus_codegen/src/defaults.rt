@@ -1,11 +1,8 @@
-//! Defaults of fields, in code and in clauses.
-
 use crate::context::{Context, is_signed, scalar_name};
 use crate::printer::Printer;
 use crate::types::has_default;
 use planus_layout::{Base, Body, Enum, Number, Scalar, TableField, Value};
 
-/// The default of a field as an integer, 0 if it has none.
 pub(crate) fn default_number(field: &TableField) -> Number {
     match &field.default {
         Some(Value::Integer(number)) => *number,
@@ -16,7 +13,7 @@ pub(crate) fn default_number(field: &TableField) -> Number {
     }
 }
 
-/// Returns whether a field's default is the zero of its type.
+/// Whether a field's default is the zero of its type.
 pub(crate) fn is_zero(field: &TableField) -> bool {
     match (field.kind.base, &field.default) {
         (Base::Scalar(_), None) => true,
@@ -34,7 +31,6 @@ fn place_of(one: &Enum, number: Number) -> usize {
     one.values.len()
 }
 
-/// Returns the place of the value of an enum that is a field's default.
 pub(crate) fn default_place(context: &Context<'_>, index: usize, field: &TableField) -> usize {
     match context.body(index) {
         Some(Body::Enum(one)) => place_of(one, default_number(field)),
@@ -42,7 +38,6 @@ pub(crate) fn default_place(context: &Context<'_>, index: usize, field: &TableFi
     }
 }
 
-/// Returns whether a field's default has a constant.
 pub(crate) fn has_constant(context: &Context<'_>, field: &TableField) -> bool {
     has_default(field)
         && match field.kind.base {
@@ -52,7 +47,7 @@ pub(crate) fn has_constant(context: &Context<'_>, field: &TableField) -> bool {
         }
 }
 
-/// Returns whether a field's default is told by a test that the contents are given.
+/// Whether a field's default is told by its type's `==`.
 pub(crate) fn is_judged(field: &TableField) -> bool {
     has_default(field)
         && match field.kind.base {
@@ -62,7 +57,6 @@ pub(crate) fn is_judged(field: &TableField) -> bool {
         }
 }
 
-/// Returns the value of a field's default in code.
 pub(crate) fn default_value(context: &Context<'_>, field: &TableField) -> &'static str {
     match field.kind.base {
         Base::Scalar(Scalar::Bool) if default_number(field).magnitude == 0 => "false",
@@ -74,7 +68,6 @@ pub(crate) fn default_value(context: &Context<'_>, field: &TableField) -> &'stat
     }
 }
 
-/// Returns a field's default in code, by its constant if it has one.
 pub(crate) fn default(context: &Context<'_>, field: &TableField) -> &'static str {
     if has_constant(context, field) {
         "DEFAULT_$N"
@@ -83,7 +76,6 @@ pub(crate) fn default(context: &Context<'_>, field: &TableField) -> &'static str
     }
 }
 
-/// Returns a field's default in clauses.
 pub(crate) fn default_clause(context: &Context<'_>, field: &TableField) -> &'static str {
     match field.kind.base {
         Base::Enum(index) if !context.is_flags(index) => "$h_value.$e",
@@ -99,7 +91,7 @@ fn is_digit(byte: Option<&u8>) -> bool {
     }
 }
 
-// What stands behind the type of a float that isn't a number of digits.
+// What follows the type of a float that isn't written in digits.
 fn float_word(text: &[u8]) -> &'static str {
     let negative = text.first() == Some(&b'-');
     let sign = negative || text.first() == Some(&b'+');
@@ -135,7 +127,6 @@ impl<'a> Printer<'a> {
         self.put_str(if whole { ".0" } else { "" });
     }
 
-    /// Adds the default of a float.
     pub(crate) fn put_float(&mut self, scalar: Scalar, field: &TableField) {
         match &field.default {
             Some(Value::Float(text)) => {

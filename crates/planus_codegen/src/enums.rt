@@ -1,4 +1,4 @@
-//! Enums, and flags: enums of which several values stand at once.
+//! Enums and flags.
 
 use crate::at::At;
 use crate::context::Context;
@@ -24,7 +24,6 @@ const METHODS: &str =
 const FLAGS_SHAPE: &str =
     "abbrev pub $M_shape : Shape $T $S $S\n$M_shape = struct_shape (field (λ x. x.bits) $b_shape no_more)\n    (struct_layout $P 1 (lit≤ tt) (lit< tt)) (λ v. record { bits = v.0 }) (λ x. refl)\n";
 
-/// Prints the code of an enum.
 pub(crate) fn print_enum<'a>(context: &'a Context<'a>, at: At, declared: &Declared) -> Printer<'a> {
     let mut printer = Printer::new(context);
     printer.put_docs("", &declared.docs, "/// One of some values.\n", at);
@@ -43,7 +42,6 @@ pub(crate) fn print_enum<'a>(context: &'a Context<'a>, at: At, declared: &Declar
     printer
 }
 
-/// Prints the definitions of an enum's numbers.
 pub(crate) fn print_numbers<'a>(context: &'a Context<'a>, at: At) -> Printer<'a> {
     let mut printer = Printer::new(context);
     printer.put(
@@ -62,7 +60,6 @@ pub(crate) fn print_numbers<'a>(context: &'a Context<'a>, at: At) -> Printer<'a>
     printer
 }
 
-/// Prints the code of flags.
 pub(crate) fn print_flags<'a>(
     context: &'a Context<'a>,
     at: At,
@@ -86,7 +83,6 @@ pub(crate) fn print_flags<'a>(
     printer
 }
 
-/// Prints the definition of the layout of flags.
 pub(crate) fn print_flags_layout<'a>(context: &'a Context<'a>, at: At) -> Printer<'a> {
     let mut printer = Printer::new(context);
     printer.put(FLAGS_SHAPE, at);

@@ -8,7 +8,7 @@ use crate::types::{has_default, is_bytes, is_optional, is_union};
 use planus_layout::{Base, Scalar, TableField};
 use planus_plan::Plan;
 
-/// The library's word for what a field of a kind holds and how it is read.
+/// The library's name for what a field of a kind holds and how it is read.
 fn kind_of(field: &TableField, total: bool) -> &'static str {
     match (field.kind.base, field.kind.vector) {
         (Base::Text, true) => "~texts",
@@ -22,7 +22,7 @@ fn kind_of(field: &TableField, total: bool) -> &'static str {
     }
 }
 
-/// The line of a number that is left out where it equals its default.
+/// The line of a number with a default.
 fn number_line(field: &TableField) -> &'static str {
     match field.kind.base {
         _ if is_judged(field) => "plain_or~$h_shape~⟦<$t as PartialEq>⟧.eq~$r~$K~fields.$n ∷@",
@@ -34,7 +34,6 @@ fn number_line(field: &TableField) -> &'static str {
     }
 }
 
-/// The line of a union, or of a vector of them.
 fn union_line(field: &TableField) -> &'static str {
     match (field.kind.vector, field.required) {
         (true, true) => "unions_required~$tRef~$r~fields.$n ∷@",
@@ -71,7 +70,7 @@ impl<'a> Printer<'a> {
         }
     }
 
-    /// Adds the lines of the fields: what each holds, and what its method returns.
+    /// Adds the lines of the fields.
     pub(crate) fn put_field_lines(&mut self, plan: &Plan<'_>) {
         self.put_str("    ghost lines = { λ fields.");
         self.put_char(END);

@@ -1,23 +1,22 @@
 //! What the letters of templates stand for.
 //!
-//! Of a declaration: `c` the name of the crate, `T` the type, `U` the same in its namespace, `M`
-//! the module; of a namespace `M` the module, `O` the name in the schema, `W` the module's path in
-//! the folder of code; of an enum or a struct `S` its size and `A` its alignment in bytes, `P` the
-//! exponent of the alignment, `Q` how many alignments the size has; of an enum `b` its scalar type,
-//! `j` the type of its numbers in definitions and `q` the test of two of them; of a struct `y` the
-//! padding at its end.
+//! Of a declaration: `c` the crate, `T` the type, `U` the type in its namespace, `M` the module; of
+//! a namespace `M` the module, `O` the name in the schema, `W` the module's path; of an enum or a
+//! struct `S` its size, `A` its alignment, `P` the alignment's exponent, `Q` how many alignments
+//! the size has; of an enum `b` its scalar type, `j` the type of its numbers in definitions, `q`
+//! the test of two; of a struct `y` the padding at its end.
 //!
-//! Of a member: `n` its name, `N` the same in capitals, `V` in small letters, `s` as the schema has it, `p` its place; of
-//! a value of an enum `i` its number in code and `k` in definitions; of a field `t` the type of its
-//! value and `h` the name of its shape; of a field of a struct `z` its size and `d` its distance in
-//! bytes, `x` the padding before it, `w` the distance after a colon, if it isn't the first, `f` its
-//! name in a record and `v` its value in the values of all; of a member of a union `g` its tag and
-//! `m` its table.
+//! Of a member: `n` its name, `N` in capitals, `V` in small letters, `s` in the schema, `p` its
+//! place; of a value of an enum `i` its number in code and `k` in definitions; of a field `t` the
+//! type of its value, `h` the name of its shape; of a field of a struct `z` its size, `d` its
+//! offset, `x` the padding before it, `w` the offset after a colon, if it isn't the first, `f` its
+//! name in a record, `v` its value in the tuple of all; of a member of a union `g` its tag, `m` its
+//! table.
 //!
-//! Of a field of a table: `o` its slot, `u` the slot before, `r` the slot under which it is read;
-//! `l` its default as an integer and `L` the same in clauses, `e` as a value of an enum, `F` as a
-//! float; and, as templates of these letters, `G` its type as it is given, `R` as it is read, `E`
-//! as it is encoded, `D` its default in code and `K` in clauses.
+//! Of a field of a table: `o` its slot, `u` the slot before, `r` the slot it is read by; `l` its
+//! default as an integer, `L` in clauses, `e` as a value of an enum, `F` as a float; and, as
+//! templates of these letters, `G` its type as it is given, `R` as it is read, `E` as it is
+//! encoded, `D` its default in code, `K` in clauses.
 
 use crate::at::At;
 use crate::context::{Context, scalar_name};
@@ -32,7 +31,6 @@ const NOTHING: Number = Number {
     magnitude: 0,
 };
 
-/// The size and the alignment in bytes of an enum or a struct.
 fn layout(context: &Context<'_>, index: usize) -> (usize, usize) {
     match context.body(index) {
         Some(Body::Enum(one)) => (one.scalar.size(), one.scalar.size()),
@@ -41,7 +39,6 @@ fn layout(context: &Context<'_>, index: usize) -> (usize, usize) {
     }
 }
 
-/// The size and the distance in bytes of a field of a struct.
 fn span(context: &Context<'_>, at: At) -> (usize, usize) {
     match context.body(at.index) {
         Some(Body::Struct(one)) => match one.fields.get(at.place) {
@@ -52,7 +49,7 @@ fn span(context: &Context<'_>, at: At) -> (usize, usize) {
     }
 }
 
-/// The padding in bytes before a field of a struct, or after the last one.
+/// The padding before a field of a struct, or after the last one.
 fn padding(context: &Context<'_>, at: At) -> usize {
     let (_, distance) = span(context, at);
     let before = match at.place.checked_sub(1) {
@@ -65,7 +62,7 @@ fn padding(context: &Context<'_>, at: At) -> usize {
     distance.saturating_sub(before)
 }
 
-/// The slot of a field of a table, and that under which it is read: of a union that of its tag.
+/// The slot of a field, and the slot it is read by: of a union, its tag's.
 fn slots(context: &Context<'_>, at: At) -> (usize, usize) {
     match context.field(at) {
         Some(field) if is_union(field.kind) => (field.slot, field.slot.saturating_sub(1)),
@@ -101,7 +98,7 @@ fn number(context: &Context<'_>, letter: char, at: At) -> usize {
     }
 }
 
-/// A value of an enum, or else the default of a field, as an integer.
+/// A value of an enum, or else the default of a field.
 fn integer(context: &Context<'_>, at: At) -> Number {
     match context.body(at.index) {
         Some(Body::Enum(one)) => match one.values.get(at.place) {
@@ -115,7 +112,6 @@ fn integer(context: &Context<'_>, at: At) -> Number {
     }
 }
 
-/// The type of the value of a field, or the table of a member of a union.
 fn base(context: &Context<'_>, at: At) -> Base {
     match context.body(at.index) {
         Some(Body::Table(one)) => match one.fields.get(at.place) {
@@ -143,7 +139,7 @@ fn is_forced(fields: &[StructField], alignment: usize) -> bool {
     true
 }
 
-/// Returns whether the alignment of a struct is above those of its fields.
+/// Whether the alignment of a struct is above those of its fields.
 pub(crate) fn has_forced_alignment(context: &Context<'_>, at: At) -> bool {
     match context.body(at.index) {
         Some(Body::Struct(one)) => is_forced(&one.fields, one.alignment),
@@ -159,7 +155,6 @@ impl<'a> Printer<'a> {
         self.put_number(number.magnitude);
     }
 
-    // An integer as clauses have it: a signed one by its constructor.
     fn put_counted(&mut self, number: Number, signed: bool) {
         if number.negative {
             self.put_str("negsuc ");
@@ -182,7 +177,6 @@ impl<'a> Printer<'a> {
         }
     }
 
-    // The name of a field as a record has it.
     fn put_record_name(&mut self, name: &[u8]) {
         let escaped = is_escaped(name);
         self.put_char(OWN);
@@ -220,7 +214,7 @@ impl<'a> Printer<'a> {
         }
     }
 
-    // What stands for a field of a struct in the values of all: the first, or one of the others.
+    // A field of a struct in the tuple of its values.
     fn put_projection(&mut self, place: usize) {
         self.put_char('v');
         for _ in 0..place {
@@ -283,7 +277,6 @@ impl<'a> Printer<'a> {
         }
     }
 
-    /// Adds what a letter stands for that is no template.
     pub(crate) fn put_plain_hole(&mut self, letter: char, at: At) {
         let context = self.context;
         let names = &context.names;

@@ -1,24 +1,22 @@
-//! The imports of printed files: those of the names that stand in them.
-
 use crate::at::At;
 use crate::printer::Printer;
 use crate::words::Words;
 
-/// Where the library passes on the words of clauses and definitions, and these words.
+/// The module that passes on the words of clauses and definitions, and these words.
 const PASSED_ON: &str = "planus_laws.specs.Printed";
 
 const WORDS: &str =
     "◌≡◌ ◌≤◌ ◌==◌ ◌↔◌ ◌∷◌ [] ℕ ℤ Bool List Option length codes pos negsuc nat_eq true false bit_and bit_or IfOk IsOkAnd IsTrue MatchOption ⊤ Some None sem w8 w16 w32 w64 int_eq Table BytesStand Numbered u8_enum u16_enum u32_enum u64_enum i8_enum i16_enum i32_enum i64_enum Shape u8_shape u16_shape u32_shape u64_shape i8_shape i16_shape i32_shape i64_shape bool_shape f32_shape f64_shape IsPrefixed field force_align no_more struct_layout struct_shape FinishGives SizedFinishGives EndsAs FinishLeaves SizedFinishLeaves IsIn AllIn AllUnionsIn IsPrepared IsPlainVector IsPlainVectorRequired IsPlainRequired IsTextField IsTextRequired IsBytesField IsBytesRequired IsTextVector IsTextVectorRequired IsTableField IsTableRequired IsTableVector IsTableVectorRequired plain_kind text_kind bytes_kind table_kind IsPlainField IsPlainFieldOr IsRoot IsUnionField IsUnionRequired IsUnionVector IsUnionVectorRequired ReadsVariants UnionVariant table_variant plains judged texts tables optional required plain_if plain_or number_or signed_or union union_required unions unions_required IsSizedRoot";
 
-/// Where definitions have the words of their proofs, and these words.
+/// The module of words of proofs.
 const OF_PROOFS: &str = "std.proofs.Common";
 
 const PROOF_WORDS: &str = "refl lit≤ lit<";
 
-/// The columns of names that are imported from one module in one line.
+/// The columns of names in one import.
 const NAME_COLUMNS: usize = 80;
 
-/// The words behind a module's name that name a definition, and its import.
+/// What follows a module's name in the name of a definition, and its import.
 const OWN_DEFINITIONS: [(&str, &str); 5] = [
     ("_variants", " Rattle.$c.specs.$T.{$M_variants}"),
     ("_is", " Rattle.$c.specs.$T.{$M_is}"),
@@ -33,7 +31,7 @@ const OWN_DEFINITIONS: [(&str, &str); 5] = [
     ),
 ];
 
-/// The words behind a type's name that name a type, and its import.
+/// What follows a type's name in the name of a type, and its import.
 const OWN_TYPES: [(&str, &str); 3] = [
     ("", " Rattle.$c.specs.declared.$M.$T.{$T}"),
     ("Fields", " Rattle.$c.specs.declared.$M.$TFields.{$TFields}"),
@@ -47,19 +45,18 @@ fn is_named(words: &Words<'_>, name: &str) -> bool {
     }
 }
 
-/// The imports of a file: of code or of definitions.
+/// The imports of a file.
 #[derive(Clone, Copy)]
 pub(crate) struct Imports<'a> {
     pub(crate) words: &'a Words<'a>,
-    /// What stands before and after each.
+    /// What is before and after each.
     pub(crate) start: &'static str,
     pub(crate) end: &'static str,
-    /// Of a file of definitions, the index of its declaration.
+    /// The declaration of a file of definitions.
     pub(crate) own: Option<usize>,
 }
 
 impl<'a> Printer<'a> {
-    // Adds the imports of the names of a module that are among the words.
     fn put_row(&mut self, imports: Imports<'_>, path: &str, names: &str) {
         let mut column = 0usize;
         for name in names.split(' ') {
@@ -87,7 +84,6 @@ impl<'a> Printer<'a> {
         }
     }
 
-    // Adds the import of a definition or a type of the crate itself, if it is wanted.
     fn put_own(&mut self, imports: Imports<'_>, template: &str, at: At, wanted: bool) {
         if wanted {
             self.put_str(imports.start);
@@ -96,8 +92,7 @@ impl<'a> Printer<'a> {
         }
     }
 
-    // Adds the imports of a declaration's definitions and types that are among the words. A file of
-    // definitions has its own.
+    // A file of definitions doesn't import its own.
     fn put_owns(&mut self, imports: Imports<'_>, index: usize) {
         let at = At::declaration(index);
         let names = &self.context.names;
@@ -113,7 +108,6 @@ impl<'a> Printer<'a> {
         }
     }
 
-    /// Adds the imports of clauses.
     pub(crate) fn put_clause_uses(&mut self, words: &Words<'_>, order: &[usize]) {
         let imports = Imports {
             words,
@@ -127,7 +121,6 @@ impl<'a> Printer<'a> {
         }
     }
 
-    /// Adds the imports of the definitions of a declaration.
     pub(crate) fn put_definition_uses(&mut self, words: &Words<'_>, order: &[usize], own: usize) {
         let imports = Imports {
             words,

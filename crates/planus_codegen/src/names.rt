@@ -12,23 +12,22 @@ use planus_layout::{Body, Declared, Enum, is_among as is_in};
 use planus_plan::{are_apart, are_apart_from, are_names, are_scopes, is_among};
 use std::alloc::{AllocError, Global};
 
-/// The names of a schema's types and modules in code, and those of the members of each type.
+/// The names of a schema's types, modules and members in code.
 #[derive(Drop)]
 pub struct Names {
     pub types: Vec<Vec<u8>>,
     pub modules: Vec<Vec<u8>>,
     pub members: Vec<Vec<Vec<u8>>>,
-    /// Of each type, and then of each namespace, the name in the module of the namespace around it,
-    /// after that namespace's name in the schema: `game.data.Item`.
+    /// Of each type, and then of each namespace, the path in the schema with its name in code:
+    /// `game.data.Item`.
     pub places: Vec<Vec<u8>>,
-    /// The namespaces as the schema has them, each after the one around it.
+    /// The namespaces in the schema, each after the one around it.
     pub namespaces: Vec<Vec<u8>>,
 }
 
 /// How a name of the schema becomes one of code.
 #[derive(Clone, Copy)]
 enum Spelling {
-    /// As it is.
     Kept,
     /// In small letters, with `_` between its words.
     Snake,
@@ -50,7 +49,7 @@ fn is_lower(byte: Option<&u8>) -> bool {
     }
 }
 
-// Whether a word begins at an upper letter that another byte stands before.
+// Whether a word begins at a capital after another byte.
 fn begins_word(bytes: &[u8], at: usize) -> bool {
     match at.checked_sub(1) {
         Some(before) => {
@@ -69,7 +68,6 @@ fn spelled_byte(byte: u8, spelling: Spelling) -> u8 {
     }
 }
 
-// Spells the last word of a name; the namespaces before it are kept.
 fn spelled(alloc: Global, name: &[u8], spelling: Spelling) -> Result<Vec<u8>, AllocError> {
     let mut out = Vec::new(alloc);
     let start = name.len().saturating_sub(last_word(name).len());
@@ -84,7 +82,6 @@ fn spelled(alloc: Global, name: &[u8], spelling: Spelling) -> Result<Vec<u8>, Al
     Ok(out)
 }
 
-/// Returns the word after the last dot.
 fn last_word(name: &[u8]) -> &[u8] {
     let mut word = name;
     for (at, byte) in name.iter().enumerate() {
@@ -95,15 +92,14 @@ fn last_word(name: &[u8]) -> &[u8] {
     word
 }
 
-/// Returns the namespace around what has this name in the schema; it is empty where there is none.
+/// Returns the namespace around a full name; it is empty where there is none.
 pub(crate) fn namespace_around(name: &[u8]) -> &[u8] {
     let behind = last_word(name).len().saturating_add(1);
     name.get(..name.len().saturating_sub(behind))
         .unwrap_or(name)
 }
 
-/// Adds a name, with as many `_` behind it as make it differ from each that is there, also in
-/// letters that aren't capitals.
+/// Adds a name, with `_` after it until it differs from each that is there, also but for case.
 fn add(names: &mut Vec<Vec<u8>>, mut name: Vec<u8>) -> Result<(), AllocError> {
     for _ in 0..names.len() {
         if !is_among(names, &name) {
@@ -115,7 +111,7 @@ fn add(names: &mut Vec<Vec<u8>>, mut name: Vec<u8>) -> Result<(), AllocError> {
     Ok(())
 }
 
-// Adds a name that isn't reserved: this one, or with `_` behind it.
+// Adds a name that isn't reserved: this one, or with `_` after it.
 fn add_allowed(names: &mut Vec<Vec<u8>>, mut name: Vec<u8>) -> Result<(), AllocError> {
     if is_reserved(&name) {
         name.push(b'_')?;
@@ -123,7 +119,7 @@ fn add_allowed(names: &mut Vec<Vec<u8>>, mut name: Vec<u8>) -> Result<(), AllocE
     add(names, name)
 }
 
-// The names of types: `whole` ones stand after their namespaces, and differ in each of these.
+// The names of types; `whole` ones come after their namespaces, and differ in each of these.
 fn type_names(
     alloc: Global,
     declared: &[Declared],
@@ -146,7 +142,6 @@ fn type_names(
     Ok(names)
 }
 
-// Whether a namespace that is in no other has this name.
 fn is_outermost(declared: &[Declared], name: &[u8]) -> bool {
     for one in declared {
         if one.name.starts_with(name) && one.name.get(name.len()) == Some(&b'.') {
@@ -172,7 +167,7 @@ fn module_names(
     Ok(names)
 }
 
-// The spelling of an enum's values: those of flags are constants.
+// The values of flags are constants.
 fn value_spelling(one: &Enum) -> Spelling {
     if one.flags {
         Spelling::Capitals
@@ -245,7 +240,6 @@ fn names_of(alloc: Global, declared: &[Declared]) -> Result<Names, AllocError> {
 }
 
 impl Names {
-    // Adds the namespaces around a name that aren't there.
     fn add_namespaces(&mut self, alloc: Global, name: &[u8]) -> Result<(), AllocError> {
         for (at, byte) in name.iter().enumerate() {
             let namespace = name.get(..at).unwrap_or(name);
@@ -256,7 +250,7 @@ impl Names {
         Ok(())
     }
 
-    // Adds a namespace, its module with as many `_` behind its name as make it differ.
+    // Adds a namespace, its module with `_` after its name until it differs.
     fn add_namespace(&mut self, alloc: Global, namespace: &[u8]) -> Result<(), AllocError> {
         let mut place = spelled(alloc, namespace, Spelling::Snake)?;
         if is_reserved_word(last_word(&place)) || is_known_module(&place) {
@@ -275,8 +269,8 @@ impl Names {
 
     /// Returns the names of what is declared.
     ///
-    /// [`Refusal::Unsupported`] where one is no identifier, or two of a scope are alike: no names
-    /// that a schema may have come to that.
+    /// [`Refusal::Unsupported`] where one is no identifier or two of a scope are alike, which no
+    /// schema comes to.
     pub fn of(alloc: Global, declared: &[Declared]) -> Result<Names, Refusal>
         ensures counts { IfOk result (λ n. length n.types.items ≡ length declared.now) }
         ensures counts_of_modules { IfOk result (λ n. length n.modules.items
@@ -314,8 +308,7 @@ impl Names {
         last_word(name_at(&self.places, index))
     }
 
-    /// Returns the name of a declaration's module, of a namespace's or of the root's. The indices
-    /// of namespaces follow those of declarations, and then comes the root's.
+    /// The indices of namespaces follow those of declarations, and then comes the root's.
     pub(crate) fn module(&self, index: usize) -> &[u8] {
         match (self.modules.get(index), self.places.get(index)) {
             (Some(name), _) => name.as_slice(),
@@ -332,7 +325,6 @@ impl Names {
         }
     }
 
-    /// Returns how many members a declaration has.
     pub(crate) fn count(&self, index: usize) -> usize {
         match self.members.get(index) {
             Some(names) => names.len(),
@@ -340,7 +332,6 @@ impl Names {
         }
     }
 
-    /// Returns the name of a declaration's member.
     pub(crate) fn member(&self, index: usize, place: usize) -> &[u8] {
         match self.members.get(index) {
             Some(names) => name_at(names, place),

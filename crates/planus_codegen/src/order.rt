@@ -1,5 +1,3 @@
-//! The order of names in printed lists.
-
 use crate::names::name_at;
 use std::alloc::{AllocError, Global};
 
@@ -14,7 +12,7 @@ fn count_digits(text: &[u8]) -> u8 {
     count
 }
 
-// A name with the count of digits before each number, so that 2 stands before 10.
+// A name with the count of digits before each number, so that 2 is before 10.
 fn key_of(alloc: Global, name: &[u8]) -> Result<Vec<u8>, AllocError> {
     let mut key = Vec::new(alloc);
     let mut in_number = false;
@@ -28,7 +26,7 @@ fn key_of(alloc: Global, name: &[u8]) -> Result<Vec<u8>, AllocError> {
     Ok(key)
 }
 
-/// Returns keys of names that sort as the names do, but numbers in them by their size.
+/// Returns keys that sort as the names do, but numbers in them by size.
 pub(crate) fn keys_of(alloc: Global, names: &[Vec<u8>]) -> Result<Vec<Vec<u8>>, AllocError> {
     let mut keys = Vec::new(alloc);
     for name in names {

@@ -1,27 +1,24 @@
-//! The text of a file while it is printed.
-
 use crate::at::At;
 use crate::context::Context;
 use std::alloc::AllocError;
 
-/// Stands in printed text where a line may end.
+/// Where a line may end.
 pub(crate) const BREAK: char = '\u{1}';
 
-/// Stands in printed text before each argument of a call, and after the last.
+/// Before each argument of a call, and after the last.
 pub(crate) const ARGUMENT: char = '\u{2}';
 
-/// Stands in printed text before a name that no import brings.
+/// Before a name that no import brings.
 pub(crate) const OWN: char = '\u{3}';
 
-/// Stands in printed text where a line must end and goes on.
+/// Where a line ends and goes on.
 pub(crate) const END: char = '\u{4}';
 
 /// A text to which more is added until memory is refused, and which then says so.
 ///
-/// What is added is a template: in it `$` and a letter stand for what the letter means where the
-/// template is filled (`holes.rt` has the letters), `~` for a blank where the line may end, `^` for
-/// where a call may be broken, `%` stands before a name that no import brings, and `@` where a line
-/// ends and goes on.
+/// Templates are added: in one `$` and a letter stand for what `holes.rt` says, `~` for a blank
+/// where the line may end, `^` for where a call may be broken, `@` for where a line ends and goes
+/// on; `%` is before a name that no import brings.
 #[derive(Drop)]
 pub(crate) struct Printer<'a> {
     pub(crate) context: &'a Context<'a>,
@@ -40,7 +37,6 @@ fn letter_of(letter: char) -> char {
 }
 
 impl<'a> Printer<'a> {
-    /// Creates an empty text.
     pub(crate) fn new(context: &'a Context<'a>) -> Printer<'a> {
         Printer {
             context,
@@ -49,7 +45,6 @@ impl<'a> Printer<'a> {
         }
     }
 
-    /// Adds a template.
     pub(crate) fn put(&mut self, template: &str, at: At) {
         let mut in_hole = false;
         for letter in template.chars() {
@@ -64,7 +59,7 @@ impl<'a> Printer<'a> {
         }
     }
 
-    /// Adds a template in which no letter stands for one.
+    /// Adds a template whose letters are no templates.
     pub(crate) fn put_plain(&mut self, template: &str, at: At) {
         let mut in_hole = false;
         for letter in template.chars() {
@@ -79,7 +74,6 @@ impl<'a> Printer<'a> {
         }
     }
 
-    /// Adds a template for each member of a declaration, and other words between them.
     pub(crate) fn put_each(&mut self, template: &str, between: &str, at: At) {
         for place in 0..self.context.names.count(at.index) {
             if place > 0 {
@@ -89,8 +83,7 @@ impl<'a> Printer<'a> {
         }
     }
 
-    /// Adds a template for each member of a declaration, after its documentation or else these
-    /// words.
+    /// Adds a template for each member, after its documentation or else these words.
     pub(crate) fn put_members(&mut self, words: &str, template: &str, at: At) {
         for place in 0..self.context.names.count(at.index) {
             let at = at.member(place);
@@ -135,34 +128,30 @@ impl<'a> Printer<'a> {
         }
     }
 
-    /// Adds a name, whose bytes are letters of ASCII.
     pub(crate) fn put_name(&mut self, name: &[u8]) {
         for letter in name {
             self.put_char(*letter as char);
         }
     }
 
-    /// Adds a text as it stands.
     pub(crate) fn put_str(&mut self, text: &str) {
         if self.text.push_str(text).is_err() {
             self.failed = true;
         }
     }
 
-    /// Adds a letter as it stands.
     pub(crate) fn put_char(&mut self, letter: char) {
         if self.text.push(letter).is_err() {
             self.failed = true;
         }
     }
 
-    /// Adds another printed text.
     pub(crate) fn join(&mut self, other: &Printer<'_>) {
         self.put_str(other.text.as_str());
         self.failed = self.failed || other.failed;
     }
 
-    /// Adds another printed text after an empty line, if it isn't empty.
+    /// Adds another printed text, if it isn't empty, after an empty line.
     pub(crate) fn join_apart(&mut self, other: &Printer<'_>) {
         if !other.text.is_empty() {
             self.put_char('\n');
@@ -170,7 +159,6 @@ impl<'a> Printer<'a> {
         self.join(other);
     }
 
-    /// Returns the text so far.
     pub(crate) fn as_str(&self) -> &str {
         self.text.as_str()
     }
@@ -180,7 +168,6 @@ impl<'a> Printer<'a> {
         self.text.chars().count()
     }
 
-    /// Returns the text, or that memory was refused.
     pub(crate) fn finish(self) -> Result<String, AllocError> {
         if self.failed {
             return Err(AllocError);

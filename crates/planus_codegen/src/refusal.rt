@@ -1,5 +1,3 @@
-//! Why no code is printed.
-
 ghost use Rattle.std.specs.Prelude.{◌≡◌};
 
 use std::alloc::AllocError;
@@ -7,9 +5,8 @@ use std::alloc::AllocError;
 /// Why no code is printed.
 #[derive(Debug, Drop)]
 pub enum Refusal {
-    /// Memory was refused.
     OutOfMemory,
-    /// Something that isn't supported: what it is, and the full name of the declaration with it.
+    /// What isn't supported, and the full name of the declaration with it.
     Unsupported { what: &'static str, name: Vec<u8> },
 }
 

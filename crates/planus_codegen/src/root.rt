@@ -1,5 +1,3 @@
-//! The functions of a buffer's root.
-
 use crate::at::At;
 use crate::context::Context;
 use crate::printer::Printer;
@@ -19,8 +17,7 @@ const FINISH_SIZED: &str =
 const CHECK: &str =
     "\n/// Returns whether a buffer has the file identifier; of one after its size, pass what follows it.\npub fn has_identifier(bytes: &[u8]) -> bool\n    ensures { IsTrue result ↔ BytesStand bytes.now 4 FILE_IDENTIFIER }\n{\n    planus::has_identifier(bytes, FILE_IDENTIFIER)\n}\n";
 
-/// Prints the functions that read and finish a buffer whose root is a table, with the schema's file
-/// identifier if it has one.
+/// Prints the functions that read and finish a buffer by its root.
 pub(crate) fn print_root<'a>(context: &'a Context<'a>, at: At) -> Printer<'a> {
     let mut printer = Printer::new(context);
     printer.put(READ, at);

@@ -1,5 +1,3 @@
-//! Structs, and what all types of a fixed layout have.
-
 use crate::at::At;
 use crate::context::Context;
 use crate::holes::has_forced_alignment;
@@ -10,15 +8,15 @@ use planus_layout::{Declared, Struct};
 pub(crate) const LAYOUT: &str =
     "}\n\nimpl Plain for $T {\n    ghost ALIGNMENT = { $A };\n\n    ghost SIZE = { $S };\n\n    ghost shape = { $M_shape };\n\n    const ALIGNMENT: usize = $A;\n\n    const SIZE: usize = $S;\n\n    fn put(&self, bytes: &mut [u8]) {\n";
 
-/// What stands between the bodies of `put` and `read`.
+/// Between the bodies of `put` and `read`.
 pub(crate) const READ: &str =
     "    }\n\n    fn read(^buffer: SliceWithStartOffset<'_>,^offset: usize^) -> Result<$T, ErrorKind> {\n";
 
-/// What stands after the body of `read`.
+/// After the body of `read`.
 pub(crate) const STRIDE: &str =
     "    }\n}\n\nimpl Stride for $T {\n    type %Stands = $T;\n}\n\nimpl PlainField for $T {}\n";
 
-/// What a type has of which a read can't fail.
+/// Of a type whose read can't fail.
 pub(crate) const TOTAL: &str =
     "\nimpl PlainTotal for $T {\n    ghost never_fails = { λ S f e broken. broken };\n}\n";
 
@@ -30,7 +28,6 @@ const SHAPE: &str = "abbrev pub $M_shape : Shape $T $S $A\n$M_shape = struct_sha
 const PADDED: &str =
     "use Rattle.std.proofs.Common.{arith}\nuse Rattle.std.proofs.lemmas.Grind.{common_steps}\nuse Rattle.$c.proofs.$M.$TPlain.put.Goals as goal\n\npub returns-clause-encoded : goal.returns-clause-encoded\nreturns-clause-encoded c = grind (arith, common_steps)\n";
 
-/// Returns whether a struct has padding.
 pub(crate) fn has_padding(one: &Struct) -> bool {
     let mut bytes = 0usize;
     for field in &one.fields {
@@ -39,7 +36,6 @@ pub(crate) fn has_padding(one: &Struct) -> bool {
     bytes < one.size
 }
 
-/// Prints the code of a struct.
 pub(crate) fn print_struct<'a>(
     context: &'a Context<'a>,
     at: At,
@@ -64,7 +60,6 @@ pub(crate) fn print_struct<'a>(
     printer
 }
 
-/// Prints the definition of the layout of a struct.
 pub(crate) fn print_struct_layout<'a>(context: &'a Context<'a>, at: At) -> Printer<'a> {
     let mut printer = Printer::new(context);
     let forced = has_forced_alignment(context, at);
@@ -83,7 +78,6 @@ pub(crate) fn print_struct_layout<'a>(context: &'a Context<'a>, at: At) -> Print
     printer
 }
 
-/// Prints the proof that a struct with padding is written as its layout says.
 pub(crate) fn print_padded<'a>(context: &'a Context<'a>, at: At) -> Printer<'a> {
     let mut printer = Printer::new(context);
     printer.put(PADDED, at);

@@ -1,5 +1,3 @@
-//! What of a schema has no form in code.
-
 use crate::refusal::Refusal;
 use crate::types::has_default;
 use planus_layout::{Base, Body, Declared, Enum, Table, TableField, Value};
@@ -8,7 +6,7 @@ use std::alloc::Global;
 /// How much of a list of fields the checker takes, in the shares of its fields.
 const MOST: usize = 1000;
 
-/// The greatest number that code has for a variant.
+/// The greatest number of a variant in code.
 const GREATEST_NUMBER: u64 = 9_223_372_036_854_775_807;
 
 fn unsupported_field(field: &TableField) -> Option<&'static str> {
@@ -19,8 +17,8 @@ fn unsupported_field(field: &TableField) -> Option<&'static str> {
     }
 }
 
-/// The share of a field in what the checker takes: it takes 38 numbers with a default, 48 without,
-/// or 27 strings, vectors, tables or unions.
+/// The share of a field in `MOST`: the checker takes 38 numbers with a default, 48 without, or 27
+/// strings, vectors, tables or unions.
 fn share_of(field: &TableField) -> usize {
     match field.kind.base {
         _ if field.deprecated => 0,
@@ -64,7 +62,6 @@ fn unsupported(body: &Body) -> Option<&'static str> {
     }
 }
 
-/// Refuses a schema with something that has no form in code.
 pub(crate) fn refuse_unsupported(alloc: Global, declared: &[Declared]) -> Result<(), Refusal> {
     for one in declared {
         if let Some(what) = unsupported(&one.body) {

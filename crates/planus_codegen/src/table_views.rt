@@ -1,5 +1,3 @@
-//! Views of tables: a method a field.
-
 use crate::at::At;
 use crate::printer::Printer;
 use crate::types::{has_default, is_bytes, is_union};
@@ -12,7 +10,7 @@ const VIEW: &str =
 const TABLE_VIEW: &str =
     "impl<'a> TableView<'a> for $TRef<'a> {\n    type %Kind = $T;\n\n    ghost table = { λ view. view.table };\n\n    fn of_table(read: Table<'a>) -> $TRef<'a> {\n        $TRef { table: read }\n    }\n}\n\n";
 
-/// The words of the clause of the function that reads a vector.
+/// The clause of the function that reads a vector.
 fn vector_clause(field: &TableField) -> &'static str {
     let bytes = is_bytes(field.kind);
     match (field.kind.base, field.required) {
@@ -29,7 +27,7 @@ fn vector_clause(field: &TableField) -> &'static str {
     }
 }
 
-/// The words of the clause of the function that reads a value.
+/// The clause of the function that reads a value.
 fn value_clause(field: &TableField) -> &'static str {
     match (field.kind.base, field.required) {
         (Base::Text, false) => "~IsTextField",
@@ -76,7 +74,7 @@ fn value_function(field: &TableField) -> &'static str {
     }
 }
 
-/// What stands in the clause after the names: the kind of a union that may be absent.
+/// The rest of the clause: also the kind of a union that may be absent.
 fn clause_end(field: &TableField) -> &'static str {
     if is_union(field.kind) && !field.kind.vector && !field.required {
         "~self.now.table~$r~(codes \"$T\")~(codes \"$s\")~$t~result }\n    {\n"
@@ -115,7 +113,6 @@ impl<'a> Printer<'a> {
         self.put(arguments(field), at);
     }
 
-    /// Adds the view of a table.
     pub(crate) fn put_view(&mut self, plan: &Plan<'_>) {
         let at = At::declaration(plan.table);
         self.put(VIEW, at);

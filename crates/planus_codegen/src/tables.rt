@@ -1,5 +1,3 @@
-//! Tables.
-
 use crate::at::At;
 use crate::context::Context;
 use crate::defaults::{default_value, has_constant, is_zero};
@@ -37,7 +35,7 @@ const CREATE_OWNED: &str =
 const KIND: &str =
     "impl TableKind for $T {\n    type %Writer = TableWriter<$p>;\n\n    ghost name = { codes \"[$TRef]\" };\n\n    fn name() -> &'static str {\n        \"[$TRef]\"\n    }\n}\n";
 
-/// Whether each field may be left out, and its default is that of its type.
+/// Whether each field may be left out, and its default is its type's.
 fn derives_default(plan: &Plan<'_>) -> bool {
     for line in &plan.lines {
         if has_default(line.field) && !is_zero(line.field) {
@@ -47,7 +45,7 @@ fn derives_default(plan: &Plan<'_>) -> bool {
     plan.has_defaults()
 }
 
-/// The value of a field where none is said.
+/// The value of a field by default.
 fn default_of(field: &TableField) -> &'static str {
     match field.kind.base {
         _ if has_default(field) => "$n: $D",
@@ -56,7 +54,7 @@ fn default_of(field: &TableField) -> &'static str {
     }
 }
 
-/// What is said of that value.
+/// What is known of that value.
 fn default_is(field: &TableField) -> &'static str {
     match field.kind.base {
         _ if has_default(field) => "~(x.$n ≡ $K)",
@@ -95,7 +93,6 @@ fn line_of(field: &TableField) -> &'static str {
 }
 
 impl<'a> Printer<'a> {
-    // The constants of the defaults that have one.
     fn put_constants(&mut self, plan: &Plan<'_>) {
         for line in &plan.lines {
             if has_constant(self.context, line.field) {
@@ -107,7 +104,7 @@ impl<'a> Printer<'a> {
         }
     }
 
-    // Their imports, which an implementation's ghost members need.
+    // An implementation's ghost members need these imports.
     fn put_constant_uses(&mut self, plan: &Plan<'_>) {
         let mut end = "";
         for line in &plan.lines {
@@ -217,7 +214,6 @@ impl<'a> Printer<'a> {
     }
 }
 
-/// Prints the code of a table.
 pub(crate) fn print_table<'a>(
     context: &'a Context<'a>,
     plan: &Plan<'_>,

@@ -1,31 +1,26 @@
-//! Types of fields in code.
-
 use planus_layout::{Base, FieldType, Scalar, TableField, Value};
 
-/// Returns whether it is a vector of unsigned bytes.
 pub(crate) fn is_bytes(kind: FieldType) -> bool {
     kind.vector && kind.base == Base::Scalar(Scalar::UByte)
 }
 
-/// Returns whether it is a union, or a vector of them.
 pub(crate) fn is_union(kind: FieldType) -> bool {
     matches!(kind.base, Base::Union(_))
 }
 
-/// Returns whether a field is left out where it equals its default.
+/// Whether a field is left out where it equals its default.
 pub(crate) fn has_default(field: &TableField) -> bool {
     let number = matches!(field.kind.base, Base::Scalar(_) | Base::Enum(_)) && !field.kind.vector;
     number && !matches!(field.default, Some(Value::Absent))
 }
 
-/// Returns whether a field may be absent when it is written: it has neither a default nor
-/// `required`, and is no vector of unions, which is left out where it is empty.
+/// Whether a field may be absent: it has neither a default nor `required`, and is no union vector,
+/// which is left out where empty.
 pub(crate) fn is_optional(field: &TableField) -> bool {
     let unions = is_union(field.kind) && field.kind.vector;
     !field.required && !has_default(field) && !unions
 }
 
-/// Returns the encoded type of a field, as `fields!` has it.
 pub(crate) fn encoded(kind: FieldType) -> &'static str {
     match (kind.base, kind.vector) {
         (Base::Text | Base::Table(_), true) => "Offset<List<Offset<$t>>>",
@@ -36,7 +31,7 @@ pub(crate) fn encoded(kind: FieldType) -> &'static str {
     }
 }
 
-/// Returns the type of a field that is written, where it is there.
+/// The type of a field that is written.
 pub(crate) fn given(kind: FieldType) -> &'static str {
     match (kind.base, kind.vector) {
         (Base::Text, true) => "&'a [&'a str]",
@@ -51,8 +46,7 @@ pub(crate) fn given(kind: FieldType) -> &'static str {
     }
 }
 
-/// Returns the type of a field that is read, where it is there. `total` says that the read of an
-/// item can't fail.
+/// The type of a field that is read. `total`: the read of an item can't fail.
 pub(crate) fn read(kind: FieldType, total: bool) -> &'static str {
     match (kind.base, kind.vector) {
         (Base::Text, true) => "Vector<'a, Result<&'a str>>",

@@ -1,5 +1,3 @@
-//! Unions.
-
 use crate::at::At;
 use crate::context::Context;
 use crate::printer::Printer;
@@ -29,7 +27,6 @@ const ONE_OF: &str =
 const VARIANTS: &str =
     "-- by their tags\nabbrev pub $M_variants : List (UnionVariant $TRef)\n$M_variants =";
 
-/// Prints the code of a union.
 pub(crate) fn print_union<'a>(
     context: &'a Context<'a>,
     at: At,
@@ -52,7 +49,6 @@ pub(crate) fn print_union<'a>(
     printer
 }
 
-/// Prints the definition of the variants of a union.
 pub(crate) fn print_variants<'a>(context: &'a Context<'a>, at: At, one: &Union) -> Printer<'a> {
     let mut printer = Printer::new(context);
     printer.put_each(if one.members.len() > 1 { ONE_OF } else { ONLY }, "", at);

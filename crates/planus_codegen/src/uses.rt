@@ -1,5 +1,3 @@
-//! The imports of code.
-
 use crate::at::At;
 use crate::context::Context;
 use crate::printer::Printer;
@@ -13,7 +11,7 @@ const NAMES: &str =
 /// The columns of an import on one line.
 const COLUMNS: usize = 98;
 
-/// The words behind a type's name that name the types of a declaration.
+/// What follows a type's name in the names of a declaration's types.
 fn endings(body: &Body) -> &'static [&'static str] {
     match body {
         Body::Table(_) => &["", "Fields", "Ref"],
@@ -23,7 +21,6 @@ fn endings(body: &Body) -> &'static [&'static str] {
 }
 
 impl<'a> Printer<'a> {
-    // Starts a name of a list.
     fn put_comma(&mut self) {
         if !self.as_str().is_empty() {
             self.put_str(",\u{1}");
@@ -53,7 +50,7 @@ impl<'a> Printer<'a> {
         }
     }
 
-    // Adds an import of the names of a list, in the layout of code.
+    // Adds an import of a list of names.
     fn put_use(&mut self, path: &Printer<'_>, names: &Printer<'_>) {
         let width = names.columns();
         if width == 0 {
@@ -72,7 +69,6 @@ impl<'a> Printer<'a> {
         self.put_str(end);
     }
 
-    // Adds the imports of the types of a declaration that are among the words.
     fn put_type_uses(&mut self, words: &Words<'_>, index: usize) {
         let context = self.context;
         let at = At::declaration(index);
@@ -85,7 +81,6 @@ impl<'a> Printer<'a> {
         self.put_use(&path, &names);
     }
 
-    // Adds the imports of the names of `planus` that are among the words.
     fn put_planus_uses(&mut self, words: &Words<'_>) {
         let has_kind = words.has(&[], "ErrorKind");
         if has_kind {
@@ -116,7 +111,6 @@ impl<'a> Printer<'a> {
         self.put_use(&path, &laws);
     }
 
-    /// Adds the imports of code.
     pub(crate) fn put_code_uses(&mut self, words: &Words<'_>, order: &[usize], own: usize) {
         if words.has(&[], "FILE_IDENTIFIER") {
             self.put_str("use crate::FILE_IDENTIFIER;\n");
@@ -129,7 +123,7 @@ impl<'a> Printer<'a> {
         self.put_planus_uses(words);
     }
 
-    /// Adds what a module passes on of a declaration, whose module is found by a template.
+    /// Adds what a module passes on of a declaration.
     pub(crate) fn put_passed_on(&mut self, template: &str, index: usize, body: &Body) {
         let at = At::declaration(index);
         let mut names = Printer::new(self.context);
@@ -139,7 +133,7 @@ impl<'a> Printer<'a> {
         self.put_use(&path, &names);
     }
 
-    /// Adds the file identifier, whose bytes these are.
+    /// Adds the file identifier.
     pub(crate) fn put_identifier(&mut self, identifier: &[u8]) {
         self.put_str("\n/// The file identifier, which [`planus::Builder::finish`] writes and ");
         self.put_str("[`planus::has_identifier`]\n/// looks for.\n");

@@ -1,5 +1,3 @@
-//! The words of printed text.
-
 use std::alloc::{AllocError, Global};
 
 const ENSURES: &str = "ensures";
@@ -13,16 +11,15 @@ const DOCS: &str = "///";
 /// Which lines of a text are looked at.
 #[derive(Clone, Copy)]
 pub(crate) enum Part {
-    /// Those of code, without documentation.
     Code,
-    /// Those of clauses in code. Each is one line until lines are broken.
+    /// Each is one line until lines are broken.
     Clauses,
     /// All of a file of definitions.
     Definitions,
 }
 
-/// The words of a text that an import may bring: those that stand behind no path, string or name of
-/// an implementation.
+/// The words of a text that an import may bring: those not after a path, in a string or in the name
+/// of an implementation.
 #[derive(Drop)]
 pub(crate) struct Words<'a> {
     words: Vec<&'a [u8]>,
@@ -45,7 +42,7 @@ fn is_in(line: &[u8], part: Part) -> bool {
     }
 }
 
-// Whether a byte is part of a word. In code brackets stand around words; elsewhere they are words.
+// Brackets are words, but not in code.
 fn is_word_byte(byte: u8, part: Part) -> bool {
     match byte {
         b'[' | b']' | b'=' => !matches!(part, Part::Code),
