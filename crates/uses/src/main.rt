@@ -1,17 +1,25 @@
-//! Writes a text as the root of a flatbuffer, and reads it back in place.
+//! Writes a person by the printed code of a schema, and reads it back in place.
 #![tactic(auto)]
 
-use planus::{Builder, SliceWithStartOffset, TableRead};
+use harbour::{Create, FILE_IDENTIFIER, Person, PersonFields, PersonRef};
+use planus::{Builder, read_root};
 use std::io;
 
 fn main(rt: HostRuntime) -> io::Result<()> {
     let mut builder = Builder::new(rt.alloc())?;
-    let text = builder.create_string("Axe")?;
-    let bytes = builder.finish(text, None)?;
+    let pia = PersonFields {
+        name: "Pia",
+        age: 44,
+    };
+    let pia = Person::create(&mut builder, pia)?;
+    let bytes = builder.finish(pia, Some(FILE_IDENTIFIER))?;
 
-    let whole = SliceWithStartOffset::new(bytes, 0);
-    match <&str as TableRead>::from_buffer(whole, 0) {
-        Ok(text) => println!(rt; "{} bytes with the text {text}", bytes.len()),
+    let pia: planus::Result<PersonRef<'_>> = read_root(bytes);
+    match pia {
+        Ok(pia) => match (pia.name(), pia.age()) {
+            (Ok(name), Ok(age)) => println!(rt; "{} bytes with {name}, aged {age}", bytes.len()),
+            (Err(error), _) | (_, Err(error)) => println!(rt; "{error}"),
+        },
         Err(error) => println!(rt; "{error}"),
     }
 }
