@@ -9,11 +9,9 @@ use Rattle.planus_syntax.proofs.Many.{Again, list_again, suits_all, always, all_
 use Rattle.planus_syntax.proofs.Loops.{dotted_looped, docs_looped, attributes_looped, fields_looped, variants_looped, members_looped, methods_looped, declarations_looped}
 use Rattle.std.proofs.lemmas.Bool.{eq-eqb}
 
--- what follows does not matter
 abbrev any : List Piece → Bool
 any ps = true
 
--- neither `.` nor `:` nor `=` stands first
 abbrev pub ends_value : List Piece → Bool
 ends_value ps = not (begins_mark 46 ps || (begins_mark 58 ps || begins_mark 61 ps))
 
@@ -26,7 +24,6 @@ neither false false false h = (refl, refl, refl)
 ended : (ps : List Piece) → ends_value ps ≡ true → (begins_mark 46 ps ≡ false) × (begins_mark 58 ps ≡ false) × (begins_mark 61 ps ≡ false)
 ended ps h = neither (begins_mark 46 ps) (begins_mark 58 ps) (begins_mark 61 ps) h
 
--- a step of reading that gives this
 step : {A B : Type 0} (r : Result A Fault) (x : A) (f : A → Result B Fault) → r ≡ Ok x → (r >>= f) ≡ f x
 step r x f e = ap (λ s. s >>= f) e
 
@@ -101,7 +98,6 @@ attributes_again (a ∷ more) rest h =
     ∙ ap (λ r. with_items (a ∷ []) r >>= λ all. mark_at 41 all.1 >>= λ end. Ok (all.0, end))
     (list_again (begins_mark 44) next_attribute_at (next_before attribute_before) ends_value always attributes_looped attributes_are_again more (mark 41 ∷ rest) (all_always more) refl refl)
 
--- what stands first where something may be left out
 attributes_front : (n : ℕ) (xs : List AttributeV) (rest : List Piece) → (40 == n) ≡ false → begins_mark n rest ≡ false → begins_mark n (attributes_before xs rest) ≡ false
 attributes_front n [] rest h k = k
 attributes_front n (a ∷ more) rest h k = h
@@ -170,7 +166,6 @@ member_again m rest h =
     ∙ step (optional_at 58 path_at t) (m.target, v) _ (optional_again 58 path_at path_before path_again m.target v (after_front 61 46 number_before m.value rest refl n.0) (after_front 61 58 number_before m.value rest refl n.1))
     ∙ step (optional_at 61 number_at v) (m.value, rest) _ (optional_again 61 number_at number_before number_again m.value rest n.0 n.2)
 
--- no closing brace stands first
 abbrev goes_inside : List Piece → Bool
 goes_inside ps = not (begins_mark 125 ps)
 
@@ -333,7 +328,6 @@ service_is : (left : ℕ) (v : ServiceV) (rest : List Piece) → item_at (codes 
 unfolding item_at
 service_is left v rest = ap (as_item service) (service_again v rest)
 
--- an item and the documentation before it
 abbrev documented : List (List ℕ) → List Piece → Reads DeclarationV
 documented docs ps = word_at ps >>= λ key. item_at key.0 (length ps) key.1 >>= λ item. Ok (record { docs = docs; item = item.0 }, item.1)
 
@@ -389,7 +383,6 @@ declarations_are_again = record {
   begins = λ d rest. (docs_front is_some d.docs (item_before d.item rest) (λ e ps. refl) (item_is_some d.item rest), refl);
 }
 
--- What is written is read again.
 pub schema_again : (ds : List DeclarationV) → AreWhole ds → schema_at (schema_pieces ds) ≡ Ok (ds, [])
 unfolding schema_at
 schema_again ds w = list_again is_some declaration_at declaration_before any is_whole declarations_looped declarations_are_again ds [] w refl refl

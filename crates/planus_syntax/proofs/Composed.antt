@@ -1,4 +1,4 @@
--- Both laws together.
+-- Both directions together.
 use Rattle.std.proofs.Common.{◌≡◌, ℕ, List, [], Ok, Err, sym, ap, ◌∙◌}
 use Rattle.std.specs.Global.{Vec}
 use Rattle.planus_syntax.specs.declared.value.Declaration.{Declaration}
@@ -28,11 +28,9 @@ read ds = Ok (ds, [])
 read_is : (a b : List DeclarationV) → read a ≡ read b → a ≡ b
 read_is a b e = ap (λ (x : List DeclarationV × List Piece). x.0) (ok_is (a, []) (b, []) e)
 
--- the canonical text spells its schema
 pub text_spells : (ds : List DeclarationV) → IsSchema ds → Spells (text_of ds) ds
 text_spells ds h = layout_spells (schema_pieces ds) h.1
 
--- a text that spells a schema has its tokens
 pub spelled_lexes : (bytes : List ℕ) (ds : List DeclarationV) → Spells bytes ds → lex_of bytes ≡ Ok (schema_pieces ds)
 spelled_lexes bytes ds s = ap lex_of s.2 ∙ spelling.spelling_read s.0 s.1 ∙ ap lexed (sym s.3)
 
@@ -42,7 +40,6 @@ text_again ds h = spelled_lexes (text_of ds) ds (text_spells ds h)
 pub text_lexes : (bytes : List ℕ) (ds : List DeclarationV) → IsSchema ds → bytes ≡ text_of ds → lex_of bytes ≡ Ok (schema_pieces ds)
 text_lexes bytes ds h e = ap lex_of e ∙ text_again ds h
 
--- a text that has a schema's tokens spells it
 pub lexed_spells : (bytes : List ℕ) (ds : List DeclarationV) → lex_of bytes ≡ Ok (schema_pieces ds) → Spells bytes ds
 lexed_spells bytes ds o = spelling.spelling_found bytes (schema_pieces ds) o
 
@@ -51,7 +48,6 @@ one_schema a b ha hb e =
     let pieces : schema_pieces a ≡ schema_pieces b = lexed_is (schema_pieces a) (schema_pieces b) (sym (text_again a ha) ∙ ap lex_of e ∙ text_again b hb) in
     read_is a b (sym (schema_again a ha.0) ∙ ap schema_at pieces ∙ schema_again b hb.0)
 
--- an answer that is exact
 pub is_found : (len : ℕ) (ps : List Piece) (v : Vec Declaration) → AnswersParse len (Ok v) (schema_at ps) → ps ≡ schema_pieces (schema_of v.items)
 is_found len ps v h = (schema_takes ps (schema_of v.items, []) h).0
 

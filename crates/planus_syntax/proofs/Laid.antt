@@ -9,8 +9,6 @@ use Rattle.planus_syntax.specs.Layout.{is_mark_of, place_after, outside, is_tigh
 use Rattle.planus_syntax.specs.Spelled.{Part, token, blank, goes_on, spelled, tokens_in, AreParts}
 use Rattle.planus_syntax.proofs.Marks.{one_of, never}
 
--- ---- blanks in a row
-
 blanks : List ℕ → List Part → List Part
 blanks [] ps = ps
 blanks (b ∷ bs) ps = blank b ∷ blanks bs ps
@@ -35,8 +33,6 @@ blanks_are [] ps h a = a
 blanks_are (b ∷ bs) ps h a =
     let k = both (is_blank b) (list_all is_blank bs) h in
     (k.0, never (spelled (blanks bs ps)), blanks_are bs ps k.1 a)
-
--- ---- a gap is blank
 
 abbrev IsBlank : List ℕ → Type 0
 IsBlank bs = list_all is_blank bs ≡ true
@@ -70,8 +66,6 @@ apart_blank p (mark b) q = mark_blank p b q
 gap_blank : (p : Place) (a : Piece) (qs : List Piece) → IsBlank (gap_before p a qs)
 gap_blank p a [] = refl
 gap_blank p a (q ∷ qs) = either IsBlank (is_glued a q) [] (apart p a q) refl (apart_blank p a q)
-
--- ---- no token goes on into what follows it
 
 abbrev Stops : (ℕ → Bool) → List ℕ → Type 0
 Stops p bs = begins p bs ≡ false
@@ -110,7 +104,6 @@ gap_cases : (p : ℕ → Bool) (c : Bool) (g rest : List ℕ) → (c ≡ true �
 gap_cases p true g rest h k = h refl
 gap_cases p false g rest h k = k
 
--- what follows a token
 gap_stops : (place : Place) (a : Piece) (qs : List Piece) → Stops (goes_on (token a)) (gap_before place a qs ++ laid_out place qs)
 gap_stops place (word w) [] = refl
 gap_stops place (word w) (q ∷ qs) =
@@ -122,8 +115,6 @@ gap_stops place (text w) qs = never (gap_before place (text w) qs ++ laid_out pl
 gap_stops place (doc w) [] = refl
 gap_stops place (doc w) (q ∷ qs) = line_stops place q (laid_out place (q ∷ qs))
 gap_stops place (mark b) qs = never (gap_before place (mark b) qs ++ laid_out place qs)
-
--- ---- the parts of a layout
 
 parts_of : Place → List Piece → List Part
 parts_of p [] = []
@@ -153,6 +144,5 @@ parts_are p (a ∷ qs) h =
     let e : g ++ laid_out next qs ≡ spelled (blanks g (parts_of next qs)) = ap (λ r. g ++ r) (parts_spelled next qs) ∙ sym (blanks_spelled g (parts_of next qs)) in
     (h.0, subst (λ r. begins (goes_on (token a)) r ≡ false) e (gap_stops next a qs), blanks_are g (parts_of next qs) (gap_blank next a qs) (parts_are next qs h.1))
 
--- The canonical layout of tokens is a spelling of them.
 pub layout_spells : (ps : List Piece) → AllByRecursion (λ p. is_lawful p ≡ true) ps → (parts : List Part) × AreParts parts × (printed ps ≡ spelled parts) × (ps ≡ tokens_in parts)
 layout_spells ps h = (parts_of outside ps, parts_are outside ps h, parts_spelled outside ps, parts_tokens outside ps)

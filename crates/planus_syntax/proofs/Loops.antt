@@ -9,17 +9,14 @@ use Rattle.planus_syntax.specs.declared.parse.ParseFault.TheVariants as fault
 use Rattle.planus_syntax.specs.Reading.{Fault, Reads, optional_at, begins_mark, begins_doc, begins_next, is_some, inside, mark_at, word_at, doc_at, number_at, text_at, label_at, list_at, with_items, docs_at, dotted_at, path_at, kind_at, brackets_at, name_at, literal_at, attribute_at, next_attribute_at, attributes_at, field_at, record_at, comma_at, variant_at, next_variant_at, variants_at, enumeration_at, member_at, next_member_at, members_at, union_at, method_at, service_at, quoted_at, rooted_at, namespace_at, declared_at, as_item, statement_at, item_at, declaration_at, schema_at}
 use Rattle.planus_syntax.proofs.Many.{Looped, Takes, bind_ok, ok_is, ok, list_takes}
 
--- a choice that is Ok
 guard : {A : Type 0} (b : Bool) (x y : A) (e : Fault) → cond b (ok x) (Err e) ≡ Ok y → (b ≡ true) × (x ≡ y)
 guard true x y e h = (refl, cc)
 guard false x y e h = absurd cc
 
--- either way of a choice
 either : {A : Type 0} (b : Bool) (r s : Result A Fault) (P : Type 0) (y : A) → cond b r s ≡ Ok y → (r ≡ Ok y → P) → (s ≡ Ok y → P) → P
 either true r s P y e f g = f e
 either false r s P y e f g = g e
 
--- either way of a choice, with what the test gave
 pub chosen : {A : Type 0} (b : Bool) (r s : Result A Fault) (P : Type 0) (y : A) → cond b r s ≡ Ok y → (b ≡ true → r ≡ Ok y → P) → (s ≡ Ok y → P) → P
 chosen true r s P y e f g = f refl e
 chosen false r s P y e f g = g e
@@ -74,7 +71,6 @@ label_takes (text w ∷ ps) x e = subst (λ y. text w ∷ ps ≡ label_before y.
 label_takes (doc w ∷ ps) x e = absurd cc
 label_takes (mark b ∷ ps) x e = absurd cc
 
--- a reader leaves less than there was
 shrunk : (ps : List Piece) (p : Piece) (rest after : List Piece) → ps ≡ p ∷ rest → length after ≤ length rest → length after < length ps
 shrunk ps p rest after e h = omega (arith, ap length e)
 
@@ -169,7 +165,6 @@ next_attribute_takes ps x e =
     let a = bind_ok _ _ x e in
     mark_takes 44 ps a.0 a.1 ∙ ap (λ (r : List Piece). mark 44 ∷ r) (attribute_takes a.0 x a.2)
 
--- what stands before a list makes it no shorter
 abbrev Longer : {A : Type 0} → Before A → Type 0
 Longer {A} f = (a : A) (rest : List Piece) → length rest ≤ length (f a rest)
 
@@ -208,12 +203,10 @@ attribute_longer a rest = omega (arith, after_longer 58 literal_before literal_l
 pub attributes_looped : Looped (begins_mark 44) next_attribute_at
 attributes_looped = record { none = refl; shrinks = λ ps x e. shrunk ps _ _ x.1 (next_attribute_takes ps x e) (attribute_longer x.0 x.1) }
 
--- a first item, and those after it
 with_first : {A : Type 0} (first : A) (read : Reads (List A)) (x : List A × List Piece) → with_items (first ∷ []) read ≡ Ok x → (y : List A × List Piece) × (read ≡ Ok y) × (first ∷ y.0 ≡ x.0) × (y.1 ≡ x.1)
 with_first first (Ok y) x e = (y, refl, cc, cc)
 with_first first (Err f) x e = absurd cc
 
--- a first item and those after it are a list
 firsts : {A : Type 0} (f : Before A) (goes : List Piece → Bool) (item : List Piece → Reads A) (ps : List Piece) (a : A × List Piece) (x : List A × List Piece) → Looped goes item → Takes item (next_before f) → ps ≡ f a.0 a.1
     → with_items (a.0 ∷ []) (list_at goes item a.1) ≡ Ok x → ps ≡ list_before f x.0 x.1
 firsts f goes item ps a x l takes h e =
@@ -269,7 +262,6 @@ kind_longer : Longer kind_before
 kind_longer (single p) rest = path_longer p rest
 kind_longer (vector p) rest = omega (arith, path_longer p (mark 93 ∷ rest))
 
--- a reader that takes documentation and a word leaves less than there was
 docs_shrunk : (ps : List Piece) (docs : List (List ℕ)) (p : Piece) (rest after : List Piece) → ps ≡ docs_before docs (p ∷ rest) → length after ≤ length rest → length after < length ps
 docs_shrunk ps docs p rest after e h = omega (arith, ap length e, docs_longer docs (p ∷ rest))
 
@@ -503,7 +495,6 @@ bytes_same (x ∷ xs) (y ∷ ys) h =
     let both_hold = both (x == y) (bytes_eq xs ys) h in
     ap (λ z. z ∷ xs) (eqb-true x y both_hold.0) ∙ ap (λ z. y ∷ z) (bytes_same xs ys both_hold.1)
 
--- an item by its first word
 keyed : {A : Type 0} (make : A → ItemV) (read : List Piece → Reads A) (print : Before A) (kw key : Name) (ps : List Piece) (x : ItemV × List Piece) → Takes read print
     → ((a : A) (rest : List Piece) → word kw ∷ print a rest ≡ item_before (make a) rest)
     → bytes_eq key kw ≡ true → as_item make (read ps) ≡ Ok x → word key ∷ ps ≡ item_before x.0 x.1
@@ -596,7 +587,6 @@ pub nothing_left : (ps : List Piece) → is_some ps ≡ false → ps ≡ []
 nothing_left [] e = refl
 nothing_left (p ∷ ps) e = absurd cc
 
--- A whole schema is written as its tokens.
 pub schema_takes : (ps : List Piece) (x : List DeclarationV × List Piece) → schema_at ps ≡ Ok x → (ps ≡ schema_pieces x.0) × (x.1 ≡ [])
 unfolding schema_at
 schema_takes ps x e =

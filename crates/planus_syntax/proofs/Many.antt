@@ -8,12 +8,10 @@ use Rattle.planus_syntax.specs.declared.parse.ReadError.TheVariants as errors
 use Rattle.planus_syntax.specs.Tokens.{Piece}
 use Rattle.planus_syntax.specs.Reading.{Fault, Reads, ◌>>=◌, Fails, many, list_at, with_items}
 
--- at the end there is no item, and an item takes some tokens
 pub record Looped {A : Type 0} (goes : List Piece → Bool) (item : List Piece → Reads A) : Type 0 where
   pub none : goes [] ≡ false
   pub shrinks : (ps : List Piece) (x : A × List Piece) → item ps ≡ Ok x → length x.1 < length ps
 
--- the value of a step that did not fail
 pub bind_ok : {A B : Type 0} (r : Result A Fault) (f : A → Result B Fault) (y : B) → (r >>= f) ≡ Ok y → (x : A) × (r ≡ Ok x) × (f x ≡ Ok y)
 bind_ok (Ok x) f y e = (x, refl, e)
 bind_ok (Err d) f y e = absurd cc
@@ -24,7 +22,6 @@ ok x = Ok x
 pub ok_is : {A : Type 0} (x y : A) → ok x ≡ ok y → x ≡ y
 ok_is x y e = cc
 
--- one item and those behind it
 abbrev pub joined : {A : Type 0} → Bool → Reads A → (List Piece → Reads (List A)) → List Piece → Reads (List A)
 joined b r more ps = cond b (r >>= λ x. more x.1 >>= λ xs. Ok (x.0 ∷ xs.0, xs.1)) (Ok ([], ps))
 
@@ -47,8 +44,6 @@ unfolding list_at
 unroll goes item l [] = let e = l.none in rw e refl
 unroll goes item l (p ∷ ps) =
     same_joined (goes (p ∷ ps)) (item (p ∷ ps)) (many goes item (length ps)) (list_at goes item) (p ∷ ps) (λ x e. let s = l.shrinks (p ∷ ps) x e in same_many goes item l (length ps) (length x.1) x.1 (omega (arith, s)) (omega arith))
-
--- ---- as a loop reads them
 
 regroup : {A : Type 0} (front : List A) (x : A) (read : Reads (List A)) → with_items front (read >>= λ xs. Ok (x ∷ xs.0, xs.1)) ≡ with_items (front ++ x ∷ []) read
 regroup front x (Ok xs) = ap (λ ys. Ok (ys, xs.1)) (simp append_assoc)
@@ -80,9 +75,6 @@ is_done goes item l front ps total g so_far =
     let one : list_at goes item ps ≡ Ok ([], ps) = unroll goes item l ps ∙ ap (λ b. joined b (item ps) (list_at goes item) ps) g in
     sym so_far ∙ ap (with_items front) one ∙ ap (λ ys. Ok (ys, ps)) (append-nil front)
 
--- ---- laws
-
--- what is read was written
 abbrev pub Takes : {A : Type 0} → (List Piece → Reads A) → Before A → Type 0
 Takes {A} item print = (ps : List Piece) (x : A × List Piece) → item ps ≡ Ok x → ps ≡ print x.0 x.1
 
@@ -112,7 +104,6 @@ pub list_takes : {A : Type 0} (goes : List Piece → Bool) (item : List Piece �
 unfolding list_at
 list_takes goes item print l takes ps x e = many_take goes item print l takes (length ps) ps x (omega arith) e
 
--- what was written is read again, where what follows suits
 pub record Again {A : Type 0} (goes : List Piece → Bool) (item : List Piece → Reads A) (print : Before A) (suits : List Piece → Bool) (whole : A → Bool) : Type 0 where
   pub again : (a : A) (rest : List Piece) → whole a ≡ true → suits rest ≡ true → item (print a rest) ≡ Ok (a, rest)
   pub begins : (a : A) (rest : List Piece) → (goes (print a rest) ≡ true) × (suits (print a rest) ≡ true)

@@ -1,4 +1,4 @@
--- Facts on marks and blanks, byte by byte.
+-- Marks and blanks, byte by byte.
 use Rattle.std.proofs.Common.{◌≡◌, ℕ, List, [], ◌∷◌, ◌++◌, Bool, true, false, refl, subst, Ok}
 use Rattle.std.specs.Prelude.{not, ◌==◌, ◌||◌, codes}
 use Rattle.std.specs.List.{list_all, list_any, AllByRecursion}
@@ -7,7 +7,6 @@ use Rattle.planus_syntax.specs.Tokens.{mark, begins, is_word_byte, is_mark, is_s
 use Rattle.planus_syntax.specs.Lexing.{between, opened}
 use Rattle.planus_syntax.proofs.Scanning.{both}
 
--- what holds of each byte of a list holds of a byte that is in it
 one_of_at : (P : ℕ → Type 0) (m b : ℕ) (v more : Bool) → (m == b) ≡ v → (v || more) ≡ true → P m → (more ≡ true → P b) → P b
 one_of_at P m b true more e h here there = subst P (eqb-true m b e) here
 one_of_at P m b false more e h here there = there h
@@ -27,7 +26,6 @@ pub word_front : (w rest : List ℕ) → is_some w ≡ true → list_all is_word
 word_front [] rest s h = absurd cc
 word_front (c ∷ w) rest s h = (both (is_word_byte c) (list_all is_word_byte w) h).0
 
--- what the first byte says is said before others too
 pub front_says : (p : ℕ → Bool) (w rest : List ℕ) (v : Bool) → is_some w ≡ true → begins p w ≡ v → begins p (w ++ rest) ≡ v
 front_says p [] rest v s h = absurd cc
 front_says p (c ∷ w) rest v s h = h
@@ -36,7 +34,6 @@ pub start_some : (p : ℕ → Bool) (w : List ℕ) → begins p w ≡ true → i
 start_some p [] h = absurd cc
 start_some p (c ∷ w) h = refl
 
--- nothing goes on
 pub never : (rest : List ℕ) → begins (λ b. false) rest ≡ false
 never [] = refl
 never (b ∷ rest) = refl

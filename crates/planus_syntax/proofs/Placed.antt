@@ -1,4 +1,4 @@
--- Where tokens stand in a text.
+-- Where tokens are in a text.
 use Rattle.std.specs.Prelude.{◌==◌}
 use Rattle.std.proofs.Common.{true, ◌≡◌, ℕ, zero, suc, ◌+◌, ◌-◌, ◌<◌, ◌≤◌, List, [], ◌∷◌, ◌++◌, length, drop, refl, sym, ap, subst, ◌∙◌, append_assoc, arith, Ok, Err}
 use Rattle.std.proofs.lemmas.Bool.{eqb-true}
@@ -19,7 +19,6 @@ doc_whole bytes rest w after e f = ap (λ r. 47 ∷ 47 ∷ r) (e ∙ ap (λ r. 4
 pub comment_ends : (bytes w after : List ℕ) → bytes ≡ w ++ after → Ends (47 ∷ 47 ∷ bytes) after
 comment_ends bytes w after e = (47 ∷ 47 ∷ w, ap (λ r. 47 ∷ 47 ∷ r) e)
 
--- what ends the end of some bytes ends them
 pub ends_on : (bytes front rest after : List ℕ) → bytes ≡ front ++ rest → Ends rest after → Ends bytes after
 ends_on bytes front rest after e f = (front ++ f.0, e ∙ ap (λ r. front ++ r) f.1 ∙ sym (append_assoc front f.0 after))
 
@@ -38,7 +37,6 @@ ok ps = Ok ps
 ok_is : (a b : List Piece) → ok a ≡ ok b → a ≡ b
 ok_is a b e = cc
 
--- what has tokens has no fault
 pub not_both : (ps : List Piece) (f : LexFault × ℕ) (r : Read) → r ≡ Ok ps → r ≡ Err f → ⊥
 not_both ps f (Ok x) e g = cc
 not_both ps f (Err x) e g = cc
@@ -49,7 +47,6 @@ begun text index ps o =
     let n : 0 ≡ index - index = omega arith in
     o ∙ ap (λ k. ok (drop k ps)) n
 
--- one token off the front of those that are read
 fronted : (p : Piece) (r : Read) (ps : List Piece) → with_front (p ∷ []) r ≡ Ok ps → (qs : List Piece) × (r ≡ Ok qs) × (p ∷ qs ≡ ps)
 fronted p (Ok qs) ps e = (qs, refl, cc)
 fronted p (Err f) ps e = absurd cc
@@ -60,11 +57,9 @@ one_off p rest after ps l o = fronted p (lex_of after) ps (sym l ∙ o)
 pub none_off : (rest after : List ℕ) (ps : List Piece) → lex_of rest ≡ with_front [] (lex_of after) → lex_of rest ≡ Ok ps → lex_of after ≡ Ok ps
 none_off rest after ps l o = sym (no_front (lex_of after)) ∙ sym l ∙ o
 
--- the tokens after the first of those that are left
 pub drop_next : (n : ℕ) (ps : List Piece) (p : Piece) (qs : List Piece) → p ∷ qs ≡ drop n ps → qs ≡ drop (n + 1) ps
 drop_next n ps p qs e = ap (drop 1) e ∙ drop-drop 1 n ps
 
--- a token that was counted
 pub counted : (p : Piece) (text rest after : List ℕ) (index left : ℕ) → left < index + 1 → 0 < left → lex_of rest ≡ with_front (p ∷ []) (lex_of after)
     → ((ps : List Piece) → lex_of text ≡ Ok ps → index ≤ length ps → lex_of rest ≡ Ok (drop (index - left) ps))
     → (ps : List Piece) → lex_of text ≡ Ok ps → index ≤ length ps → lex_of after ≡ Ok (drop (index - (left - 1)) ps)
@@ -73,7 +68,6 @@ counted p text rest after index left h k l so_far ps o i =
     let e : (index - left) + 1 ≡ index - (left - 1) = omega arith in
     f.1 ∙ ap ok (drop_next (index - left) ps p f.0 f.2 ∙ ap (λ n. drop n ps) e)
 
--- the token that was sought
 pub found_at : (p : Piece) (text rest after : List ℕ) (index left : ℕ) (e : Ends text rest) → left ≡ 0 → lex_of rest ≡ with_front (p ∷ []) (lex_of after) → rest ≡ bytes_of p ++ after
     → ((ps : List Piece) → lex_of text ≡ Ok ps → index ≤ length ps → lex_of rest ≡ Ok (drop (index - left) ps))
     → (ps : List Piece) → lex_of text ≡ Ok ps → index ≤ length ps → StandsAt text ps index (length text - length rest)
@@ -98,7 +92,6 @@ drop_on ps n index e h =
     let k : n + (index - n) ≡ index = omega arith in
     ap (λ m. drop m ps) (sym k) ∙ sym (drop-drop (index - n) n ps) ∙ ap (drop (index - n)) e ∙ drop_nil (index - n)
 
--- the text ends before that token
 pub ends_at : (text rest : List ℕ) (index left : ℕ) → rest ≡ [] → left ≤ index
     → ((ps : List Piece) → lex_of text ≡ Ok ps → index ≤ length ps → lex_of rest ≡ Ok (drop (index - left) ps))
     → (ps : List Piece) → lex_of text ≡ Ok ps → index ≤ length ps → StandsAt text ps index (length text)
@@ -111,11 +104,9 @@ more_front : (xs : List Piece) (p : Piece) (r : Read) → with_front (xs ++ p �
 more_front xs p (Ok qs) = ap ok (append_assoc xs (p ∷ []) qs)
 more_front xs p (Err e) = refl
 
--- one token more is read
 pub read_more : (xs : List Piece) (p : Piece) (text rest after : List ℕ) → lex_of rest ≡ with_front (p ∷ []) (lex_of after) → with_front xs (lex_of rest) ≡ lex_of text → with_front (xs ++ p ∷ []) (lex_of after) ≡ lex_of text
 read_more xs p text rest after l h = more_front xs p (lex_of after) ∙ ap (with_front xs) (sym l) ∙ h
 
--- what has no bytes is empty
 pub empty_is : (bytes : List ℕ) → (length bytes == 0) ≡ true → bytes ≡ []
 empty_is [] h = refl
 empty_is (b ∷ bs) h = absurd (omega (arith, eqb-true (length (b ∷ bs)) 0 h))

@@ -6,7 +6,6 @@ use Rattle.std.proofs.lemmas.List.{take-append-drop}
 use Rattle.planus_syntax.specs.Tokens.{begins}
 use Rattle.planus_syntax.specs.Cutting.{Splits}
 
--- where the first that fails stands
 abbrev pub end : (ℕ → Bool) → List ℕ → ℕ
 end p xs = position_or_len (λ b. not (p b)) xs
 

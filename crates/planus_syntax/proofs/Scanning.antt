@@ -12,12 +12,10 @@ use Rattle.planus_syntax.specs.Lexing.{State, between, run, figures, quoted, sla
 use Rattle.planus_syntax.specs.Cutting.{Splits, string_stop}
 use Rattle.planus_syntax.specs.Spelled.{closes}
 
--- a test of two that holds
 pub both : (a b : Bool) → (a && b) ≡ true → (a ≡ true) × (b ≡ true)
 both true b h = (refl, h)
 both false b h = absurd cc
 
--- what follows a run
 abbrev pub after_run : Result Piece LexFault → List ℕ → Read
 after_run (Ok p) rest = with_front (p ∷ []) (lex_of rest)
 after_run (Err f) rest = Err (f, length rest)
@@ -42,7 +40,6 @@ pub no_front : (r : Read) → with_front [] r ≡ r
 no_front (Ok ps) = refl
 no_front (Err e) = refl
 
--- a run of letters and digits, or of the bytes of a number, after those of acc
 run_on : (w acc rest : List ℕ) → list_all is_word_byte w ≡ true → lex_from (run acc) (w ++ rest) ≡ lex_from (run (acc ++ w)) rest
 run_on [] acc rest h = rw append-nil refl
 run_on (c ∷ w) acc rest h =
@@ -69,7 +66,6 @@ figures_ends w (b ∷ bs) s =
     let e : step (figures w) b ≡ closed (number_piece w) (opened b) = rw s refl in
     ap (λ x. going (length (b ∷ bs)) x (λ next. lex_from next bs)) e ∙ at_byte (number_piece w) b bs
 
--- a whole word
 pub a_word : (bytes w rest : List ℕ) → Splits is_word_byte bytes w rest → begins is_word_byte bytes ≡ true → begins is_number_start bytes ≡ false → lex_of bytes ≡ with_front (word w ∷ []) (lex_of rest)
 a_word bytes [] rest split h n = absurd (let e : begins is_word_byte rest ≡ true = (sym (ap (begins is_word_byte) split.whole) ∙ h) in let f = split.stops in cc)
 a_word bytes (c ∷ w) rest split h n =
@@ -79,7 +75,6 @@ a_word bytes (c ∷ w) rest split h n =
     let one : lex_of (c ∷ (w ++ rest)) ≡ lex_from (run (c ∷ [])) (w ++ rest) = rw (f, e) (no_front (lex_from (run (c ∷ [])) (w ++ rest))) in
     ap lex_of split.whole ∙ one ∙ run_on w (c ∷ []) rest holds.1 ∙ run_ends (c ∷ w) rest split.stops
 
--- a whole run of a number
 figures_whole : (bytes w rest : List ℕ) → Splits is_number_byte bytes w rest → begins is_number_byte bytes ≡ true → begins is_number_start bytes ≡ true → lex_of bytes ≡ after_run (number_piece w) rest
 figures_whole bytes [] rest split h n = absurd (let e : begins is_number_byte rest ≡ true = (sym (ap (begins is_number_byte) split.whole) ∙ h) in let f = split.stops in cc)
 figures_whole bytes (c ∷ w) rest split h n =
@@ -101,7 +96,6 @@ string_step acc c u v e f a h =
     ap (λ q. cond q (Ok (text acc ∷ [], between)) (cond (is_string_byte c) (Ok ([], quoted (acc ++ c ∷ []))) (Err (string_fault c)))) a
     ∙ ap (λ q. cond q (Ok ([], quoted (acc ++ c ∷ []))) (Err (string_fault c))) h
 
--- a quote is no byte of a string
 no_quote_at : (c : ℕ) (v : Bool) → (c == 34) ≡ v → is_string_byte c ≡ true → (c == 34) ≡ false
 no_quote_at c true e h =
     let f : is_string_byte c ≡ false = subst (λ x. is_string_byte x ≡ false) (sym (eqb-true c 34 e)) refl in
@@ -134,7 +128,6 @@ comment_on (c ∷ w) rest h =
     let b : (c == 10) ≡ false = nots (c == 10) holds.0 in
     rw b (no_front (lex_from comment (w ++ rest)) ∙ comment_on w rest holds.1)
 
--- what ends a line is a line feed or the end
 line_at : (b : ℕ) (v : Bool) → (b == 10) ≡ v → not v ≡ false → (b == 10) ≡ true
 line_at b true e h = e
 line_at b false e h = absurd cc
@@ -151,14 +144,12 @@ comment_ends : (rest : List ℕ) → begins is_line_byte rest ≡ false → lex_
 comment_ends [] s = refl
 comment_ends (b ∷ bs) s = let e : b ≡ 10 = is_feed b s in subst (λ x. lex_from comment (x ∷ bs) ≡ lex_of (x ∷ bs)) (sym e) refl
 
--- documentation, from behind its slashes
 pub a_doc : (bytes w rest : List ℕ) → Splits is_line_byte bytes w rest → lex_from (documented []) bytes ≡ with_front (doc w ∷ []) (lex_of rest)
 a_doc bytes w rest split = ap (lex_from (documented [])) split.whole ∙ documented_on w [] rest split.each ∙ documented_ends w rest split.stops
 
 comment_whole : (w rest : List ℕ) → list_all is_line_byte w ≡ true → begins is_line_byte rest ≡ false → lex_from comment (w ++ rest) ≡ lex_of rest
 comment_whole w rest h s = comment_on w rest h ∙ comment_ends rest s
 
--- a comment, from behind its slashes: no third slash follows them
 slashes_end : (w rest : List ℕ) → list_all is_line_byte w ≡ true → begins is_line_byte rest ≡ false → begins (λ b. b == 47) (w ++ rest) ≡ false → lex_from slashes (w ++ rest) ≡ lex_of rest
 slashes_end [] [] h s n = refl
 slashes_end [] (b ∷ bs) h s n = let e : b ≡ 10 = is_feed b s in subst (λ x. lex_from slashes (x ∷ bs) ≡ lex_of (x ∷ bs)) (sym e) refl
@@ -170,7 +161,6 @@ slashes_end (c ∷ w) rest h s n =
 pub a_comment : (bytes w rest : List ℕ) → Splits is_line_byte bytes w rest → begins (λ b. b == 47) bytes ≡ false → lex_from slashes bytes ≡ lex_of rest
 a_comment bytes w rest split n = ap (lex_from slashes) split.whole ∙ slashes_end w rest split.each split.stops (sym (ap (begins (λ b. b == 47)) split.whole) ∙ n)
 
--- a string, from behind its quote
 pub a_string : (bytes w rest : List ℕ) → Splits is_string_byte bytes w (34 ∷ rest) → lex_from (quoted []) bytes ≡ with_front (text w ∷ []) (lex_of rest)
 a_string bytes w rest split = ap (lex_from (quoted [])) split.whole ∙ quoted_on w [] (34 ∷ rest) split.each
 
@@ -212,7 +202,6 @@ a_number bytes w rest split h d = figures_whole bytes w rest split (started byte
 pub no_number : (bytes w rest : List ℕ) → Splits is_number_byte bytes w rest → begins is_number_start bytes ≡ true → is_number w ≡ false → lex_of bytes ≡ Err (BadNumber, length rest)
 no_number bytes w rest split h d = figures_whole bytes w rest split (started bytes h) h ∙ ap (λ r. after_run r rest) (bad_is w d)
 
--- what follows two slashes
 pub third_slash : (rest more w after : List ℕ) → rest ≡ 47 ∷ more → Splits is_line_byte more w after → lex_from slashes rest ≡ with_front (doc w ∷ []) (lex_of after)
 third_slash rest more w after f split =
     ap (lex_from slashes) f ∙ no_front (lex_from (documented []) more) ∙ a_doc more w after split
@@ -220,7 +209,6 @@ third_slash rest more w after f split =
 pub two_slashes : (rest w after : List ℕ) → begins (λ b. b == 47) rest ≡ false → Splits is_line_byte rest w after → lex_from slashes rest ≡ with_front [] (lex_of after)
 two_slashes rest w after n split = a_comment rest w after split n ∙ sym (no_front (lex_of after))
 
--- what follows one slash
 pub slash_slash : (rest : List ℕ) → lex_of (47 ∷ 47 ∷ rest) ≡ lex_from slashes rest
 slash_slash rest = no_front (lex_from slash (47 ∷ rest)) ∙ no_front (lex_from slashes rest)
 
@@ -235,12 +223,9 @@ one_slash (b ∷ bs) n m =
     (ap (λ q. cond q (Ok ([], slashes)) (cond (b == 42) (Ok ([], block)) (Err Strange))) n
     ∙ ap (λ q. cond q (Ok ([], block)) (Err Strange)) m)
 
--- ---- comments to `*/`
-
 pub block_closes : (rest : List ℕ) → lex_from block (42 ∷ 47 ∷ rest) ≡ lex_of rest
 block_closes rest = no_front (lex_from starred (47 ∷ rest)) ∙ no_front (lex_of rest)
 
--- after a `*` that no `/` follows, a comment goes on as before it
 star_goes : (rest : List ℕ) → begins (λ c. c == 47) rest ≡ false → lex_from starred rest ≡ lex_from block rest
 star_goes [] n = refl
 star_goes (c ∷ cs) n =

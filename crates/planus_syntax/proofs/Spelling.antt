@@ -15,7 +15,6 @@ use Rattle.planus_syntax.specs.Spelled.{Part, token, blank, comment, block, part
 use Rattle.planus_syntax.proofs.Scanning.{both, no_front, a_word, a_number, started, a_string, third_slash, two_slashes, slash_slash, slash_star, block_closes, block_goes, no_number, no_string, one_slash}
 use Rattle.planus_syntax.proofs.Marks.{mark_opens, word_front, front_says, start_some, not_true, never}
 
--- a byte that is a blank is skipped
 blank_at : (P : ℕ → Type 0) (b : ℕ) (u v w x : Bool) → (b == 32) ≡ u → (b == 10) ≡ v → (b == 9) ≡ w → (b == 13) ≡ x → (u || (v || (w || x))) ≡ true → P 32 → P 10 → P 9 → P 13 → P b
 blank_at P b true v w x e f g h t p q r s = subst P (sym (eqb-true b 32 e)) p
 blank_at P b false true w x e f g h t p q r s = subst P (sym (eqb-true b 10 f)) q
@@ -64,7 +63,6 @@ and_false : (a : Bool) → (a && false) ≡ false
 and_false true = refl
 and_false false = refl
 
--- `*/` after a comment stands no earlier
 closes_on : (b : ℕ) (w rest : List ℕ) → closes (b ∷ w) ≡ false → closes (b ∷ (w ++ 42 ∷ 47 ∷ rest)) ≡ false
 closes_on b [] rest h = and_false (b == 42)
 closes_on b (c ∷ w) rest h = h
@@ -82,7 +80,6 @@ block_skips w rest h =
     ∙ ap (lex_from machine.block) (append_assoc w (42 ∷ 47 ∷ []) rest)
     ∙ block_on w rest h
 
--- However tokens are spelled, they are read.
 pub spelling_read : (parts : List Part) → AreParts parts → lex_of (spelled parts) ≡ Ok (tokens_in parts)
 spelling_read [] h = refl
 spelling_read (token p ∷ parts) h = one_part p (spelled parts) h.0 h.1 ∙ ap (with_front (p ∷ [])) (spelling_read parts h.2)
@@ -90,12 +87,9 @@ spelling_read (blank b ∷ parts) h = blank_skips b (spelled parts) h.0 ∙ spel
 spelling_read (comment w ∷ parts) h = comment_skips w (spelled parts) h.0 h.1 ∙ spelling_read parts h.2
 spelling_read (block w ∷ parts) h = block_skips w (spelled parts) h.0 ∙ spelling_read parts h.2
 
--- ---- what is read was spelled so
-
 abbrev pub Found : List ℕ → List Piece → Type 0
 Found bytes ps = (parts : List Part) × AreParts parts × (bytes ≡ spelled parts) × (ps ≡ tokens_in parts)
 
--- tokens behind one that is read
 front_ok : (p : Piece) (r : Read) (ps : List Piece) → with_front (p ∷ []) r ≡ Ok ps → (qs : List Piece) × (r ≡ Ok qs) × (p ∷ qs ≡ ps)
 front_ok p (Ok qs) ps e = (qs, refl, cc)
 front_ok p (Err f) ps e = absurd cc
@@ -103,7 +97,6 @@ front_ok p (Err f) ps e = absurd cc
 shorter : (bytes front rest : List ℕ) → bytes ≡ front ++ rest → 0 < length front → (n : ℕ) → length bytes ≤ suc n → length rest ≤ n
 shorter bytes front rest e h n le = omega (arith, length-append front rest, ap length e)
 
--- a token, and what was found behind it
 token_found : (p : Piece) (bytes rest : List ℕ) (ps : List Piece) → is_lawful p ≡ true → begins (goes_on (token p)) rest ≡ false → bytes ≡ bytes_of p ++ rest → lex_of bytes ≡ with_front (p ∷ []) (lex_of rest) → lex_of bytes ≡ Ok ps
     → ((qs : List Piece) → lex_of rest ≡ Ok qs → Found rest qs) → Found bytes ps
 token_found p bytes rest ps h s e l o again =
@@ -131,7 +124,6 @@ all_and a b c e f g = rw (e, f, g) refl
 all_two : (a b : Bool) → a ≡ true → b ≡ true → (a && b) ≡ true
 all_two a b e f = rw (e, f) refl
 
--- what is found in shorter texts
 abbrev Below : ℕ → Type 0
 Below n = (rest : List ℕ) (qs : List Piece) → length rest ≤ n → lex_of rest ≡ Ok qs → Found rest qs
 
@@ -183,7 +175,6 @@ second_found n rest ps false e le o below =
     skip_found (comment w) (47 ∷ 47 ∷ rest) after ps (λ qs. refl) lawful split.stops (ap (λ r. 47 ∷ 47 ∷ r) split.whole)
     (below after ps (omega (arith, ap length split.whole, length-append w after)) (sym (slash_slash rest ∙ two_slashes rest w after e split ∙ no_front (lex_of after)) ∙ o))
 
--- a comment that was read has an end
 abbrev Closed : List ℕ → List Piece → Type 0
 Closed bytes ps = (w : List ℕ) × (rest : List ℕ) × (bytes ≡ w ++ 42 ∷ 47 ∷ rest) × (stays_open w ≡ true) × (lex_of rest ≡ Ok ps)
 
@@ -254,6 +245,5 @@ found_below zero (b ∷ bs) ps le o = absurd (omega arith)
 found_below (suc n) [] ps le o = ([], tt, refl, nil_is ps o)
 found_below (suc n) (b ∷ bs) ps le o = class_found n b bs ps (is_number_start b) (is_word_byte b) (is_blank b) (is_mark b) (b == 34) (b == 47) refl refl refl refl refl refl (omega arith) o (found_below n)
 
--- What is read was spelled so.
 pub spelling_found : (bytes : List ℕ) (ps : List Piece) → lex_of bytes ≡ Ok ps → Found bytes ps
 spelling_found bytes ps o = found_below (length bytes) bytes ps (omega arith) o

@@ -4,24 +4,18 @@ use Rattle.planus_syntax.specs.declared.parse.ReadError.{ReadError}
 use Rattle.planus_syntax.specs.declared.parse.ReadError.TheVariants as errors
 use Rattle.planus_syntax.specs.Reading.{Fault, ◌>>=◌, Fails, Gives}
 
--- the next step fails
 pub fails_here : {A B : Type 0} (e : ReadError) (r : Result A Fault) (f : A → Result B Fault) → Fails e r → Fails e (r >>= f)
 fails_here errors.OutOfMemory r f h = tt
 fails_here (errors.Fault k left) r f h = ap (λ x. x >>= f) h
 
--- the next step reads x, and one after it fails
 pub fails_later : {A B : Type 0} (e : ReadError) (r : Result A Fault) (f : A → Result B Fault) (x : A) → r ≡ Ok x → Fails e (f x) → Fails e (r >>= f)
 fails_later e r f x h k = subst (λ y. Fails e (y >>= f)) (sym h) k
 
--- the next step reads x, and those after it come to y
 pub reads_on : {A B : Type 0} (r : Result A Fault) (f : A → Result B Fault) (x : A) (y : Result B Fault) → r ≡ Ok x → f x ≡ y → (r >>= f) ≡ y
 reads_on r f x y h k = ap (λ z. z >>= f) h ∙ k
 
--- the next step reads x, and a call gives the rest
 pub gives_later : {A B X : Type 0} (view : X → B) (result : Result X ReadError) (r : Result A Fault) (f : A → Result B Fault) (x : A) → r ≡ Ok x → Gives view result (f x) → Gives view result (r >>= f)
 gives_later view result r f x h k = subst (λ y. Gives view result (y >>= f)) (sym h) k
-
--- ---- one of two ways
 
 pub first_way : {A : Type 0} (b : Bool) (x y : A) → b ≡ true → cond b x y ≡ x
 first_way b x y h = rw h refl

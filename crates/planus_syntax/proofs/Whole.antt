@@ -9,7 +9,6 @@ use Rattle.planus_syntax.specs.Reading.{Reads, ◌>>=◌, many, list_at, with_it
 use Rattle.planus_syntax.proofs.Many.{bind_ok, ok_is, joined}
 use Rattle.planus_syntax.proofs.Loops.{chosen}
 
--- whatever is read has this
 abbrev pub Makes : {A : Type 0} → (List Piece → Reads A) → (A → Bool) → Type 0
 Makes {A} item p = (ps : List Piece) (x : A × List Piece) → item ps ≡ Ok x → p x.0 ≡ true
 

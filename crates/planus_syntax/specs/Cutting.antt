@@ -21,20 +21,18 @@ cut_piece (token.Text w) = text w.now
 cut_piece (token.Doc w) = doc w.now
 cut_piece (token.Mark b) = mark b
 
--- the bytes of a run
 abbrev pub in_run : Run → ℕ → Bool
 in_run run.Word = is_word_byte
 in_run run.Number = is_number_byte
 in_run run.Text = is_string_byte
 in_run run.Line = is_line_byte
 
--- a front all of whose bytes pass, and a rest that does not go on so
+-- a front whose bytes all pass, and the rest, whose first byte does not
 pub record Splits (p : ℕ → Bool) (bytes front rest : List ℕ) : Type 0 where
   pub whole : bytes ≡ front ++ rest
   pub each : list_all p front ≡ true
   pub stops : begins p rest ≡ false
 
--- the rest ends the bytes
 abbrev pub Ends : List ℕ → List ℕ → Type 0
 Ends bytes rest = (front : List ℕ) × (bytes ≡ front ++ rest)
 
@@ -47,7 +45,7 @@ abbrev pub pieces_in : Option Lexeme → List Piece
 pieces_in None = []
 pieces_in (Some t) = cut_piece t ∷ []
 
--- what is read is this token, if there is one, and what is read of the rest
+-- the token at the front, if there is one, before the tokens of the rest
 abbrev pub Cuts : List ℕ → Result (Option Lexeme × Bor (List ℕ)) Stop → Type 0
 Cuts bytes (Ok x) = lex_of bytes ≡ with_front (pieces_in x.0) (lex_of x.1.now)
 Cuts bytes (Err stop) = lex_of bytes ≡ Err (stop.fault, stop.left)
@@ -57,7 +55,7 @@ abbrev pub string_stop : List ℕ → LexFault
 string_stop [] = OpenString
 string_stop (b ∷ bs) = string_fault b
 
--- a comment or documentation, of which `read` is what is read
+-- a comment or documentation; `read` is what is read with it
 abbrev pub Skips : Read → Result (Bor (List ℕ)) Stop → Type 0
 Skips read (Ok rest) = read ≡ lex_of rest.now
 Skips read (Err stop) = read ≡ Err (stop.fault, stop.left)

@@ -1,4 +1,4 @@
--- How the tokens of a schema are set out in lines: the canonical text.
+-- The canonical layout: the gaps between a schema's tokens.
 use Rattle.std.specs.Prelude.{ℕ, Bool, true, false, ◌==◌, ◌&&◌, ◌||◌, not, List, [], ◌∷◌, ◌++◌}
 use Rattle.std.specs.Prelude.{codes, if◌then◌else◌}
 use Rattle.std.specs.List.{list_any}
@@ -6,7 +6,6 @@ use Rattle.std.specs.Str.{bytes_eq}
 use Rattle.planus_syntax.specs.declared.layout.Place.{Place}
 use Rattle.planus_syntax.specs.Tokens.{Piece, word, number, text, doc, mark, bytes_of}
 
--- a mark that this one is
 abbrev pub is_mark_of : ℕ → Piece → Bool
 is_mark_of m (word w) = false
 is_mark_of m (number w) = false
@@ -14,7 +13,7 @@ is_mark_of m (text w) = false
 is_mark_of m (doc w) = false
 is_mark_of m (mark b) = b == m
 
--- whether a token stands in braces, and whether in parentheses
+-- whether a token is in braces, and in parentheses
 abbrev pub place_after : Place → Piece → Place
 place_after p (word w) = p
 place_after p (number w) = p
@@ -45,7 +44,6 @@ is_tight_piece (text w) = false
 is_tight_piece (doc w) = false
 is_tight_piece (mark b) = is_tight b
 
--- two tokens with nothing between them
 abbrev pub is_glued : Piece → Piece → Bool
 is_glued (word w) q = is_tight_piece q || is_mark_of 46 q
 is_glued (number w) q = is_tight_piece q
@@ -53,7 +51,7 @@ is_glued (text w) q = is_tight_piece q
 is_glued (doc w) q = false
 is_glued (mark b) q = is_open b || is_tight_piece q
 
--- words whose statements stand together
+-- words whose statements follow each other without an empty line
 abbrev pub is_grouped : Piece → Bool
 is_grouped (word w) =
     bytes_eq w (codes "include") || (bytes_eq w (codes "attribute")
@@ -66,15 +64,14 @@ is_grouped (mark b) = false
 abbrev pub new_line : Place → Piece → List ℕ
 new_line p q = if p.braces && not (is_mark_of 125 q) then codes "\n  " else codes "\n"
 
--- between declarations: an empty line, but for statements that stand together
+-- an empty line, but for grouped statements
 abbrev pub between_declarations : Piece → List ℕ
 between_declarations q = if is_grouped q then codes "\n" else codes "\n\n"
 
 abbrev pub spaced : Piece → List ℕ
 spaced q = if is_mark_of 125 q then codes "\n" else codes " "
 
--- Between a mark and the next token, at the place after the mark: a new line after `{`, and in
--- braces after `;` and after the `,` of a list that no parentheses hold.
+-- after a mark: a new line after `{`, and in braces after `;` and after a `,` outside parentheses
 abbrev pub after_mark : Place → ℕ → Piece → List ℕ
 after_mark p b q =
     if b == 125 then codes "\n\n"
@@ -82,7 +79,6 @@ after_mark p b q =
     else if b == 123 || (b == 44 && not p.parentheses) then new_line p q
     else spaced q
 
--- what stands between two tokens that aren't glued
 abbrev pub apart : Place → Piece → Piece → List ℕ
 apart p (word w) q = spaced q
 apart p (number w) q = spaced q
@@ -93,7 +89,7 @@ apart p (mark b) q = after_mark p b q
 abbrev pub gap : Place → Piece → Piece → List ℕ
 gap p a q = if is_glued a q then [] else apart p a q
 
--- between a token and what follows it; the text ends with a line feed
+-- between a token and the next; the text ends with a line feed
 abbrev pub gap_before : Place → Piece → List Piece → List ℕ
 gap_before p a [] = codes "\n"
 gap_before p a (q ∷ qs) = gap p a q
@@ -103,6 +99,5 @@ laid_out p [] = []
 laid_out p (a ∷ qs) =
     bytes_of a ++ (gap_before (place_after p a) a qs ++ laid_out (place_after p a) qs)
 
--- the text of these tokens
 abbrev pub printed : List Piece → List ℕ
 printed ps = laid_out outside ps

@@ -1,4 +1,4 @@
--- The tokens of a text: a machine that takes one byte after the other.
+-- The tokens of a text: a machine that takes a byte at a time.
 use Rattle.std.specs.Prelude.{◌≡◌, ℕ, ◌==◌, ◌+◌, List, [], ◌∷◌, ◌++◌, length, if◌then◌else◌, Result}
 use Rattle.std.specs.Prelude.{Ok, Err}
 use Rattle.std.specs.Global.{Vec}
@@ -12,9 +12,8 @@ use Rattle.planus_syntax.specs.Tokens.{Piece, word, number, text, doc, mark, pie
 use Rattle.planus_syntax.specs.Tokens.{is_word_byte, is_number_start, is_number_byte, is_number}
 use Rattle.planus_syntax.specs.Tokens.{is_blank, is_mark, is_string_byte}
 
--- where the machine stands: between tokens; in a word, a number, a string or documentation, with
--- the bytes so far; after one or two slashes; in a comment to the end of the line; in a comment
--- to `*/`, and there after a `*`
+-- between tokens; in a word, a number, a string or documentation, with the bytes so far; after one
+-- or two slashes; in a comment to the end of the line; in a comment to `*/`, and there after a `*`
 pub data State : Type 0 where
   between : State
   run : List ℕ → State
@@ -27,14 +26,13 @@ pub data State : Type 0 where
   block : State
   starred : State
 
--- what a byte leads to: tokens that are whole now, and the next state
+-- the tokens that a byte completes, and the next state
 abbrev pub Step : Type 0
 Step = Result (List Piece × State) LexFault
 
 abbrev pub number_piece : List ℕ → Result Piece LexFault
 number_piece w = if is_number w then Ok (number w) else Err BadNumber
 
--- a byte that begins something
 abbrev pub opened : ℕ → Step
 opened b =
     if is_number_start b then Ok ([], figures (b ∷ []))
@@ -95,7 +93,7 @@ finished (documented w) = Ok (doc w ∷ [], between)
 finished block = Err OpenComment
 finished starred = Err OpenComment
 
--- the tokens, or a fault and how many bytes are left where it is met
+-- the tokens, or the first error and how many bytes are left there
 abbrev pub Read : Type 0
 Read = Result (List Piece) (LexFault × ℕ)
 
@@ -114,7 +112,7 @@ lex_from s (b ∷ bs) = going (length (b ∷ bs)) (step s b) (λ next. lex_from 
 abbrev pub lex_of : List ℕ → Read
 lex_of bytes = lex_from between bytes
 
--- what the code answers, of a text of this length
+-- the result for a text of this length
 abbrev pub Answers : ℕ → Result (Vec Token) LexError → Read → Type 0
 Answers len (Ok tokens) read = read ≡ Ok (pieces_of tokens.items)
 Answers len (Err errors.OutOfMemory) read = Unit {0}

@@ -1,4 +1,4 @@
--- What the public functions answer.
+-- Results of the public functions.
 use Rattle.std.specs.Prelude.{◌≡◌, ℕ, ◌-◌, ◌+◌, ◌≤◌, List, [], length, Result, Ok, Err}
 use Rattle.std.specs.Global.{Vec}
 use Rattle.planus_syntax.specs.declared.value.Declaration.{Declaration}
@@ -14,12 +14,12 @@ use Rattle.planus_syntax.specs.Reading.{Reads, schema_at}
 use Rattle.planus_syntax.specs.Lexing.{lex_of}
 use Rattle.planus_syntax.specs.Placing.{StandsAt}
 
--- A text spells a schema: it is the schema's tokens, with blanks and comments between them.
+-- The text is the schema's tokens, with blanks and comments between them.
 abbrev pub Spells : List ℕ → List DeclarationV → Type 0
 Spells text schema = (parts : List Part) × AreParts parts × (text ≡ spelled parts)
     × (schema_pieces schema ≡ tokens_in parts)
 
--- the answer is this schema, unless memory was refused
+-- this schema, or memory was refused
 abbrev pub ParsesTo : List DeclarationV → Result (Vec Declaration) ParseError → Type 0
 ParsesTo ds (Ok v) = schema_of v.items ≡ ds
 ParsesTo ds (Err errors.OutOfMemory) = Unit {0}
@@ -32,7 +32,6 @@ AnswersParse len (Err errors.OutOfMemory) read = Unit {0}
 AnswersParse len (Err (errors.Fault fault index)) read =
     (left : ℕ) × (read ≡ Err (fault, left)) × (index ≡ len - left)
 
--- only memory was refused
 abbrev pub IsRefusal : SchemaError → Type 0
 IsRefusal whole.OutOfMemory = Unit {0}
 IsRefusal (whole.Token fault at) = ⊥
@@ -51,7 +50,7 @@ abbrev pub TextReadsTo : List DeclarationV → Result (Vec Token × Vec Declarat
 TextReadsTo ds (Ok x) = schema_of x.1.items ≡ ds
 TextReadsTo ds (Err e) = IsRefusal e
 
--- The tokens of this text, or of its declarations, have this fault, here.
+-- The tokens of the text, or of its declarations, have this error at this place.
 abbrev pub IsFaultOf : List ℕ → SchemaError → Type 0
 IsFaultOf text whole.OutOfMemory = Unit {0}
 IsFaultOf text (whole.Token fault at) =
@@ -60,7 +59,6 @@ IsFaultOf text (whole.Declaration fault index at) =
     (ps : List Piece) × (left : ℕ) × (lex_of text ≡ Ok ps) × (schema_at ps ≡ Err (fault, left))
     × (index ≡ length ps - left) × StandsAt text ps index at
 
--- the place of the fault lies in a text of this length
 abbrev pub LiesIn : ℕ → SchemaError → Type 0
 LiesIn len whole.OutOfMemory = Unit {0}
 LiesIn len (whole.Token fault at) = at ≤ len

@@ -1,4 +1,4 @@
--- Reading tokens from left to right, with the first fault that is met, and how many tokens are left
+-- Reading tokens from left to right: a value, or the first error and how many tokens are left
 -- there.
 use Rattle.std.specs.Prelude.{◌≡◌, ℕ, zero, suc, Bool, true, false, not, ◌&&◌, ◌==◌, List, [], ◌∷◌}
 use Rattle.std.specs.Prelude.{◌++◌, length, codes, Option, Some, None, Result, Ok, Err}
@@ -29,7 +29,7 @@ abbrev pub ◌>>=◌ : {A B : Type 0} → Result A Fault → (A → Result B Fau
 (Ok x) >>= f = f x
 (Err e) >>= f = Err e
 
--- what a function returned, seen by view, is what reading gives, unless memory was refused
+-- the result equals what reading gives, or memory was refused
 abbrev pub Fails : {Y : Type 0} → ReadError → Result Y Fault → Type 0
 Fails errors.OutOfMemory read = Unit {0}
 Fails (errors.Fault f left) read = read ≡ Err (f, left)
@@ -37,8 +37,6 @@ Fails (errors.Fault f left) read = read ≡ Err (f, left)
 abbrev pub Gives : {X Y : Type 0} → (X → Y) → Result X ReadError → Result Y Fault → Type 0
 Gives view (Ok x) read = read ≡ Ok (view x)
 Gives view (Err e) read = Fails e read
-
--- ---- single tokens
 
 abbrev pub begins_mark : ℕ → List Piece → Bool
 begins_mark m [] = false
@@ -60,7 +58,6 @@ begins_text (text w ∷ ps) = true
 begins_text (doc w ∷ ps) = false
 begins_text (mark b ∷ ps) = false
 
--- a comma, and not a closing brace after it
 abbrev pub begins_next : List Piece → Bool
 begins_next [] = false
 begins_next (p ∷ ps) = is_mark_of 44 p && not (begins_mark 125 ps)
@@ -69,7 +66,6 @@ abbrev pub is_some : List Piece → Bool
 is_some [] = false
 is_some (p ∷ ps) = true
 
--- inside braces
 abbrev pub inside : List Piece → Bool
 inside [] = false
 inside (p ∷ ps) = not (is_mark_of 125 p)
@@ -118,9 +114,7 @@ label_at (text w ∷ ps) = Ok (record { quoted = true; name = w }, ps)
 label_at (doc w ∷ ps) = Err (fault.Word, suc (length ps))
 label_at (mark b ∷ ps) = Err (fault.Word, suc (length ps))
 
--- ---- lists
-
--- items as long as the test holds; n bounds how many
+-- items while the test holds, at most n
 abbrev pub many : {A : Type 0} → (List Piece → Bool) → (List Piece → Reads A) → ℕ → List Piece
     → Reads (List A)
 many goes item zero ps = Ok ([], ps)
@@ -132,14 +126,11 @@ unfoldable pub list_at : {A : Type 0} → (List Piece → Bool) → (List Piece 
     → Reads (List A)
 list_at goes item ps = many goes item (length ps) ps
 
--- with items that were read before
 abbrev pub with_items : {A : Type 0} → List A → Reads (List A) → Reads (List A)
 with_items front read = read >>= λ x. Ok (front ++ x.0, x.1)
 
 abbrev pub docs_at : List Piece → Reads (List (List ℕ))
 docs_at ps = list_at begins_doc doc_at ps
-
--- ---- names and values
 
 unfoldable pub dotted_at : List Piece → Reads Name
 dotted_at ps = mark_at 46 ps >>= λ dot. word_at dot
@@ -175,7 +166,7 @@ literal_at (doc w ∷ ps) = Err (fault.Literal, suc (length ps))
 literal_at (mark b ∷ ps) =
     if b == 91 then brackets_at (mark b ∷ ps) else Err (fault.Literal, suc (length ps))
 
--- what follows a mark, where the mark stands first
+-- what follows a mark, if the mark is first
 unfoldable pub optional_at : {A : Type 0} → ℕ → (List Piece → Reads A) → List Piece
     → Reads (Option A)
 optional_at m item ps = if begins_mark m ps then (do
@@ -199,8 +190,6 @@ attributes_at ps = if begins_mark 40 ps then (do
   all ← with_items (first.0 ∷ []) (list_at (begins_mark 44) next_attribute_at first.1)
   end ← mark_at 41 all.1
   Ok (all.0, end)) else Ok ([], ps)
-
--- ---- tables and structs
 
 unfoldable pub field_at : List Piece → Reads FieldV
 field_at ps = do
@@ -231,9 +220,6 @@ record_at ps = do
   end ← mark_at 125 fields.1
   Ok (record { name = name.0; attributes = attributes.0; fields = fields.0 }, end)
 
--- ---- enums and unions
-
--- a comma, or none
 unfoldable pub comma_at : List Piece → Reads Bool
 comma_at ps =
     if begins_mark 44 ps then (mark_at 44 ps >>= λ end. Ok (true, end)) else Ok (false, ps)
@@ -308,8 +294,6 @@ union_at ps = do
     end,
   )
 
--- ---- services
-
 unfoldable pub method_at : List Piece → Reads MethodV
 method_at ps = do
   docs ← docs_at ps
@@ -340,8 +324,6 @@ service_at ps = do
   end ← mark_at 125 methods.1
   Ok (record { name = name.0; methods = methods.0 }, end)
 
--- ---- statements
-
 unfoldable pub quoted_at : List Piece → Reads (List ℕ)
 quoted_at ps = do
   string ← text_at ps
@@ -365,13 +347,10 @@ declared_at ps = do
   end ← mark_at 59 label.1
   Ok (label.0, end)
 
--- ---- declarations
-
--- what an item holds
 abbrev pub as_item : {A : Type 0} → (A → ItemV) → Reads A → Reads ItemV
 as_item make read = read >>= λ x. Ok (make x.0, x.1)
 
--- after its first word; `left` counts the tokens from that word on
+-- `left` counts the tokens from the statement's first word
 unfoldable pub statement_at : Name → ℕ → List Piece → Reads ItemV
 statement_at key left ps =
     if bytes_eq key (codes "include") then as_item include (quoted_at ps)

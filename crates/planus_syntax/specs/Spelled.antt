@@ -18,12 +18,10 @@ part_bytes (blank b) = b ∷ []
 part_bytes (comment w) = 47 ∷ 47 ∷ w
 part_bytes (block w) = 47 ∷ 42 ∷ (w ++ 42 ∷ 47 ∷ [])
 
--- `*/` stands at the front
 abbrev pub closes : List ℕ → Bool
 closes [] = false
 closes (b ∷ bs) = b == 42 && begins (λ c. c == 47) bs
 
--- no `*/` in it
 abbrev pub stays_open : List ℕ → Bool
 stays_open [] = true
 stays_open (b ∷ bs) = not (closes (b ∷ bs)) && stays_open bs
@@ -34,8 +32,8 @@ is_part (blank b) = is_blank b
 is_part (comment w) = list_all is_line_byte w && not (begins (λ b. b == 47) w)
 is_part (block w) = stays_open w
 
--- what goes on in a token does not stand after it: a word goes on with letters and digits, a
--- number with these, points and signs, documentation and a comment to the end of the line
+-- bytes that would lengthen a token and so can't follow it: letters and digits a word, these,
+-- points and signs a number, any but a line feed documentation and comments
 abbrev pub goes_on : Part → ℕ → Bool
 goes_on (token (word w)) b = is_word_byte b
 goes_on (token (number w)) b = is_number_byte b

@@ -1,4 +1,4 @@
--- What the tokens of a schema are, and how each is written.
+-- The tokens of a schema, and how each is written.
 use Rattle.std.specs.Prelude.{ℕ, Bool, true, false, ◌==◌, ◌&&◌, ◌||◌, not, List, [], ◌∷◌, ◌++◌, map}
 use Rattle.std.specs.Prelude.{codes, if◌then◌else◌, fold}
 use Rattle.std.specs.List.{list_all, list_any}
@@ -13,7 +13,7 @@ use Rattle.planus_syntax.specs.declared.number.NumberState.TheVariants.{HexDigit
 use Rattle.planus_syntax.specs.declared.token.Token.{Token}
 use Rattle.planus_syntax.specs.declared.token.Token.TheVariants as token
 
--- a token: an identifier or keyword, a number, a string, a line of documentation, a mark
+-- an identifier or keyword, a number, a string, a line of documentation, a mark
 pub data Piece : Type 0 where
   word : List ℕ → Piece
   number : List ℕ → Piece
@@ -33,20 +33,17 @@ pieces_of tokens = map piece_of tokens
 
 -- ---- bytes
 
--- the first byte passes; no byte does where there is none
+-- the first byte passes; false where there is none
 abbrev pub begins : (ℕ → Bool) → List ℕ → Bool
 begins p [] = false
 begins p (b ∷ bs) = p b
 
--- letters, digits and `_`
 abbrev pub is_word_byte : ℕ → Bool
 is_word_byte b = is_ascii_alphabetic b || (is_ascii_digit b || b == 95)
 
--- a digit or a sign
 abbrev pub is_number_start : ℕ → Bool
 is_number_start b = is_ascii_digit b || (b == 43 || b == 45)
 
--- letters, digits, `_`, `.` and signs
 abbrev pub is_number_byte : ℕ → Bool
 is_number_byte b = is_word_byte b || (b == 46 || (b == 43 || b == 45))
 
@@ -56,7 +53,7 @@ is_blank b = b == 32 || (b == 10 || (b == 9 || b == 13))
 abbrev pub is_mark : ℕ → Bool
 is_mark b = list_any (λ m. m == b) (codes "{}()[]:;,=.")
 
--- within a string: no quote, no backslash, no line feed
+-- no quote, no backslash, no line feed
 abbrev pub is_string_byte : ℕ → Bool
 is_string_byte b = not (b == 34 || (b == 92 || b == 10))
 
@@ -75,8 +72,8 @@ digits_after state b =
 abbrev pub first_digit : ℕ → NumberState
 first_digit b = if b == 48 then Zero else if is_ascii_digit b then Digits else Wrong
 
--- Reading a number from the left: a sign or none; then `0x` and hexadecimal digits, or digits, a
--- point and digits or none, and an exponent or none.
+-- A number: a sign or none; then `0x` and hexadecimal digits, or digits, a point and digits or
+-- none, and an exponent or none.
 abbrev pub number_step : NumberState → ℕ → NumberState
 number_step Start b = if b == 43 || b == 45 then Sign else first_digit b
 number_step Sign b = first_digit b

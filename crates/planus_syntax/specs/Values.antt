@@ -1,5 +1,4 @@
--- A schema, and the tokens that it is written as. `x_before v rest` is the tokens of v, and then
--- the tokens of rest.
+-- A schema, and its tokens. `x_before v rest` is the tokens of v before those of rest.
 use Rattle.std.specs.Prelude.{◌≡◌, ℕ, Bool, true, false, List, [], ◌∷◌, map, codes, Option, Some}
 use Rattle.std.specs.Prelude.{None}
 use Rattle.std.specs.List.{AllByRecursion}
@@ -31,7 +30,7 @@ use Rattle.planus_syntax.specs.Layout.{printed}
 abbrev pub Name : Type 0
 Name = List ℕ
 
--- a name of one or more words, with dots between them
+-- one or more words with dots between them
 pub record PathV : Type 0 where
   pub first : Name
   pub more : List Name
@@ -72,7 +71,7 @@ pub record VariantV : Type 0 where
   pub name : Name
   pub value : Option (List ℕ)
 
--- `comma`: a comma stands after the last variant
+-- `comma`: a comma follows the last variant
 pub record EnumerationV : Type 0 where
   pub name : Name
   pub base : PathV
@@ -125,7 +124,6 @@ pub record DeclarationV : Type 0 where
 abbrev pub Before : Type 0 → Type 0
 Before A = A → List Piece → List Piece
 
--- one after the other
 abbrev pub each_before : {A : Type 0} → Before A → List A → List Piece → List Piece
 each_before f [] rest = rest
 each_before f (x ∷ xs) rest = f x (each_before f xs rest)
@@ -152,7 +150,6 @@ literal_before (named p) rest = path_before p rest
 literal_before (quote w) rest = text w ∷ rest
 literal_before nothing rest = mark 91 ∷ mark 93 ∷ rest
 
--- a value after this mark, if there is one
 abbrev pub after_before : {A : Type 0} → ℕ → Before A → Before (Option A)
 after_before m f None rest = rest
 after_before m f (Some x) rest = mark m ∷ f x rest
@@ -170,7 +167,6 @@ label_before l rest = label_piece l.quoted l.name ∷ rest
 abbrev pub attribute_before : Before AttributeV
 attribute_before a rest = label_before a.label (after_before 58 literal_before a.value rest)
 
--- an item after a comma
 abbrev pub next_before : {A : Type 0} → Before A → Before A
 next_before f x rest = mark 44 ∷ f x rest
 
@@ -193,12 +189,10 @@ abbrev pub variant_before : Before VariantV
 variant_before v rest =
     docs_before v.docs (word v.name ∷ after_before 61 number_before v.value rest)
 
--- items with commas between them
 abbrev pub list_before : {A : Type 0} → Before A → Before (List A)
 list_before f [] rest = rest
 list_before f (x ∷ more) rest = f x (each_before (next_before f) more rest)
 
--- a comma after the last, or none
 abbrev pub comma_before : Before Bool
 comma_before true rest = mark 44 ∷ rest
 comma_before false rest = rest
@@ -227,7 +221,6 @@ abbrev pub service_before : Before ServiceV
 service_before s rest =
     word s.name ∷ mark 123 ∷ each_before method_before s.methods (mark 125 ∷ rest)
 
--- statements, after their first word
 abbrev pub quoted_before : Before (List ℕ)
 quoted_before w rest = text w ∷ mark 59 ∷ rest
 
@@ -292,7 +285,7 @@ IsSchema ds = AreWhole ds × AllByRecursion (λ p. is_lawful p ≡ true) (schema
 abbrev pub text_of : List DeclarationV → List ℕ
 text_of ds = printed (schema_pieces ds)
 
--- ---- what the code holds
+-- ---- the code's values
 
 abbrev pub names_of : List (Vec ℕ) → List (List ℕ)
 names_of ws = map (λ w. w.items) ws

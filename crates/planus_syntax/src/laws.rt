@@ -35,7 +35,7 @@ pub fn spelling_read()
         → lex_of (spelled parts) ≡ Ok (tokens_in parts) }
 {}
 
-/// What is read was spelled so.
+/// Tokens that are read were spelled by the text.
 pub fn spelling_found()
     ensures { (bytes : List ℕ) (pieces : List Piece) → lex_of bytes ≡ Ok pieces
         → (parts : List Part) × AreParts parts × (bytes ≡ spelled parts)

@@ -15,7 +15,6 @@ ghost use Rattle.planus_syntax.specs.Layout.{printed};
 use crate::token::Token;
 use std::alloc::{AllocError, Global};
 
-/// Whether a token stands in braces, and whether in parentheses.
 #[derive(Clone, Copy)]
 pub(crate) struct Place {
     pub braces: bool,
@@ -158,7 +157,6 @@ fn apart(place: Place, first: &Token, next: &Token) -> &'static [u8]
     }
 }
 
-/// Returns what stands between a token and those that follow it, at the place after it.
 fn gap_before(place: Place, token: &Token, rest: &[Token]) -> &'static [u8]
     ensures { result.now ≡ gap_before_lem place (piece_of token.now) (pieces_of rest.now) }
 {
@@ -196,7 +194,6 @@ fn put_token(out: &mut Vec<u8>, token: &Token) -> Result<(), AllocError>
     }
 }
 
-/// Returns the text of the tokens in their canonical layout.
 pub(crate) fn print_tokens(alloc: Global, tokens: &[Token]) -> Result<Vec<u8>, AllocError>
     ensures { IfOk result (λ out. out.items ≡ printed (pieces_of tokens.now)) }
 {

@@ -22,14 +22,14 @@ use crate::run::Run;
 use crate::token::{Lexeme, Token};
 use std::alloc::{AllocError, AllocFailed, Global};
 
-/// What is wrong with a text.
+/// An error in the text of a token.
 #[derive(Clone, Copy)]
 pub enum LexFault {
-    /// What begins with a digit or a sign is no number. It ends here.
+    /// A word that begins with a digit or a sign is no number. The place is its end.
     BadNumber,
     /// A string has no end on its line.
     OpenString,
-    /// A backslash stands in a string.
+    /// A backslash is in a string.
     Escape,
     /// A comment has no `*/`.
     OpenComment,
@@ -37,12 +37,10 @@ pub enum LexFault {
     Strange,
 }
 
-/// Why a text has no tokens.
 #[derive(Clone, Copy)]
 pub(crate) enum LexError {
-    /// Memory was refused.
     OutOfMemory,
-    /// The first fault, and how many bytes of the text stand before the place where it is met.
+    /// `at` is the place in bytes from the text's start.
     Fault { fault: LexFault, at: usize },
 }
 
@@ -109,7 +107,6 @@ fn goes_on(run: Run, b: u8) -> bool
     }
 }
 
-/// Cuts after the bytes of a run at the front.
 fn split(run: Run, bytes: &[u8]) -> (&[u8], &[u8])
     ensures { Splits (in_run run) bytes.now result.0.now result.1.now }
 {
@@ -123,7 +120,6 @@ fn split(run: Run, bytes: &[u8]) -> (&[u8], &[u8])
     (bytes, &[])
 }
 
-/// Returns what follows this byte, if it stands at the front.
 fn after(bytes: &[u8], byte: u8) -> Option<&[u8]>
     ensures { MatchOption result (begins (λ b. b == byte) bytes.now ≡ false)
         (λ rest. bytes.now ≡ byte ∷ rest.now) }
@@ -134,14 +130,13 @@ fn after(bytes: &[u8], byte: u8) -> Option<&[u8]>
     }
 }
 
-/// A fault, and how many bytes are left where it is met.
+/// `left` counts the bytes from the error's place to the text's end.
 #[derive(Clone, Copy)]
 struct Stop {
     fault: LexFault,
     left: usize,
 }
 
-/// Reads a word.
 fn word_at(bytes: &[u8]) -> (Option<Lexeme>, &[u8])
     requires start { begins is_word_byte_lem bytes.now ≡ true }
     requires letter { begins is_number_start_lem bytes.now ≡ false }
@@ -153,7 +148,6 @@ fn word_at(bytes: &[u8]) -> (Option<Lexeme>, &[u8])
     (Some(Lexeme::Word(word)), rest)
 }
 
-/// Reads a number.
 fn number_at(bytes: &[u8]) -> Result<(Option<Lexeme>, &[u8]), Stop>
     requires { begins is_number_start_lem bytes.now ≡ true }
     ensures cuts { Cuts bytes.now result }
@@ -181,7 +175,6 @@ fn string_fault(bytes: &[u8]) -> LexFault
     }
 }
 
-/// Reads a string, from after its first quote.
 fn string_at(bytes: &[u8]) -> Result<(Option<Lexeme>, &[u8]), Stop>
     ensures cuts { Cuts (34 ∷ bytes.now) result }
     ensures starts { IfOk result (λ x. Starts (34 ∷ bytes.now) x.0 x.1.now) }
@@ -198,7 +191,6 @@ fn string_at(bytes: &[u8]) -> Result<(Option<Lexeme>, &[u8]), Stop>
     }
 }
 
-/// Returns what follows `*/` at the front.
 fn after_end(bytes: &[u8]) -> Option<&[u8]>
     ensures { MatchOption result (closes bytes.now ≡ false)
         (λ rest. bytes.now ≡ 42 ∷ 47 ∷ rest.now) }
@@ -209,7 +201,6 @@ fn after_end(bytes: &[u8]) -> Option<&[u8]>
     }
 }
 
-/// Skips a comment, from after its `/*`.
 fn block_at(bytes: &[u8]) -> Result<&[u8], Stop>
     ensures skips { Skips (lex_from block bytes.now) result }
     ensures ends { IfOk result (λ rest. Ends bytes.now rest.now) }
@@ -229,7 +220,6 @@ fn block_at(bytes: &[u8]) -> Result<&[u8], Stop>
     })
 }
 
-/// Reads a comment to the end of the line or documentation, from after two slashes.
 fn line_at(bytes: &[u8]) -> (Option<Lexeme>, &[u8])
     ensures cuts { lex_from slashes bytes.now
         ≡ with_front (pieces_in result.0) (lex_of result.1.now) }
@@ -248,7 +238,6 @@ fn line_at(bytes: &[u8]) -> (Option<Lexeme>, &[u8])
     }
 }
 
-/// Reads a comment or documentation, from after its first slash.
 fn comment_at(bytes: &[u8]) -> Result<(Option<Lexeme>, &[u8]), Stop>
     ensures cuts { Cuts (47 ∷ bytes.now) result }
     ensures starts { IfOk result (λ x. Starts (47 ∷ bytes.now) x.0 x.1.now) }
@@ -267,7 +256,6 @@ fn comment_at(bytes: &[u8]) -> Result<(Option<Lexeme>, &[u8]), Stop>
     }
 }
 
-/// Reads the token at the front, if one begins there.
 fn token_at(bytes: &[u8]) -> Result<(Option<Lexeme>, &[u8]), Stop>
     requires { 0 < length bytes.now }
     ensures cuts { Cuts bytes.now result }
@@ -311,7 +299,6 @@ fn owned(alloc: Global, lexeme: Lexeme) -> Result<Token, AllocError>
     }
 }
 
-/// Returns the tokens of a text.
 pub(crate) fn lex(alloc: Global, text: &[u8]) -> Result<Vec<Token>, LexError>
     ensures { Answers (length text.now) result (lex_of text.now) }
 {

@@ -1,9 +1,6 @@
-//! Schemas of flatbuffers as syntax: a text to its tokens, the tokens to declarations, and the
-//! tokens to the canonical text.
-//!
-//! [`parse_text`] reads a text as declarations, and [`format_text`] returns the text of the same
-//! declarations in the layout that each schema has once. Which texts spell which schema is said by
-//! `Spelled` and `Values` of `specs/`.
+//! The syntax of flatbuffers schemas. [`parse_text`] reads a text as declarations, and
+//! [`format_text`] returns its canonical text. `Spelled` and `Values` of `specs/` define which
+//! texts spell which schema.
 #![tactic(auto)]
 
 mod laws;

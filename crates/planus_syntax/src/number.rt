@@ -7,30 +7,20 @@ ghost use Rattle.planus_syntax.specs.Tokens.{digits_after as digits_after_lem};
 ghost use Rattle.planus_syntax.specs.Tokens.{first_digit as first_digit_lem};
 ghost use Rattle.planus_syntax.specs.Tokens.{number_step as number_step_lem, is_end as is_end_lem};
 
-/// What was read of a number.
+/// The part of a number that was read.
 #[derive(Clone, Copy)]
 pub(crate) enum NumberState {
-    /// Nothing.
     Start,
-    /// A sign.
     Sign,
-    /// A zero that is the first digit.
     Zero,
-    /// Decimal digits.
     Digits,
     /// A point after digits, and digits after it or none.
     Fraction,
-    /// The letter of an exponent.
     Exponent,
-    /// The sign of an exponent.
     ExponentSign,
-    /// The digits of an exponent.
     ExponentDigits,
-    /// `0x`.
     HexMark,
-    /// Hexadecimal digits.
     HexDigits,
-    /// What is no number.
     Wrong,
 }
 
@@ -142,8 +132,8 @@ fn is_signed_name(bytes: &[u8]) -> bool
         || bytes == b"+nan".as_slice()
 }
 
-/// Returns whether the bytes are a number: an integer, a hexadecimal integer, a float, or `inf` or
-/// `nan` with a sign.
+/// Returns whether the bytes are an integer, a hexadecimal integer, a float, or `inf` or `nan` with
+/// a sign.
 pub(crate) fn is_number(bytes: &[u8]) -> bool
     ensures { result ≡ is_number_lem bytes.now }
 {

@@ -60,18 +60,15 @@ use crate::value::{
 };
 use std::alloc::{AllocError, AllocFailed, Global};
 
-/// What should stand where other tokens do.
+/// What was expected in place of other tokens.
 #[derive(Clone, Copy, PartialEq, Eq)]
 pub enum ParseFault {
     /// This mark.
     Mark(u8),
-    /// A word.
     Word,
-    /// A number.
     Number,
-    /// A string.
     Text,
-    /// A value: a number, a name, a string or `[]`.
+    /// A number, a name, a string or `[]`.
     Literal,
     /// A word that begins a declaration, as `table`.
     Declaration,
@@ -80,7 +77,7 @@ pub enum ParseFault {
 #[derive(Clone, Copy)]
 pub(crate) enum ReadError {
     OutOfMemory,
-    /// A fault, and how many tokens are left where it stands.
+    /// `left` counts the tokens from the error's place to the text's end.
     Fault { fault: ParseFault, left: usize },
 }
 
@@ -124,7 +121,6 @@ fn begins_doc(tokens: &[Token]) -> bool
     }
 }
 
-/// Returns whether a comma stands first, and no closing brace after it.
 fn begins_next(tokens: &[Token]) -> bool
     ensures { result ≡ begins_next_lem (pieces_of tokens.now) }
 {
@@ -146,7 +142,6 @@ fn inside(tokens: &[Token]) -> bool
     !tokens.is_empty() && !begins_mark(tokens, b'}')
 }
 
-/// Returns what follows this mark.
 fn mark_at(tokens: &[Token], mark: u8) -> Result<&[Token], ReadError>
     ensures { Gives (λ rest. pieces_of rest.now) result
         (mark_at_lem mark (pieces_of tokens.now)) }
@@ -160,7 +155,6 @@ fn mark_at(tokens: &[Token], mark: u8) -> Result<&[Token], ReadError>
     }
 }
 
-/// Returns what follows this mark, if the mark stands first.
 fn after_mark(tokens: &[Token], mark: u8) -> Option<&[Token]>
     ensures { MatchOption result (begins_mark_lem mark (pieces_of tokens.now) ≡ false)
         (λ rest. (begins_mark_lem mark (pieces_of tokens.now) ≡ true)
@@ -172,7 +166,6 @@ fn after_mark(tokens: &[Token], mark: u8) -> Option<&[Token]>
     }
 }
 
-/// Reads a word.
 fn word_at(alloc: Global, tokens: &[Token]) -> Result<(Vec<u8>, &[Token]), ReadError>
     ensures { Gives (λ x. (x.0.items, pieces_of x.1.now)) result
         (word_at_lem (pieces_of tokens.now)) }
@@ -186,7 +179,6 @@ fn word_at(alloc: Global, tokens: &[Token]) -> Result<(Vec<u8>, &[Token]), ReadE
     }
 }
 
-/// Reads a line of documentation.
 fn doc_at(alloc: Global, tokens: &[Token]) -> Result<(Vec<u8>, &[Token]), ReadError>
     ensures { Gives (λ x. (x.0.items, pieces_of x.1.now)) result
         (doc_at_lem (pieces_of tokens.now)) }
@@ -200,7 +192,6 @@ fn doc_at(alloc: Global, tokens: &[Token]) -> Result<(Vec<u8>, &[Token]), ReadEr
     }
 }
 
-/// Reads a number.
 fn number_at(alloc: Global, tokens: &[Token]) -> Result<(Vec<u8>, &[Token]), ReadError>
     ensures { Gives (λ x. (x.0.items, pieces_of x.1.now)) result
         (number_at_lem (pieces_of tokens.now)) }
@@ -214,7 +205,6 @@ fn number_at(alloc: Global, tokens: &[Token]) -> Result<(Vec<u8>, &[Token]), Rea
     }
 }
 
-/// Reads a string.
 fn text_at(alloc: Global, tokens: &[Token]) -> Result<(Vec<u8>, &[Token]), ReadError>
     ensures { Gives (λ x. (x.0.items, pieces_of x.1.now)) result
         (text_at_lem (pieces_of tokens.now)) }
@@ -228,7 +218,6 @@ fn text_at(alloc: Global, tokens: &[Token]) -> Result<(Vec<u8>, &[Token]), ReadE
     }
 }
 
-/// Reads a word or a string as a name.
 fn label_at(alloc: Global, tokens: &[Token]) -> Result<(Label, &[Token]), ReadError>
     ensures { Gives (λ x. (label_of x.0, pieces_of x.1.now)) result
         (label_at_lem (pieces_of tokens.now)) }
@@ -279,7 +268,6 @@ fn dotted(alloc: Global, tokens: &[Token]) -> Result<(Vec<Vec<u8>>, &[Token]), R
     Ok((items, rest))
 }
 
-/// Reads a name of one or more words.
 fn path_at(alloc: Global, tokens: &[Token]) -> Result<(Path, &[Token]), ReadError>
     ensures { Gives (λ x. (path_of x.0, pieces_of x.1.now)) result
         (path_at_lem (pieces_of tokens.now)) }
@@ -296,7 +284,6 @@ fn path_at(alloc: Global, tokens: &[Token]) -> Result<(Path, &[Token]), ReadErro
     ))
 }
 
-/// Reads a type.
 fn kind_at(alloc: Global, tokens: &[Token]) -> Result<(Kind, &[Token]), ReadError>
     ensures { Gives (λ x. (kind_of x.0, pieces_of x.1.now)) result
         (kind_at_lem (pieces_of tokens.now)) }
@@ -314,7 +301,6 @@ fn kind_at(alloc: Global, tokens: &[Token]) -> Result<(Kind, &[Token]), ReadErro
     }
 }
 
-/// Reads `[]`.
 fn brackets_at(tokens: &[Token]) -> Result<(Literal, &[Token]), ReadError>
     ensures { Gives (λ x. (literal_of x.0, pieces_of x.1.now)) result
         (brackets_at_lem (pieces_of tokens.now)) }
@@ -332,7 +318,6 @@ fn name_at(alloc: Global, tokens: &[Token]) -> Result<(Literal, &[Token]), ReadE
     Ok((Literal::Name(path), rest))
 }
 
-/// Reads a value.
 fn literal_at(alloc: Global, tokens: &[Token]) -> Result<(Literal, &[Token]), ReadError>
     ensures { Gives (λ x. (literal_of x.0, pieces_of x.1.now)) result
         (literal_at_lem (pieces_of tokens.now)) }
@@ -353,7 +338,6 @@ fn literal_at(alloc: Global, tokens: &[Token]) -> Result<(Literal, &[Token]), Re
     }
 }
 
-/// Reads a value after this mark, if the mark stands first.
 fn literal_after(
     alloc: Global,
     mark: u8,
@@ -371,7 +355,6 @@ fn literal_after(
     }
 }
 
-/// Reads the value of a variant, if it has one.
 fn value_at(alloc: Global, tokens: &[Token]) -> Result<(Option<Vec<u8>>, &[Token]), ReadError>
     ensures { Gives (λ x. (digits_of x.0, pieces_of x.1.now)) result
         (optional_at 61 number_at_lem (pieces_of tokens.now)) }
@@ -385,7 +368,6 @@ fn value_at(alloc: Global, tokens: &[Token]) -> Result<(Option<Vec<u8>>, &[Token
     }
 }
 
-/// Reads what an alias stands for, if a member is one.
 fn target_at(alloc: Global, tokens: &[Token]) -> Result<(Option<Path>, &[Token]), ReadError>
     ensures { Gives (λ x. (option_map path_of x.0, pieces_of x.1.now)) result
         (optional_at 58 path_at_lem (pieces_of tokens.now)) }
@@ -399,7 +381,6 @@ fn target_at(alloc: Global, tokens: &[Token]) -> Result<(Option<Path>, &[Token])
     }
 }
 
-/// Reads an attribute.
 fn attribute_at(alloc: Global, tokens: &[Token]) -> Result<(Attribute, &[Token]), ReadError>
     ensures { Gives (λ x. (attribute_of x.0, pieces_of x.1.now)) result
         (attribute_at_lem (pieces_of tokens.now)) }
@@ -437,7 +418,6 @@ fn more_attributes(
     Ok((items, rest))
 }
 
-/// Reads attributes in parentheses, if there are any.
 #[tactic(auto, unfolding(crate::specs::Reading::attributes_at))]
 fn attributes_at(alloc: Global, tokens: &[Token]) -> Result<(Vec<Attribute>, &[Token]), ReadError>
     ensures { Gives (λ x. (map attribute_of x.0.items, pieces_of x.1.now)) result
@@ -468,7 +448,6 @@ fn docs_at(alloc: Global, tokens: &[Token]) -> Result<(Vec<Vec<u8>>, &[Token]), 
     Ok((items, rest))
 }
 
-/// Reads a field.
 fn field_at(alloc: Global, tokens: &[Token]) -> Result<(Field, &[Token]), ReadError>
     ensures { Gives (λ x. (field_of x.0, pieces_of x.1.now)) result
         (field_at_lem (pieces_of tokens.now)) }
@@ -507,7 +486,6 @@ fn fields(alloc: Global, tokens: &[Token]) -> Result<(Vec<Field>, &[Token]), Rea
     Ok((items, rest))
 }
 
-/// Reads a table or a struct, from its name on.
 fn record_at(alloc: Global, tokens: &[Token]) -> Result<(Record, &[Token]), ReadError>
     ensures { Gives (λ x. (record_of x.0, pieces_of x.1.now)) result
         (record_at_lem (pieces_of tokens.now)) }
@@ -527,7 +505,6 @@ fn record_at(alloc: Global, tokens: &[Token]) -> Result<(Record, &[Token]), Read
     ))
 }
 
-/// Reads a comma, if there is one.
 fn comma_at(tokens: &[Token]) -> Result<(bool, &[Token]), ReadError>
     ensures { Gives (λ x. (x.0, pieces_of x.1.now)) result (comma_at_lem (pieces_of tokens.now)) }
 {
@@ -537,7 +514,6 @@ fn comma_at(tokens: &[Token]) -> Result<(bool, &[Token]), ReadError>
     }
 }
 
-/// Reads a variant of an enum.
 fn variant_at(alloc: Global, tokens: &[Token]) -> Result<(Variant, &[Token]), ReadError>
     ensures { Gives (λ x. (variant_of x.0, pieces_of x.1.now)) result
         (variant_at_lem (pieces_of tokens.now)) }
@@ -592,7 +568,6 @@ fn variants_at(alloc: Global, tokens: &[Token]) -> Result<(Vec<Variant>, &[Token
     more_variants(alloc, first, rest)
 }
 
-/// Reads an enum, from its name on.
 fn enumeration_at(alloc: Global, tokens: &[Token]) -> Result<(Item, &[Token]), ReadError>
     ensures { Gives (λ x. (item_of x.0, pieces_of x.1.now)) result
         (as_item enumeration_item (enumeration_at_lem (pieces_of tokens.now))) }
@@ -617,7 +592,6 @@ fn enumeration_at(alloc: Global, tokens: &[Token]) -> Result<(Item, &[Token]), R
     ))
 }
 
-/// Reads a member of a union.
 fn member_at(alloc: Global, tokens: &[Token]) -> Result<(Member, &[Token]), ReadError>
     ensures { Gives (λ x. (member_of x.0, pieces_of x.1.now)) result
         (member_at_lem (pieces_of tokens.now)) }
@@ -673,7 +647,6 @@ fn members_at(alloc: Global, tokens: &[Token]) -> Result<(Vec<Member>, &[Token])
     more_members(alloc, first, rest)
 }
 
-/// Reads a union, from its name on.
 fn union_at(alloc: Global, tokens: &[Token]) -> Result<(Item, &[Token]), ReadError>
     ensures { Gives (λ x. (item_of x.0, pieces_of x.1.now)) result
         (as_item union_item (union_at_lem (pieces_of tokens.now))) }
@@ -695,7 +668,6 @@ fn union_at(alloc: Global, tokens: &[Token]) -> Result<(Item, &[Token]), ReadErr
     ))
 }
 
-/// Reads a method of a service.
 fn method_at(alloc: Global, tokens: &[Token]) -> Result<(Method, &[Token]), ReadError>
     ensures { Gives (λ x. (method_of x.0, pieces_of x.1.now)) result
         (method_at_lem (pieces_of tokens.now)) }
@@ -735,7 +707,6 @@ fn methods(alloc: Global, tokens: &[Token]) -> Result<(Vec<Method>, &[Token]), R
     Ok((items, rest))
 }
 
-/// Reads a service, from its name on.
 fn service_at(alloc: Global, tokens: &[Token]) -> Result<(Item, &[Token]), ReadError>
     ensures { Gives (λ x. (item_of x.0, pieces_of x.1.now)) result
         (as_item service_item (service_at_lem (pieces_of tokens.now))) }
@@ -747,7 +718,6 @@ fn service_at(alloc: Global, tokens: &[Token]) -> Result<(Item, &[Token]), ReadE
     Ok((Item::Service(Service { name, methods }), rest))
 }
 
-/// Reads a string and a semicolon.
 fn quoted_at(alloc: Global, tokens: &[Token]) -> Result<(Vec<u8>, &[Token]), ReadError>
     ensures { Gives (λ x. (x.0.items, pieces_of x.1.now)) result
         (quoted_at_lem (pieces_of tokens.now)) }
@@ -757,7 +727,6 @@ fn quoted_at(alloc: Global, tokens: &[Token]) -> Result<(Vec<u8>, &[Token]), Rea
     Ok((text, rest))
 }
 
-/// Reads a name and a semicolon.
 fn rooted_at(alloc: Global, tokens: &[Token]) -> Result<(Path, &[Token]), ReadError>
     ensures { Gives (λ x. (path_of x.0, pieces_of x.1.now)) result
         (rooted_at_lem (pieces_of tokens.now)) }
@@ -767,7 +736,6 @@ fn rooted_at(alloc: Global, tokens: &[Token]) -> Result<(Path, &[Token]), ReadEr
     Ok((path, rest))
 }
 
-/// Reads the name of a namespace, or none, and a semicolon.
 fn namespace_at(alloc: Global, tokens: &[Token]) -> Result<(Item, &[Token]), ReadError>
     ensures { Gives (λ x. (item_of x.0, pieces_of x.1.now)) result
         (as_item namespace_item (namespace_at_lem (pieces_of tokens.now))) }
@@ -781,7 +749,6 @@ fn namespace_at(alloc: Global, tokens: &[Token]) -> Result<(Item, &[Token]), Rea
     }
 }
 
-/// Reads the name of an attribute and a semicolon.
 fn declared_at(alloc: Global, tokens: &[Token]) -> Result<(Item, &[Token]), ReadError>
     ensures { Gives (λ x. (item_of x.0, pieces_of x.1.now)) result
         (as_item attribute_item (declared_at_lem (pieces_of tokens.now))) }
@@ -797,7 +764,7 @@ fn is_word(word: &[u8], sought: &[u8]) -> bool
     word == sought
 }
 
-/// Reads a statement, from after its first word; `left` counts the tokens from that word on.
+/// `left` counts the tokens from the statement's first word.
 fn statement_at<'a>(
     alloc: Global,
     key: &[u8],
@@ -831,7 +798,6 @@ fn statement_at<'a>(
     }
 }
 
-/// Reads an item, from after its first word.
 fn item_at<'a>(
     alloc: Global,
     key: &[u8],
@@ -858,7 +824,6 @@ fn item_at<'a>(
     }
 }
 
-/// Reads a declaration.
 fn declaration_at(alloc: Global, tokens: &[Token]) -> Result<(Declaration, &[Token]), ReadError>
     ensures { Gives (λ x. (declaration_of x.0, pieces_of x.1.now)) result
         (declaration_at_lem (pieces_of tokens.now)) }
@@ -890,25 +855,18 @@ fn schema_at(alloc: Global, tokens: &[Token]) -> Result<Vec<Declaration>, ReadEr
     Ok(items)
 }
 
-/// Why tokens are no declarations.
 #[derive(Clone, Copy)]
 pub(crate) enum ParseError {
-    /// Memory was refused.
     OutOfMemory,
-    /// The first fault, and the index of the token where it stands.
+    /// The first error, and the index of the token there.
     Fault { fault: ParseFault, index: usize },
 }
 
-/// Returns the declarations that tokens spell, all of the tokens.
 pub(crate) fn parse(alloc: Global, tokens: &[Token]) -> Result<Vec<Declaration>, ParseError>
-    // What is read is written as these tokens.
     ensures found { IfOk result (λ v. pieces_of tokens.now ≡ schema_pieces (schema_of v.items)) }
-    // It has no empty enum or union.
     ensures whole { IfOk result (λ v. AreWhole (schema_of v.items)) }
-    // The schema that these tokens write is read, unless memory is refused.
     ensures only { (ds : List DeclarationV) → AreWhole ds
         → pieces_of tokens.now ≡ schema_pieces ds → ParsesTo ds result }
-    // Where the first fault stands.
     ensures exact { AnswersParse (length tokens.now) result
         (schema_at_lem (pieces_of tokens.now)) }
 {

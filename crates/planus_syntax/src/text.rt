@@ -17,17 +17,17 @@ use crate::token::Token;
 use crate::value::Declaration;
 use std::alloc::{AllocError, Global};
 
-/// Why a text is no schema. `at` counts the bytes of the text before the place of the fault.
+/// Why a text is no schema. `at` is a place in bytes from the text's start.
 #[derive(Clone, Copy)]
 pub enum SchemaError {
     /// Memory was refused.
     OutOfMemory,
-    /// A fault in the text.
+    /// An error in the text of a token.
     Token {
         fault: LexFault,
         at: usize,
     },
-    /// A fault in the tokens, at the token of this index.
+    /// A token is not the expected one; `index` is that of the token.
     Declaration {
         fault: ParseFault,
         index: usize,
@@ -35,18 +35,13 @@ pub enum SchemaError {
     },
 }
 
-/// Returns the tokens of a text, and the declarations that they are.
 fn read(alloc: Global, text: &[u8]) -> Result<(Vec<Token>, Vec<Declaration>), SchemaError>
-    // The tokens of the text are those of the schema that is read.
     ensures found { IfOk result (λ x. lex_of text.now ≡ Ok (schema_pieces (schema_of x.1.items))) }
     ensures tokens { IfOk result (λ x. pieces_of x.0.items
         ≡ schema_pieces (schema_of x.1.items)) }
-    // The schema has no empty enum or union.
     ensures whole { IfOk result (λ x. AreWhole (schema_of x.1.items)) }
-    // A text whose tokens are those of a schema is read as it, unless memory is refused.
     ensures only { (schema : List DeclarationV) → AreWhole schema
         → lex_of text.now ≡ Ok (schema_pieces schema) → TextReadsTo schema result }
-    // Which fault it is, and where.
     ensures exact { IfErr result (λ error. IsFaultOf text.now error) }
     ensures within { IfErr result (λ error. LiesIn (length text.now) error) }
 {
@@ -66,9 +61,9 @@ fn read(alloc: Global, text: &[u8]) -> Result<(Vec<Token>, Vec<Declaration>), Sc
 
 /// Returns the declarations that a text spells.
 ///
-/// An error names the first fault from the left, and its place.
+/// Fails with the first error from the left, and its place.
 pub fn parse_text(alloc: Global, text: &[u8]) -> Result<Vec<Declaration>, SchemaError>
-    // What is read is spelled by the text.
+    // The text spells what is read.
     ensures found { IfOk result (λ v. Spells text.now (schema_of v.items)) }
     // It has no empty enum or union.
     ensures whole { IfOk result (λ v. AreWhole (schema_of v.items)) }
@@ -78,7 +73,7 @@ pub fn parse_text(alloc: Global, text: &[u8]) -> Result<Vec<Declaration>, Schema
     // So is its canonical text.
     ensures canonical { (schema : List DeclarationV) → IsSchema schema
         → text.now ≡ text_of schema → TextParsesTo schema result }
-    // Which fault it is, and where.
+    // Which error it is, and where.
     ensures exact { IfErr result (λ error. IsFaultOf text.now error) }
     ensures within { IfErr result (λ error. LiesIn (length text.now) error) }
 {
@@ -88,21 +83,21 @@ pub fn parse_text(alloc: Global, text: &[u8]) -> Result<Vec<Declaration>, Schema
     }
 }
 
-/// Returns the canonical text of the schema that a text spells: the same for every text that spells
-/// it. Comments that aren't documentation are not in it.
+/// Returns the canonical text of the schema that a text spells, which is the same for every text
+/// that spells it. Comments that aren't documentation are left out.
 ///
 /// The errors are those of [`parse_text`].
 pub fn format_text(alloc: Global, text: &[u8]) -> Result<Vec<u8>, SchemaError>
-    // What is returned is the text of a schema that the text spells.
+    // The text spells the schema whose text is returned.
     ensures found { IfOk result (λ out. (schema : List DeclarationV)
         × AreWhole schema × Spells text.now schema × (out.items ≡ text_of schema)) }
-    // For a text that spells a schema, it is the text of that schema, unless memory is refused.
+    // A text that spells a schema gives the text of that schema, unless memory is refused.
     ensures only { (schema : List DeclarationV) → AreWhole schema → Spells text.now schema
         → TextFormatsTo schema result }
     // The canonical text stays as it is.
     ensures canonical { (schema : List DeclarationV) → IsSchema schema
         → text.now ≡ text_of schema → TextFormatsTo schema result }
-    // Which fault it is, and where.
+    // Which error it is, and where.
     ensures exact { IfErr result (λ error. IsFaultOf text.now error) }
     ensures within { IfErr result (λ error. LiesIn (length text.now) error) }
 {
@@ -115,9 +110,10 @@ pub fn format_text(alloc: Global, text: &[u8]) -> Result<Vec<u8>, SchemaError>
     }
 }
 
-/// Returns the byte where the word stands from which there are `left` tokens to the text's end.
+/// Returns where a word begins, in bytes from the text's start; `left` counts the tokens from the
+/// word to the text's end.
 ///
-/// The errors are those of a text that has no tokens.
+/// Fails as [`parse_text`] does where the text has no tokens.
 pub fn place_from_end(alloc: Global, text: &[u8], left: usize) -> Result<usize, SchemaError>
     ensures within { IfOk result (λ at. at ≤ length text.now) }
     ensures stands { (ps : List Piece) → lex_of text.now ≡ Ok ps

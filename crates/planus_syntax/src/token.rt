@@ -7,7 +7,7 @@ pub(crate) enum Lexeme<'a> {
     Word(&'a [u8]),
     /// A number with its sign.
     Number(&'a [u8]),
-    /// What stands between two `"`.
+    /// What is between two `"`.
     Text(&'a [u8]),
     /// What follows `///` on its line.
     Doc(&'a [u8]),
@@ -15,17 +15,12 @@ pub(crate) enum Lexeme<'a> {
     Mark(u8),
 }
 
-/// A token.
+/// A token that owns its bytes; the variants are those of `Lexeme`.
 #[derive(Drop)]
 pub(crate) enum Token {
-    /// Letters, digits and `_`, with no digit first.
     Word(Vec<u8>),
-    /// A number with its sign.
     Number(Vec<u8>),
-    /// What stands between two `"`.
     Text(Vec<u8>),
-    /// What follows `///` on its line.
     Doc(Vec<u8>),
-    /// One of `{}()[]:;,=.`.
     Mark(u8),
 }

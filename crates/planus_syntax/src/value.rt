@@ -1,7 +1,7 @@
-//! Declarations. Names, digits and strings are the bytes as they are written.
+//! Declarations. Names, digits and strings are bytes of the text.
 //!
-//! `left` is where a word stands: how many tokens of the text there are from it to the end, the
-//! word counted. [`place_from_end`](crate::place_from_end) returns its byte.
+//! `left` counts the tokens from a word to the text's end, the word included;
+//! [`place_from_end`](crate::place_from_end) returns where the word begins.
 
 /// A name of one or more words, with dots between them.
 #[derive(Drop)]
@@ -67,7 +67,7 @@ pub struct Record {
     pub fields: Vec<Field>,
 }
 
-/// A variant of an enum, with the digits of its value where it has one.
+/// A variant of an enum, with the digits of its value if it has one.
 #[derive(Drop)]
 pub struct Variant {
     pub docs: Vec<Vec<u8>>,
@@ -76,7 +76,7 @@ pub struct Variant {
     pub value: Option<Vec<u8>>,
 }
 
-/// An enum. `comma` says that a comma follows the last variant.
+/// An enum. `comma`: a comma follows the last variant.
 #[derive(Drop)]
 pub struct Enumeration {
     pub name: Vec<u8>,
@@ -86,8 +86,8 @@ pub struct Enumeration {
     pub comma: bool,
 }
 
-/// A member of a union: a table by its name, or an alias and the table, as `M: Monster`, with the
-/// digits of its value where it has one.
+/// A member of a union: a table's name, or an alias and the table, as `M: Monster`, with the digits
+/// of its value if it has one.
 #[derive(Drop)]
 pub struct Member {
     pub docs: Vec<Vec<u8>>,
@@ -96,7 +96,7 @@ pub struct Member {
     pub value: Option<Vec<u8>>,
 }
 
-/// A union. `comma` says that a comma follows the last member.
+/// A union. `comma`: a comma follows the last member.
 #[derive(Drop)]
 pub struct UnionBody {
     pub name: Vec<u8>,
@@ -122,7 +122,7 @@ pub struct Service {
     pub methods: Vec<Method>,
 }
 
-/// What is declared.
+/// A declaration.
 #[derive(Drop)]
 pub enum Item {
     /// `include "FILE";`.
@@ -149,8 +149,8 @@ pub enum Item {
     FileExtension(Vec<u8>),
 }
 
-/// A declaration with its documentation: what follows `///` on each of its lines. `left` is where
-/// its first word stands, as `table`.
+/// A declaration with its documentation: what follows `///` on each line. `left` is that of its
+/// first word, as `table`.
 #[derive(Drop)]
 pub struct Declaration {
     pub docs: Vec<Vec<u8>>,

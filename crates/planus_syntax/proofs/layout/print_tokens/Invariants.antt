@@ -3,7 +3,6 @@ use Rattle.planus_syntax.specs.Tokens.{pieces_of}
 use Rattle.planus_syntax.specs.Layout.{laid_out, printed}
 use Rattle.planus_syntax.proofs.layout.print_tokens.Given as goal
 
--- what is printed so far, and what is left to print
 abbrev pub invariant-tokens : goal.invariant-tokens
 invariant-tokens l = l.out.items ++ laid_out l.place (pieces_of l.rest) ≡ printed (pieces_of l.tokens)
 

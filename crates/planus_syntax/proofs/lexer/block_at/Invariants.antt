@@ -3,7 +3,6 @@ use Rattle.planus_syntax.specs.Lexing.{block, lex_from}
 use Rattle.planus_syntax.specs.Cutting.{Ends}
 use Rattle.planus_syntax.proofs.lexer.block_at.Given as goal
 
--- the comment goes on with what is left
 abbrev pub invariant-bytes : goal.invariant-bytes
 invariant-bytes l = record {
   read : lex_from block l.rest ≡ lex_from block l.bytes;

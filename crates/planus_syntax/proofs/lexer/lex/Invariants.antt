@@ -3,7 +3,6 @@ use Rattle.planus_syntax.specs.Tokens.{pieces_of}
 use Rattle.planus_syntax.specs.Lexing.{with_front, lex_of}
 use Rattle.planus_syntax.proofs.lexer.lex.Given as goal
 
--- the tokens so far and those of what is left are those of the text
 abbrev pub invariant-loop-rest : goal.invariant-loop-rest
 invariant-loop-rest l = record {
   read : with_front (pieces_of l.tokens.items) (lex_of l.rest) ≡ lex_of l.text;

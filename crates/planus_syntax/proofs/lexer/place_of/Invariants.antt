@@ -4,7 +4,6 @@ use Rattle.planus_syntax.specs.Lexing.{lex_of}
 use Rattle.planus_syntax.specs.Cutting.{Ends}
 use Rattle.planus_syntax.proofs.lexer.place_of.Given as goal
 
--- what is left ends the text, and has the tokens that aren't counted yet
 abbrev pub invariant-loop-rest : goal.invariant-loop-rest
 invariant-loop-rest l = record {
   shorter : length l.rest ≤ length l.text;

@@ -3,7 +3,6 @@ use Rattle.std.specs.List.{list_all}
 use Rattle.planus_syntax.specs.Cutting.{in_run}
 use Rattle.planus_syntax.proofs.lexer.split.Given as goal
 
--- the bytes so far are of the run
 abbrev pub invariant-bytes : goal.invariant-bytes
 invariant-bytes l = record {
   counted : l.length ≡ l.b-index;

@@ -4,6 +4,5 @@ use Rattle.planus_syntax.specs.declared.number.NumberState.TheVariants.{Start}
 use Rattle.planus_syntax.specs.Tokens.{number_step}
 use Rattle.planus_syntax.proofs.number.is_number.Given as goal
 
--- what was read of the bytes so far
 abbrev pub invariant-loop-b : goal.invariant-loop-b
 invariant-loop-b l = l.state ≡ fold number_step Start (take l.b-index l.bytes)

@@ -4,7 +4,6 @@ use Rattle.planus_syntax.specs.Values.{field_of}
 use Rattle.planus_syntax.specs.Reading.{inside, field_at, list_at, with_items}
 use Rattle.planus_syntax.proofs.parse.fields.Given as goal
 
--- the items so far and those of what is left are all
 abbrev pub invariant-items : goal.invariant-items
 invariant-items l =
     with_items (map field_of l.items.items) (list_at inside field_at (pieces_of l.rest))

@@ -4,7 +4,6 @@ use Rattle.planus_syntax.specs.Values.{method_of}
 use Rattle.planus_syntax.specs.Reading.{inside, method_at, list_at, with_items}
 use Rattle.planus_syntax.proofs.parse.methods.Given as goal
 
--- the items so far and those of what is left are all
 abbrev pub invariant-items : goal.invariant-items
 invariant-items l =
     with_items (map method_of l.items.items) (list_at inside method_at (pieces_of l.rest))

@@ -4,7 +4,6 @@ use Rattle.planus_syntax.specs.Values.{variant_of}
 use Rattle.planus_syntax.specs.Reading.{begins_next, next_variant_at, list_at, with_items}
 use Rattle.planus_syntax.proofs.parse.more_variants.Given as goal
 
--- the items so far and those of what is left are all
 abbrev pub invariant-items : goal.invariant-items
 invariant-items l =
     with_items (map variant_of l.items.items) (list_at begins_next next_variant_at (pieces_of l.rest))

@@ -4,7 +4,6 @@ use Rattle.planus_syntax.specs.Values.{declaration_of}
 use Rattle.planus_syntax.specs.Reading.{is_some, declaration_at, list_at, with_items}
 use Rattle.planus_syntax.proofs.parse.schema_at.Given as goal
 
--- the items so far and those of what is left are all
 abbrev pub invariant-items : goal.invariant-items
 invariant-items l =
     with_items (map declaration_of l.items.items) (list_at is_some declaration_at (pieces_of l.rest))
