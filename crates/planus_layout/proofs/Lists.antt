@@ -15,7 +15,6 @@ or_right : (a b : Bool) → (a || b) ≡ false → b ≡ false
 or_right false b h = h
 or_right true b h = absurd cc
 
--- one more, to which none before it is equal
 pub distinct_push : {A : Type 0} (eq : A → A → Bool) (xs : List A) (y : A) → list_any (λ x. eq x y) xs ≡ false → IsDistinct eq xs → IsDistinct eq (xs ++ y ∷ [])
 unfolding IsDistinct
 distinct_push eq [] y h d = (tt, tt)
@@ -30,6 +29,5 @@ pub distinct_none : {A : Type 0} (eq : A → A → Bool) → IsDistinct eq []
 unfolding IsDistinct
 distinct_none eq = tt
 
--- the item at the front of those that are left
 pub drop_next : {A : Type 0} (xs : List A) (i : ℕ) (x : A) → i < length xs → x ≡ get_or xs i x → drop i xs ≡ x ∷ drop (i + 1) xs
 drop_next xs i x h e = rw add-one (drop-cons xs i x h ∙ ap (λ y. y ∷ drop (suc i) xs) (sym e))

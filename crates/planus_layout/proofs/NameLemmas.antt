@@ -7,7 +7,6 @@ use Rattle.std.proofs.lemmas.List.{map_push, take_more}
 use Rattle.planus_layout.specs.Distinct.{AreDistinct, IsAdded, items_of, is_in}
 use Rattle.planus_layout.proofs.Lists.{distinct_push, distinct_none, list_any-map}
 
--- names as the code holds them
 pub in_items : (names : List (Vec ℕ)) (name : List ℕ) → is_in (items_of names) name ≡ list_any (λ w. bytes_eq w.items name) names
 in_items names name = list_any-map (λ w. bytes_eq w name) (λ (w : Vec ℕ). w.items) names
 
@@ -22,7 +21,6 @@ name_added old new copy name e i h =
 pub no_names : (xs : List (Vec ℕ)) → xs ≡ [] → AreDistinct (items_of xs)
 no_names xs e = rw e (distinct_none bytes_eq)
 
--- one more word is copied
 pub copied_more : (out words : List (Vec ℕ)) (i : ℕ) (word copy : Vec ℕ) → i < length words → word ≡ get_or words i word → copy.items ≡ word.items → items_of out ≡ items_of (take i words) → items_of (out ++ copy ∷ []) ≡ items_of (take (i + 1) words)
 copied_more out words i word copy l w e h =
     let same : copy.items ≡ (get_or words i word).items = e ∙ ap (λ (v : Vec ℕ). v.items) w in

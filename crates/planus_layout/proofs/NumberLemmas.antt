@@ -1,4 +1,4 @@
--- Digits that say more than can be held, and digits that are none.
+-- Digits whose number is too large, and words that are no digits.
 use Rattle.std.proofs.Common.{◌≡◌, ℕ, ◌+◌, ◌*◌, ◌<◌, ◌≤◌, Bool, true, false, cond, List, [], ◌∷◌, length, take, drop, get_or, refl, sym, ap, subst, ◌∙◌, arith}
 use Rattle.std.specs.Prelude.{fold, Some, None}
 use Rattle.std.specs.List.{list_all}
@@ -6,7 +6,6 @@ use Rattle.std.proofs.lemmas.List.{take-append-drop}
 use Rattle.std.proofs.lemmas.List.Sums.{fold-append, fold_more}
 use Rattle.planus_layout.specs.Numbers.{is_digit, base, value_in, digit_value, held, digits_said}
 
--- more digits say no less
 grows : (h : Bool) (t : ℕ) (ds : List ℕ) → t ≤ fold (λ total b. total * base h + digit_value b) t ds
 grows h t [] = omega arith
 grows true t (d ∷ ds) = let r = grows true (t * 16 + digit_value d) ds in omega (arith, r)
@@ -28,7 +27,6 @@ either_none : (b : Bool) (n : ℕ) → 18446744073709551616 ≤ n → cond b (he
 either_none true n h = held_none n h
 either_none false n h = refl
 
--- with one more digit the number can't be held
 pub too_large : (h : Bool) (ds : List ℕ) (i t : ℕ) → i < length ds → t ≡ value_in (base h) (take i ds) → held (t * base h + digit_value (get_or ds i 0)) ≡ None → digits_said h ds ≡ None
 too_large h ds i t l v n =
     let m : value_in (base h) (take (i + 1) ds) ≡ t * base h + digit_value (get_or ds i 0) = fold_more (λ total b. total * base h + digit_value b) 0 ds i 0 l ∙ ap (λ x. x * base h + digit_value (get_or ds i 0)) (sym v) in

@@ -20,7 +20,6 @@ shuffled false true b c = refl
 shuffled false false true c = refl
 shuffled false false false c = refl
 
--- one more
 pub apart_push : (xs : List ℕ) (y : ℕ) → are_apart (xs ++ y ∷ []) ≡ (not (list_any (nat_eq y) xs) && are_apart xs)
 apart_push [] y = refl
 apart_push (x ∷ xs) y =
@@ -45,7 +44,6 @@ and_false false = refl
 taken_next : (xs : List ℕ) (i : ℕ) → i < length xs → take (i + 1) xs ≡ take i xs ++ get_or xs i 0 ∷ []
 taken_next xs i h = grind (arith, common_steps)
 
--- the slot is taken already
 pub twice : (xs : List ℕ) (i : ℕ) → i < length xs → list_any (nat_eq (get_or xs i 0)) (take i xs) ≡ true → are_whole xs ≡ false
 twice xs i l h =
     let y = get_or xs i 0 in
@@ -76,7 +74,6 @@ or_false false false e = refl
 or_false true false e = absurd cc
 or_false false true e = absurd cc
 
--- one more slot is marked
 pub marked_next : (taken : List Bool) (xs : List ℕ) (i k : ℕ) → i < length xs → length taken ≡ length xs → get_or xs i 0 < length xs → k < length xs → get_or taken k false ≡ list_any (nat_eq k) (take i xs) → get_or (set taken (get_or xs i 0) true) k false ≡ list_any (nat_eq k) (take (i + 1) xs)
 marked_next taken xs i k l many y lt h = here (nat_eq k (get_or xs i 0)) refl
   where

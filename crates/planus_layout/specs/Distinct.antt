@@ -7,11 +7,9 @@ use Rattle.std.specs.Str.{bytes_eq}
 abbrev pub items_of : List (Vec ℕ) → List (List ℕ)
 items_of words = map (λ w. w.items) words
 
--- a name is among these
 abbrev pub is_in : List (List ℕ) → List ℕ → Bool
 is_in names name = list_any (λ w. bytes_eq w name) names
 
--- no two names are alike
 abbrev pub AreDistinct : List (List ℕ) → Type 0
 AreDistinct names = IsDistinct bytes_eq names
 
@@ -24,7 +22,7 @@ abbrev pub Takes : Bool → List (List ℕ) → List ℕ → List (List ℕ) →
 Takes true old name new = IsAdded old name new
 Takes false old name new = Unit {0}
 
--- each item of one list with that of the other at its place
+-- the items of two lists at each place
 abbrev pub Each2 : {A B : Type 0} → (A → B → Type 0) → List A → List B → Type 0
 Each2 R [] [] = Unit {0}
 Each2 R [] (y ∷ ys) = ⊥

@@ -1,4 +1,4 @@
--- Structs: where the bytes of their fields lie.
+-- The sizes of structs, and the places of their fields.
 use Rattle.std.specs.Prelude.{◌≡◌, ℕ, ◌+◌, ◌-◌, ◌%◌, ◌≤◌, ◌<◌, max, Bool, ◌||◌, ◌==◌}
 use Rattle.std.specs.Prelude.{List, [], ◌∷◌, map, fold, Option, Some, None, slice_get}
 use Rattle.std.specs.Prelude.{if◌then◌else◌, true}
@@ -26,7 +26,7 @@ measure_of_body (Some (body.Enum e)) =
     Some (record { size = scalar_size e.scalar; alignment = scalar_size e.scalar })
 measure_of_body (Some (body.Union u)) = None
 
--- how many bytes a value in a struct has; enums and structs are those of `bodies`
+-- the size and alignment of a value in a struct; `bodies` are the declarations
 abbrev pub measure_in : List Body → Base → Option Measure
 measure_in bodies (base.Scalar s) =
     Some (record { size = scalar_size s; alignment = scalar_size s })
@@ -38,18 +38,17 @@ measure_in bodies (base.Union i) = None
 
 -- ---- places
 
--- `place` is the least multiple of `alignment` that is not below `at`
+-- the least multiple of `alignment` that is not below `at`
 pub record IsNext (alignment at place : ℕ) : Type 0 where
   pub multiple : place % alignment ≡ 0
   pub after : at ≤ place
   pub nearest : place < at + alignment
 
--- that multiple
 abbrev pub next_multiple : ℕ → ℕ → ℕ
 next_multiple alignment at =
     if at % alignment == 0 then at else at + (alignment - at % alignment)
 
--- fields one after the other, each as near to that before it as its alignment allows
+-- fields in order, each at the first place that its alignment allows
 abbrev pub Laid : ℕ → List StructField → ℕ → Type 0
 Laid at [] end = at ≡ end
 Laid at (f ∷ fs) end = IsNext f.alignment at f.distance × Laid (f.distance + f.size) fs end
@@ -61,7 +60,7 @@ greatest_alignment fs = fold (λ n f. max n f.alignment) 1 fs
 abbrev pub is_alignment : ℕ → Bool
 is_alignment n = n == 1 || n == 2 || n == 4 || n == 8 || n == 16 || n == 32
 
--- the bytes of a struct: its size is the least multiple of its alignment that holds its fields
+-- the size is the least multiple of the alignment that holds the fields
 pub record IsLaidOut (s : Struct) : Type 0 where
   pub end : ℕ
   pub laid : Laid 0 s.fields.items end
@@ -69,7 +68,6 @@ pub record IsLaidOut (s : Struct) : Type 0 where
   pub aligned : is_alignment s.alignment ≡ true
   pub greatest : greatest_alignment s.fields.items ≤ s.alignment
 
--- its fields lie as they should, and no two have one name
 pub record IsStruct (s : Struct) : Type 0 where
   pub places : IsLaidOut s
   pub names : AreDistinct (map (λ f. f.name.items) s.fields.items)

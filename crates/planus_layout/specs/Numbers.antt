@@ -1,4 +1,4 @@
--- What the digits of a schema say, and what a scalar type holds.
+-- The numbers that digits stand for, and the values of scalar types.
 use Rattle.std.specs.Prelude.{ℕ, ◌+◌, ◌-◌, ◌*◌, Bool, true, false, ◌==◌, ◌&&◌, ◌||◌, not}
 use Rattle.std.specs.Prelude.{nat_le, nat_lt, if◌then◌else◌, List, [], ◌∷◌, drop, fold, Option}
 use Rattle.std.specs.Prelude.{Some, None}
@@ -28,11 +28,10 @@ abbrev pub base : Bool → ℕ
 base true = 16
 base false = 10
 
--- digits with the most significant first
+-- the most significant digit first
 abbrev pub value_in : ℕ → List ℕ → ℕ
 value_in n digits = fold (λ total b. total * n + digit_value b) 0 digits
 
--- a minus stands first
 abbrev pub has_minus : List ℕ → Bool
 has_minus [] = false
 has_minus (b ∷ bs) = b == 45
@@ -41,7 +40,6 @@ abbrev pub without_sign : List ℕ → List ℕ
 without_sign [] = []
 without_sign (b ∷ bs) = if b == 43 || b == 45 then bs else b ∷ bs
 
--- `0x` or `0X` stands first
 abbrev pub is_hexadecimal : List ℕ → Bool
 is_hexadecimal (a ∷ b ∷ bs) = a == 48 && (b == 120 || b == 88)
 is_hexadecimal bs = false
@@ -58,24 +56,22 @@ abbrev pub magnitude_of : List ℕ → ℕ
 magnitude_of word =
     let bs = without_sign word in value_in (base (is_hexadecimal bs)) (without_mark bs)
 
--- the integer that a word with digits says
 abbrev pub integer_of : List ℕ → Number
 integer_of word = record {
   negative = has_minus word && not (magnitude_of word == 0);
   magnitude = magnitude_of word;
 }
 
--- what can be held: a number below 2^64
+-- a number below 2^64
 abbrev pub held : ℕ → Option ℕ
 held n = if nat_lt n 18446744073709551616 then Some n else None
 
--- what digits say, if all are digits and the number can be held
 abbrev pub digits_said : Bool → List ℕ → Option ℕ
 digits_said hexadecimal digits =
     if list_all (is_digit hexadecimal) digits then held (value_in (base hexadecimal) digits)
     else None
 
--- the integer that a word says, if it is one and its distance from zero can be held
+-- the integer that a word stands for, if its distance from zero is below 2^64
 abbrev pub integer_said : List ℕ → Option Number
 integer_said word = if is_integer word && nat_lt (magnitude_of word) 18446744073709551616
     then Some (integer_of word) else None
@@ -83,13 +79,11 @@ integer_said word = if is_integer word && nat_lt (magnitude_of word) 18446744073
 abbrev pub zero_number : Number
 zero_number = record { negative = false; magnitude = 0 }
 
--- one more
 abbrev pub following : Number → Number
 following n = if n.negative
     then record { negative = not (n.magnitude == 1); magnitude = n.magnitude - 1 }
     else record { negative = false; magnitude = n.magnitude + 1 }
 
--- one more, if it can be held
 abbrev pub following_said : Number → Option Number
 following_said n = if n.negative || nat_lt (n.magnitude + 1) 18446744073709551616
     then Some (following n) else None
@@ -118,7 +112,7 @@ abbrev pub is_bool : Scalar → Bool
 is_bool Boolean = true
 is_bool s = false
 
--- the values of an integer type end here, above and below zero; a `bool` is 0 or 1
+-- the greatest value; `least` has its distance from zero; a `bool` is 0 or 1
 abbrev pub greatest : Scalar → ℕ
 greatest Boolean = 1
 greatest Byte = 127
@@ -142,7 +136,7 @@ least s = 0
 abbrev pub fits : Scalar → Number → Bool
 fits s n = if n.negative then nat_le n.magnitude (least s) else nat_le n.magnitude (greatest s)
 
--- both names of a scalar type
+-- by either of its names
 unfoldable pub scalar_named : List ℕ → Option Scalar
 scalar_named w =
     if bytes_eq w (codes "bool") then Some Boolean

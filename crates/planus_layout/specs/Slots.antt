@@ -16,14 +16,13 @@ is_union_base (base.Struct i) = false
 is_union_base (base.Table i) = false
 is_union_base (base.Union i) = true
 
--- a union, or a vector of them, has a slot for its type before that of its value
+-- a union or a vector of unions: its type has the slot before its value
 abbrev pub is_union : FieldType → Bool
 is_union t = is_union_base t.base
 
 abbrev pub width : FieldType → ℕ
 width t = if is_union t then 2 else 1
 
--- the slots that a field takes
 abbrev pub slots_of : TableField → List ℕ
 slots_of f = if is_union f.kind then (f.slot - 1) ∷ f.slot ∷ [] else f.slot ∷ []
 
@@ -41,21 +40,20 @@ abbrev pub id_with_room : FieldType → Option ℕ → Option ℕ
 id_with_room t None = None
 id_with_room t (Some n) = if nat_le (width t) (n + 1) then Some n else None
 
--- with `ids` the slot that the field says, else the next
+-- with `ids` the field's own slot, else the next
 abbrev pub slot_said : Option ℕ → FieldType → Bool → ℕ → Option ℕ
 slot_said id t true next = id_with_room t id
 slot_said id t false next = Some (next + (width t - 1))
 
--- no number is there twice
 abbrev pub are_apart : List ℕ → Bool
 are_apart [] = true
 are_apart (n ∷ ns) = not (list_any (nat_eq n) ns) && are_apart ns
 
--- the numbers 0, 1, 2 and so on in some order: none is twice there, and each is below their count
+-- the numbers from 0 on in some order, each once
 abbrev pub are_whole : List ℕ → Bool
 are_whole ns = list_all (λ n. nat_lt n (length ns)) ns && are_apart ns
 
--- each slot from 0 on once, and not more than a vtable has room for
+-- each slot from 0 on once, and no more than a vtable has room for
 pub record AreSlots (slots : List ℕ) : Type 0 where
   pub whole : are_whole slots ≡ true
   pub room : length slots ≤ 32765

@@ -1,5 +1,5 @@
-//! What a schema of flatbuffers is once it is settled, and the rules of its layout: numbers, the
-//! slots of tables, the places in structs, and names that are used once.
+//! The meaning of a flatbuffers schema, and its layout rules: numbers, slots of tables, places in
+//! structs, and unique names.
 #![tactic(auto)]
 
 mod measure;

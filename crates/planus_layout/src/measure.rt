@@ -1,4 +1,4 @@
-//! The size and the alignment of what is declared.
+//! Sizes and alignments of declarations.
 
 ghost use Rattle.std.specs.Prelude.{◌≡◌, map, Some, slice_get};
 ghost use Rattle.std.specs.Option.{option_map};
@@ -45,7 +45,7 @@ fn measure_at(bodies: &[Declared], index: usize) -> Option<Measure>
     }
 }
 
-/// Returns the size and the alignment of a value in a struct.
+/// Returns the size and alignment of a value in a struct; `None` where a struct can't hold it.
 pub fn measure_of(bodies: &[Declared], base: Base) -> Option<Measure>
     ensures { result ≡ measure_in (map body_in bodies.now) base }
 {

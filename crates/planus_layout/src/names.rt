@@ -1,4 +1,4 @@
-//! Names that are copied, and names that are used up.
+//! Copied names, and unique names.
 
 ghost use Rattle.std.specs.Prelude.{◌≡◌, IfOk, position, not, IsTrue, ◌↔◌, Some};
 ghost use Rattle.std.specs.List.{list_any};
@@ -26,7 +26,7 @@ pub fn is_among(names: &[Vec<u8>], name: &[u8]) -> bool
     names.iter().any(|word| word.as_slice() == name)
 }
 
-/// Adds a name to those that are used, and returns whether it was new.
+/// Adds a name to the used ones; returns whether it was new.
 pub fn take_name(alloc: Global, names: &mut Vec<Vec<u8>>, name: &[u8]) -> Result<bool, AllocError>
     ensures taken { IfOk result (λ new. Takes new (items_of names.old.items) name.now
         (items_of names.new.items)) }
@@ -40,14 +40,14 @@ pub fn take_name(alloc: Global, names: &mut Vec<Vec<u8>>, name: &[u8]) -> Result
     Ok(true)
 }
 
-/// Returns whether a name that is found first at `found` is that of the declaration `index`.
+/// Returns whether `found`, the first declaration of a name, is the declaration `index`.
 pub fn is_first(found: Option<usize>, index: usize) -> bool
     ensures { IsTrue result ↔ found ≡ Some index }
 {
     found == Some(index)
 }
 
-/// Returns the index of the file of this name among those that were read.
+/// Returns the index of the file of this name.
 ///
 /// A file that has one is not read again, so that each is read once, however files include each
 /// other.

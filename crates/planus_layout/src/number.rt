@@ -1,4 +1,4 @@
-//! The integers that digits say.
+//! The integers of digits.
 
 ghost use Rattle.std.specs.Prelude.{◌≡◌, ◌+◌, ◌*◌, true, IfSome};
 ghost use Rattle.std.specs.List.{list_all};
@@ -45,7 +45,6 @@ fn base(hexadecimal: bool) -> u64
     if hexadecimal { 16 } else { 10 }
 }
 
-/// Returns the number with one more digit, if it is below 2^64.
 fn with_digit(total: u64, base: u64, digit: u64) -> Option<u64>
     ensures { result ≡ held (total * base + digit) }
 {
@@ -55,7 +54,6 @@ fn with_digit(total: u64, base: u64, digit: u64) -> Option<u64>
     }
 }
 
-/// Returns what these digits say, if all are digits and the number is below 2^64.
 fn read_digits(hexadecimal: bool, digits: &[u8]) -> Option<u64>
     ensures said { result ≡ digits_said hexadecimal digits.now }
     ensures digits { IfSome result (λ _. list_all (is_digit_lem hexadecimal) digits.now ≡ true) }
@@ -93,7 +91,7 @@ pub fn without_sign(digits: &[u8]) -> &[u8]
     }
 }
 
-/// Returns whether `0x` or `0X` stands first.
+/// Returns whether the digits begin with `0x` or `0X`.
 pub fn is_hexadecimal(digits: &[u8]) -> bool
     ensures { result ≡ is_hexadecimal_lem digits.now }
 {
@@ -112,7 +110,7 @@ fn without_mark(digits: &[u8]) -> &[u8]
     }
 }
 
-/// Returns the integer that a word says, if it is one and its distance from zero is below 2^64.
+/// Returns the integer that a word stands for, if its distance from zero is below 2^64.
 pub fn integer(word: &[u8]) -> Option<Number>
     ensures said { result ≡ integer_said word.now }
     ensures whole { IfSome result (λ _. is_integer word.now ≡ true) }
@@ -128,7 +126,7 @@ pub fn integer(word: &[u8]) -> Option<Number>
     }
 }
 
-/// Returns one more, if it is below 2^64.
+/// Returns the next integer, if it is below 2^64.
 pub fn following(number: Number) -> Option<Number>
     ensures said { result ≡ following_said number }
     ensures value { IfSome result (λ n. n ≡ following_lem number) }

@@ -36,7 +36,7 @@ pub fn is_alignment(n: usize) -> bool
     n == 1 || n == 2 || n == 4 || n == 8 || n == 16 || n == 32
 }
 
-/// Fields one after the other, where they end, and the greatest of their alignments.
+/// The fields of a struct, where they end in bytes, and the greatest of their alignments.
 #[derive(Drop)]
 pub struct Layout {
     pub fields: Vec<StructField>,
@@ -45,7 +45,7 @@ pub struct Layout {
 }
 
 impl Layout {
-    /// Returns the struct of these fields with this alignment.
+    /// Returns the struct of these fields with this alignment in bytes.
     pub fn finished(self, alignment: usize) -> Struct
         requires end { self.end ≤ 65535 }
         requires aligned { is_alignment_lem alignment ≡ true }

@@ -31,7 +31,7 @@ fn is_either(name: &[u8], short: &[u8], long: &[u8]) -> bool
     name == short || name == long
 }
 
-/// Returns the scalar type of this name; each has two but `bool`.
+/// Returns the scalar type of this name; each but `bool` has two.
 pub fn scalar_named(name: &[u8]) -> Option<Scalar>
     ensures { result ≡ scalar_named_lem name.now }
 {
@@ -63,7 +63,7 @@ pub fn scalar_named(name: &[u8]) -> Option<Scalar>
 }
 
 impl Scalar {
-    /// Returns its size in bytes, which is its alignment too.
+    /// Returns the size in bytes, which is the alignment too.
     pub fn size(self) -> usize
         ensures { result ≡ scalar_size self }
     {

@@ -3,7 +3,7 @@
 use crate::number::Number;
 use crate::scalar::Scalar;
 
-/// What a value or an item of a vector is. An index is that of a declaration.
+/// What a value or an item of a vector is, with the index of its declaration.
 #[derive(Clone, Copy, PartialEq, Eq)]
 pub enum Base {
     Scalar(Scalar),
@@ -38,7 +38,7 @@ pub enum Value {
 }
 
 /// A field of a table. `slot` is that of its value; the type of a union has the slot before it.
-/// `nested` is the index of the table that a `nested_flatbuffer` has as its root.
+/// `nested` is the index of a `nested_flatbuffer`'s root table.
 #[derive(Drop)]
 pub struct TableField {
     pub name: Vec<u8>,
@@ -58,7 +58,7 @@ pub struct Table {
     pub fields: Vec<TableField>,
 }
 
-/// A field of a struct: `size` bytes, `distance` bytes after where the struct begins.
+/// A field of a struct: `size` bytes, `distance` bytes after the struct's start.
 #[derive(Drop)]
 pub struct StructField {
     pub name: Vec<u8>,
@@ -69,7 +69,7 @@ pub struct StructField {
     pub alignment: usize,
 }
 
-/// A struct, with its size and its alignment in bytes.
+/// A struct, with its size and alignment in bytes.
 #[derive(Drop)]
 pub struct Struct {
     pub fields: Vec<StructField>,
@@ -108,7 +108,7 @@ pub struct Union {
     pub members: Vec<UnionMember>,
 }
 
-/// What a declaration says.
+/// The kind and contents of a declaration.
 #[derive(Drop)]
 pub enum Body {
     Table(Table),
@@ -117,8 +117,8 @@ pub enum Body {
     Union(Union),
 }
 
-/// A declaration of a table, a struct, an enum or a union. `name` is its full name with dots, and
-/// `file` the index of its file.
+/// A table, a struct, an enum or a union. `name` is its full name with dots, and `file` the index
+/// of its file.
 #[derive(Drop)]
 pub struct Declared {
     pub name: Vec<u8>,
@@ -127,7 +127,7 @@ pub struct Declared {
     pub body: Body,
 }
 
-/// What the last statement of each kind says. `root` is the index of a table.
+/// The last statement of each kind. `root` is the index of a table.
 #[derive(Drop)]
 pub struct Statements {
     pub root: Option<usize>,
@@ -135,7 +135,7 @@ pub struct Statements {
     pub extension: Option<Vec<u8>>,
 }
 
-/// What the files of a schema mean. An index is a place in `declarations`.
+/// What the files of a schema mean. Indices are those of `declarations`.
 #[derive(Drop)]
 pub struct Schema {
     pub declarations: Vec<Declared>,

@@ -25,8 +25,8 @@ pub fn width(kind: FieldType) -> usize
     if is_union(kind) { 2 } else { 1 }
 }
 
-/// Returns the slot of a field: the next that is free, or with `ids` its own, if it is a number
-/// that leaves room for the type of a union.
+/// Returns the slot of a field: the next free one, or with `ids` its own, if it is a number that
+/// leaves room for the type of a union.
 pub fn slot_of(id: Option<usize>, kind: FieldType, ids: bool, next: usize) -> Option<usize>
     requires next { next ≤ 65535 }
     requires id { IfSome id (λ n. n ≤ 65535) }
@@ -41,7 +41,6 @@ pub fn slot_of(id: Option<usize>, kind: FieldType, ids: bool, next: usize) -> Op
     }
 }
 
-/// Adds the slots that a field takes.
 fn add_slots(slots: &mut Vec<usize>, field: &TableField) -> Result<(), AllocError>
     ensures { OnOk result (slots.new.items ≡ slots.old.items ++ slots_of field.now) }
 {

@@ -2,6 +2,5 @@ use Rattle.std.proofs.Common.{◌≡◌, take}
 use Rattle.planus_layout.specs.Distinct.{items_of}
 use Rattle.planus_layout.proofs.names.copied.Given as goal
 
--- the words so far
 abbrev pub invariant-words : goal.invariant-words
 invariant-words l = items_of l.out.items ≡ items_of (take l.word-index l.words)

@@ -3,7 +3,6 @@ use Rattle.std.specs.List.{list_all}
 use Rattle.planus_layout.specs.Numbers.{is_digit, base, value_in}
 use Rattle.planus_layout.proofs.number.read_digits.Given as goal
 
--- the digits so far
 abbrev pub invariant-digits : goal.invariant-digits
 invariant-digits l = record {
   digits : list_all (is_digit l.hexadecimal) (take l.b-index l.digits) ≡ true;

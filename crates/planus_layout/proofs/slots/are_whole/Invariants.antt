@@ -4,7 +4,6 @@ use Rattle.std.specs.List.{list_any, list_all}
 use Rattle.planus_layout.specs.Slots.{are_apart}
 use Rattle.planus_layout.proofs.slots.are_whole.Given as goal
 
--- the slots so far are marked
 abbrev pub invariant-slots : goal.invariant-slots
 invariant-slots l = record {
   many : length l.taken.items ≡ length l.slots;
