@@ -12,15 +12,15 @@ abbrev pub begins_name : List ℕ → Bool
 begins_name [] = false
 begins_name (b ∷ bs) = not (is_ascii_digit b)
 
--- an identifier: letters, digits and `_`, of which the first is no digit
+-- an identifier: letters, digits and `_`, with no digit first
 abbrev pub is_name : List ℕ → Bool
 is_name w = list_all is_name_byte w && begins_name w
 
--- a name is alike one of these, also where one has capitals that the other has not
+-- a name equals one of these but for the case of letters
 abbrev pub is_among : List ℕ → List (Vec ℕ) → Bool
 is_among name names = list_any (λ m. str_eq_ignore_ascii_case m.items name) names
 
--- no two are alike
+-- no two are alike, whatever the case of letters
 abbrev pub are_apart : List (Vec ℕ) → Bool
 are_apart [] = true
 are_apart (n ∷ ns) = not (is_among n.items ns) && are_apart ns
@@ -28,15 +28,14 @@ are_apart (n ∷ ns) = not (is_among n.items ns) && are_apart ns
 abbrev pub are_all_names : List (Vec ℕ) → Bool
 are_all_names ns = list_all (λ n. is_name n.items) ns
 
--- the names of a scope
+-- the names of a scope: identifiers, no two alike
 abbrev pub are_names : List (Vec ℕ) → Bool
 are_names ns = are_all_names ns && are_apart ns
 
--- each of these are the names of a scope
 abbrev pub are_scopes : List (Vec (Vec ℕ)) → Bool
 are_scopes scopes = list_all (λ ns. are_names ns.items) scopes
 
--- none of the names is one of the others: modules and types stand in one scope
+-- no name is among the others: modules and types share a scope
 abbrev pub are_apart_from : List (Vec ℕ) → List (Vec ℕ) → Bool
 are_apart_from others names =
     list_all (λ n. not (list_any (λ w. bytes_eq w.items n.items) others)) names

@@ -1,4 +1,4 @@
--- In which order the fields of a table are written, and the size of its vtable.
+-- The order in which a table's fields are written, and its vtable's size.
 use Rattle.std.specs.Prelude.{◌≡◌, ℕ, ◌+◌, ◌-◌, ◌*◌, List, [], ◌∷◌, map, length, Option, Some}
 use Rattle.std.specs.Prelude.{None, if◌then◌else◌}
 use Rattle.std.specs.List.Sorted.{IsPermutation, IsNonDecreasingBy}
@@ -11,7 +11,7 @@ use Rattle.planus_layout.specs.declared.schema.TableField.{TableField}
 use Rattle.planus_plan.specs.declared.plan.Line.{Line}
 use Rattle.planus_plan.specs.declared.plan.Plan.{Plan}
 
--- of what is written by a reference: 4
+-- 4 for what is written by a reference
 abbrev pub alignment_or : Option Measure → ℕ
 alignment_or None = 4
 alignment_or (Some m) = m.alignment
@@ -20,7 +20,6 @@ abbrev pub alignment_of : List Declared → FieldType → ℕ
 alignment_of ds kind =
     if kind.vector then 4 else alignment_or (measure_in (map body_in ds) kind.base)
 
--- a field, by the index of its table and its place there
 pub record LineV : Type 0 where
   pub table : ℕ
   pub place : ℕ
@@ -35,7 +34,7 @@ line_of l = record {
   alignment = l.alignment;
 }
 
--- those that aren't deprecated, from a place on
+-- the fields that aren't deprecated, from a place on
 abbrev pub lines_from : List Declared → ℕ → ℕ → List TableField → List LineV
 lines_from ds table place [] = []
 lines_from ds table place (f ∷ fs) = if f.deprecated then lines_from ds table (place + 1) fs
@@ -46,11 +45,10 @@ lines_from ds table place (f ∷ fs) = if f.deprecated then lines_from ds table 
       alignment = alignment_of ds f.kind;
     } ∷ lines_from ds table (place + 1) fs
 
--- no alignment is above one before it
 abbrev pub Falls : List Line → Type 0
 Falls lines = IsNonDecreasingBy (λ l. 18446744073709551615 - l.alignment) lines
 
--- each field that isn't deprecated once, by falling alignment; and a vtable with room for each slot
+-- each field that isn't deprecated once, by falling alignment; a vtable with room for each slot
 pub record IsPlan (ds : List Declared) (table : ℕ) (fields : List TableField) (p : Plan) : Type 0
   where
     pub table_is : p.table ≡ table

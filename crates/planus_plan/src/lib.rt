@@ -1,4 +1,4 @@
-//! What printed code follows: the order of a table's fields, and which names a scope can have.
+//! The order of a table's fields in printed code, and which names a scope can have.
 #![tactic(auto)]
 
 mod plan;

@@ -1,4 +1,4 @@
-//! In which order the fields of a table are written.
+//! The order in which a table's fields are written.
 
 ghost use Rattle.std.specs.Prelude.{◌≡◌, map, IfOk, OnOk};
 ghost use Rattle.std.specs.List.Sorted.{IsPermutation};
@@ -8,8 +8,8 @@ ghost use Rattle.planus_plan.specs.Plans.{alignment_of as alignment_of_lem};
 use planus_layout::{Base, Declared, FieldType, Table, TableField, measure_of, slots_taken};
 use std::alloc::{AllocError, Global};
 
-/// A field of a table: the index of the table, the field's place among the table's fields, what is
-/// said of it, and its alignment in bytes.
+/// A field of a table: the index of the table, the field's place in it, its declaration, and its
+/// alignment in bytes.
 #[derive(Clone, Copy)]
 pub struct Line<'a> {
     pub table: usize,
@@ -75,8 +75,7 @@ fn put_in_order(order: &mut Vec<Line<'_>>) -> Result<(), AllocError>
 }
 
 impl<'a> Plan<'a> {
-    /// Returns the plan of a table, whose declaration has this index: its fields by falling
-    /// alignment, and the size of its vtable.
+    /// Returns the plan of the table whose declaration has this index.
     pub fn of(
         alloc: Global,
         declared: &[Declared],
@@ -97,7 +96,7 @@ impl<'a> Plan<'a> {
         })
     }
 
-    /// Returns whether a field that is given borrows.
+    /// Returns whether a field's argument borrows.
     pub fn borrows(&self) -> bool {
         for line in &self.lines {
             if line.field.kind.vector || line.field.kind.base == Base::Text {
@@ -107,7 +106,7 @@ impl<'a> Plan<'a> {
         false
     }
 
-    /// Returns whether each field has a value where none is said, and there is one.
+    /// Returns whether there are fields and none is required.
     pub fn has_defaults(&self) -> bool {
         for line in &self.lines {
             if line.field.required {

@@ -1,4 +1,4 @@
-//! What the names of a scope are.
+//! The names of a scope.
 
 ghost use Rattle.std.specs.Prelude.{◌≡◌};
 ghost use Rattle.planus_plan.specs.Names.{is_name as is_name_lem};
@@ -28,8 +28,6 @@ fn begins_name(name: &[u8]) -> bool
     }
 }
 
-/// Returns whether a name is an identifier: letters, digits and `_`, of which the first is no
-/// digit.
 fn is_name(name: &[u8]) -> bool
     ensures { result ≡ is_name_lem name.now }
 {
@@ -43,14 +41,14 @@ fn is_name(name: &[u8]) -> bool
     begins_name(name)
 }
 
-/// Returns whether a name is alike one of these, also where one has capitals.
+/// Returns whether a name equals one of these but for the case of letters.
 pub fn is_among(names: &[Vec<u8>], name: &[u8]) -> bool
     ensures { result ≡ is_among_lem name.now names.now }
 {
     names.iter().any(|one| one.eq_ignore_ascii_case(name))
 }
 
-/// Returns whether no two names are alike.
+/// Returns whether no two names are alike, whatever the case of letters.
 pub fn are_apart(names: &[Vec<u8>]) -> bool
     ensures { result ≡ are_apart_lem names.now }
 {

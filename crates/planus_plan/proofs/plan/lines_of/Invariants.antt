@@ -2,7 +2,6 @@ use Rattle.std.proofs.Common.{◌≡◌, ◌++◌, drop, map}
 use Rattle.planus_plan.specs.Plans.{line_of, lines_from}
 use Rattle.planus_plan.proofs.plan.lines_of.Given as goal
 
--- the lines so far and those of what is left are all
 abbrev pub invariant-fields : goal.invariant-fields
 invariant-fields l = record {
   place : l.place ≡ l.field-index;

@@ -2,7 +2,6 @@ use Rattle.std.proofs.Common.{◌≡◌, length}
 use Rattle.planus_plan.specs.Names.{are_all_names}
 use Rattle.planus_plan.proofs.scope.are_all_names.Given as goal
 
--- all are names if those that are left are
 abbrev pub invariant-names : goal.invariant-names
 invariant-names l = are_all_names l.rest ≡ are_all_names l.names
 

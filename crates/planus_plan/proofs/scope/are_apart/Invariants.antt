@@ -2,7 +2,6 @@ use Rattle.std.proofs.Common.{◌≡◌, length}
 use Rattle.planus_plan.specs.Names.{are_apart}
 use Rattle.planus_plan.proofs.scope.are_apart.Given as goal
 
--- the names are apart if those that are left are
 abbrev pub invariant-names : goal.invariant-names
 invariant-names l = are_apart l.rest ≡ are_apart l.names
 

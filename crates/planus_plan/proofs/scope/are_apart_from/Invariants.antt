@@ -2,7 +2,6 @@ use Rattle.std.proofs.Common.{◌≡◌, length}
 use Rattle.planus_plan.specs.Names.{are_apart_from}
 use Rattle.planus_plan.proofs.scope.are_apart_from.Given as goal
 
--- none is one of the others if none of those that are left is
 abbrev pub invariant-names : goal.invariant-names
 invariant-names l = are_apart_from l.others l.rest ≡ are_apart_from l.others l.names
 

@@ -2,7 +2,6 @@ use Rattle.std.proofs.Common.{◌≡◌, length}
 use Rattle.planus_plan.specs.Names.{are_scopes}
 use Rattle.planus_plan.proofs.scope.are_scopes.Given as goal
 
--- all are scopes if those that are left are
 abbrev pub invariant-scopes : goal.invariant-scopes
 invariant-scopes l = are_scopes l.rest ≡ are_scopes l.scopes
 

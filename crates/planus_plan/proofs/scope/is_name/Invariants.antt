@@ -3,7 +3,6 @@ use Rattle.std.specs.List.{list_all}
 use Rattle.planus_plan.specs.Names.{is_name_byte}
 use Rattle.planus_plan.proofs.scope.is_name.Given as goal
 
--- all bytes are those of names if what is left are
 abbrev pub invariant-bytes : goal.invariant-bytes
 invariant-bytes l = list_all is_name_byte l.rest ≡ list_all is_name_byte l.name
 
