@@ -48,11 +48,11 @@ report_text name text at message =
 -- ---- messages
 
 abbrev pub lex_message : LexFault → List ℕ
-lex_message lex.BadNumber = codes "what ends here is no number"
+lex_message lex.BadNumber = codes "the number that ends here is malformed"
 lex_message lex.OpenString = codes "the string has no end on its line"
 lex_message lex.Escape = codes "a backslash in a string is not supported"
 lex_message lex.OpenComment = codes "the comment has no end"
-lex_message lex.Strange = codes "this begins nothing in a schema"
+lex_message lex.Strange = codes "unexpected character"
 
 abbrev pub mark_message : ℕ → List ℕ
 mark_message m =

@@ -12,11 +12,11 @@ pub fn lex_message(fault: LexFault) -> &'static str
     ensures { result.now ≡ lex_message_lem fault }
 {
     match fault {
-        LexFault::BadNumber => "what ends here is no number",
+        LexFault::BadNumber => "the number that ends here is malformed",
         LexFault::OpenString => "the string has no end on its line",
         LexFault::Escape => "a backslash in a string is not supported",
         LexFault::OpenComment => "the comment has no end",
-        LexFault::Strange => "this begins nothing in a schema",
+        LexFault::Strange => "unexpected character",
     }
 }
 

@@ -82,10 +82,14 @@ abbrev pub is_index : Option ℕ → ℕ → Bool
 is_index None n = false
 is_index (Some m) n = nat_eq m n
 
+-- the name of a declaration is the word after its first
+abbrev pub name_left : Declaration → ℕ
+name_left d = d.left - 1
+
 -- a declaration whose name one before it has
 abbrev pub name_fault : List HeadV → ℕ → Placed → List Fault
 name_fault hs n p = fault_in p.head.file
-    (when (not (is_index (index_of hs p.head.name) n)) problem.NameTaken p.tree.left)
+    (when (not (is_index (index_of hs p.head.name) n)) problem.NameTaken (name_left p.tree))
 
 abbrev pub name_faults : List HeadV → ℕ → List Placed → List Fault
 name_faults hs n [] = []
@@ -93,7 +97,7 @@ name_faults hs n (p ∷ ps) = name_fault hs n p ++ name_faults hs (n + 1) ps
 
 -- ---- declarations
 
--- what a declaration says; `left` is its place
+-- what a declaration says; `left` is the place of its name
 abbrev pub wrong_body : List HeadV → List Name → List (Option Measure) → ℕ → Item → Option Broken
 wrong_body hs space ms left (item.Include w) = broken problem.UnknownType left
 wrong_body hs space ms left (item.Namespace p) = broken problem.UnknownType left
@@ -144,12 +148,12 @@ measure_or_byte (Some b) m byte = byte
 
 abbrev pub measure_placed : List HeadV → List (Option Measure) → Placed → Option Measure
 measure_placed hs ms p =
-    measure_or_byte (wrong_body hs p.head.space ms p.tree.left p.tree.item)
+    measure_or_byte (wrong_body hs p.head.space ms (name_left p.tree) p.tree.item)
     (sound_measure hs p.head.space ms p.tree.item) (byte_measure p.tree.item)
 
 abbrev pub body_fault : List HeadV → List (Option Measure) → Placed → List Fault
 body_fault hs ms p =
-    fault_in p.head.file (wrong_body hs p.head.space ms p.tree.left p.tree.item)
+    fault_in p.head.file (wrong_body hs p.head.space ms (name_left p.tree) p.tree.item)
 
 -- after declarations that measure this
 abbrev pub body_faults : List HeadV → List (Option Measure) → List Placed → List Fault

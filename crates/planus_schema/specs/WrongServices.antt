@@ -71,7 +71,7 @@ wrong_in_record known r = first (wrong_attributes known r.attributes.items)
 -- a method after those of these names
 abbrev pub wrong_method : List HeadV → List Name → List Name → List Name → Method → Option Broken
 wrong_method hs space known names m =
-    first (when (is_in names m.name.items) problem.MethodNameTaken m.request.left)
+    first (when (is_in names m.name.items) problem.MethodNameTaken m.left)
     (first (wrong_table problem.MethodIsNoTable hs space m.request)
     (first (wrong_table problem.MethodIsNoTable hs space m.response)
     (wrong_attributes known m.attributes.items)))

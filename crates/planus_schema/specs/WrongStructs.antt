@@ -126,23 +126,23 @@ greatest_after hs space ms n (f ∷ fs) =
 abbrev pub is_aligned : ℕ → ℕ → Bool
 is_aligned greatest n = is_alignment n && nat_le greatest n
 
-abbrev pub wrong_forced : ℕ → ℕ → ℕ → Option ℕ → Option Broken
-wrong_forced greatest left at None = broken problem.WrongAlignment at
-wrong_forced greatest left at (Some n) =
+abbrev pub wrong_forced : ℕ → ℕ → Option ℕ → Option Broken
+wrong_forced greatest left None = broken problem.WrongAlignment left
+wrong_forced greatest left (Some n) =
     when (not (is_aligned greatest n)) problem.WrongAlignment left
 
--- `force_align`, with its own place where it is no number up to 32
+-- at `force_align`, if it is given
 abbrev pub wrong_alignment : ℕ → ℕ → Option Attribute → Option Broken
 wrong_alignment greatest left None =
     when (not (is_aligned greatest greatest)) problem.WrongAlignment left
-wrong_alignment greatest left (Some a) = wrong_forced greatest left a.label.left
+wrong_alignment greatest left (Some a) = wrong_forced greatest a.label.left
     (at_most 32 (number_in (attribute_of a).value))
 
 abbrev pub is_empty : List Field → Bool
 is_empty [] = true
 is_empty (f ∷ fs) = false
 
--- its fields one by one, and then its alignment; `left` is the place of the struct
+-- its fields one by one, and then its alignment; `left` is the place of the struct's name
 abbrev pub wrong_struct : List HeadV → List Name → List (Option Measure) → Record → ℕ
     → Option Broken
 wrong_struct hs space ms r left =

@@ -54,7 +54,7 @@ abbrev pub wrong_nested : List HeadV → List Name → Option Attribute → Opti
 wrong_nested hs space None = None
 wrong_nested hs space (Some a) =
     when (not (is_set (table_in (table_found hs space (nested_name (attribute_of a).value)))))
-    problem.WrongNested a.label.left
+    problem.NestedIsNoTable a.label.left
 
 -- what may be `required`, a `key` and a nested buffer
 abbrev pub wrong_law : Bool → Bool → Bool → FieldType → ℕ → Option Broken
@@ -121,7 +121,7 @@ slots_from hs space ids next (f ∷ fs) =
     let t = field_type hs space f in
     slots_at t (field_slot t ids next f) ++ slots_from hs space ids (next + width t) fs
 
--- the fields one by one, and then all slots together; `left` is the place of the table
+-- the fields one by one, and then all slots together; `left` is the place of the table's name
 abbrev pub wrong_table_fields : List HeadV → List Name → ℕ → List Field → Option Broken
 wrong_table_fields hs space left fs =
     let ids = has_ids (map field_of fs) in

@@ -131,7 +131,7 @@ fn check_method(
         (names_of known.now) (names_of names.old.items) method.now) result }
 {
     if !take_name(alloc, names, &method.name)? {
-        return Err(wrong(Problem::MethodNameTaken, method.request.left));
+        return Err(wrong(Problem::MethodNameTaken, method.left));
     }
     table_at(
         alloc,

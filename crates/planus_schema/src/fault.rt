@@ -63,8 +63,10 @@ pub enum Problem {
     WrongKey,
     /// A second field is the `key`.
     SecondKey,
-    /// `nested_flatbuffer` stands at what is no `[ubyte]`, or names no table.
+    /// A field with `nested_flatbuffer` is no `[ubyte]`.
     WrongNested,
+    /// The value of `nested_flatbuffer` names no table.
+    NestedIsNoTable,
     /// An attribute is not known and not declared.
     UnknownAttribute,
     /// The root is no table.

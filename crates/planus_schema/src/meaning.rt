@@ -15,6 +15,7 @@ ghost use Rattle.planus_schema.specs.Faults.{placed_of, Adds, wrong_body, sound_
 ghost use Rattle.planus_schema.specs.Faults.{byte_measure, measure_placed, body_fault};
 ghost use Rattle.planus_schema.specs.Faults.{body_faults, name_fault, name_faults, AreInOrder};
 ghost use Rattle.planus_schema.specs.Faults.{faults_found, IsExact, AreWithin};
+ghost use Rattle.planus_schema.specs.Faults.{name_left as name_left_lem};
 
 use crate::enums::enum_of;
 use crate::fault::{Fault, Problem, Refusal, Stop, note, wrong};
@@ -28,6 +29,13 @@ use planus_layout::{Body, Declared, Enum, Scalar, Schema, Struct, Table, Union, 
 use planus_syntax::{Declaration, Item};
 use std::alloc::{AllocError, Global};
 
+/// Returns where the name of a declaration is, which follows its first word.
+fn name_left(declaration: &Declaration) -> usize
+    ensures { result ≡ name_left_lem declaration.now }
+{
+    declaration.left.saturating_sub(1)
+}
+
 /// Returns what a declaration says.
 fn body_of(alloc: Global, heads: &Heads, declared: &[Declared], head: &Head) -> Result<Body, Stop>
     ensures says { IfOk result (λ b. SaysBody (map head_of heads.now) (space_of head.now.space)
@@ -37,10 +45,10 @@ fn body_of(alloc: Global, heads: &Heads, declared: &[Declared], head: &Head) -> 
         (map head_of heads.now) (space_of head.now.space) (measures_of declared.now)
         head.now.declaration.now.item) }
     ensures wrong { Tells (wrong_body (map head_of heads.now) (space_of head.now.space)
-        (measures_of declared.now) head.now.declaration.now.left head.now.declaration.now.item)
-        result }
+        (measures_of declared.now) (name_left_lem head.now.declaration.now)
+        head.now.declaration.now.item) result }
 {
-    let left = head.declaration.left;
+    let left = name_left(head.declaration);
     let space = head.space;
     match &head.declaration.item {
         Item::Table(record) => Ok(Body::Table(table_of(alloc, heads, space, record, left)?)),
@@ -174,7 +182,7 @@ fn check_name(
         note(
             faults,
             head.file,
-            wrong(Problem::NameTaken, head.declaration.left),
+            wrong(Problem::NameTaken, name_left(head.declaration)),
         )
     }
 }

@@ -187,17 +187,17 @@ fn alignment_of(attributes: &[Attribute], greatest: usize, left: usize) -> Resul
     ensures wrong { Tells (wrong_alignment greatest left
         (attribute_named (codes "force_align") attributes.now)) result }
 {
-    let alignment = match setting(attributes, b"force_align") {
+    let (alignment, at) = match setting(attributes, b"force_align") {
         Some(attribute) => match setting_number(attribute) {
-            Some(number) if number <= 32 => number as usize,
+            Some(number) if number <= 32 => (number as usize, attribute.label.left),
             _ => return Err(wrong(Problem::WrongAlignment, attribute.label.left)),
         },
-        None => greatest,
+        None => (greatest, left),
     };
     if is_alignment(alignment) && greatest <= alignment {
         Ok(alignment)
     } else {
-        Err(wrong(Problem::WrongAlignment, left))
+        Err(wrong(Problem::WrongAlignment, at))
     }
 }
 

@@ -117,15 +117,15 @@ fn table_named(
         (found_lem (map head_of heads.now) (space_of space.entry) (text.now ∷ []))
         ≡ Some (Base.Table i)) }
     ensures wrong { Tells (when (not (is_set (table_in (table_found (map head_of heads.now)
-        (space_of space.entry) (Some text.now))))) Problem.WrongNested left) result }
+        (space_of space.entry) (Some text.now))))) Problem.NestedIsNoTable left) result }
 {
     let path = path_of_text(alloc, text, left)?;
     match found(alloc, heads, space, &path)? {
         Some(index) => match head_base(heads, index) {
             Some(Base::Table(table)) => Ok(table),
-            _ => Err(wrong(Problem::WrongNested, left)),
+            _ => Err(wrong(Problem::NestedIsNoTable, left)),
         },
-        None => Err(wrong(Problem::WrongNested, left)),
+        None => Err(wrong(Problem::NestedIsNoTable, left)),
     }
 }
 
@@ -149,7 +149,7 @@ fn nested_of(
                 let table = table_named(alloc, heads, space, text, attribute.label.left)?;
                 Ok(Some(table))
             }
-            _ => Err(wrong(Problem::WrongNested, attribute.label.left)),
+            _ => Err(wrong(Problem::NestedIsNoTable, attribute.label.left)),
         },
         None => Ok(None),
     }

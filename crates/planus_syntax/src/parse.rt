@@ -672,8 +672,8 @@ fn method_at(alloc: Global, tokens: &[Token]) -> Result<(Method, &[Token]), Read
     ensures { Gives (λ x. (method_of x.0, pieces_of x.1.now)) result
         (method_at_lem (pieces_of tokens.now)) }
 {
-    let (docs, rest) = docs_at(alloc, tokens)?;
-    let (name, rest) = word_at(alloc, rest)?;
+    let (docs, start) = docs_at(alloc, tokens)?;
+    let (name, rest) = word_at(alloc, start)?;
     let rest = mark_at(rest, b'(')?;
     let (request, rest) = path_at(alloc, rest)?;
     let rest = mark_at(rest, b')')?;
@@ -684,6 +684,7 @@ fn method_at(alloc: Global, tokens: &[Token]) -> Result<(Method, &[Token]), Read
     Ok((
         Method {
             docs,
+            left: start.len(),
             name,
             request,
             response,

@@ -109,6 +109,7 @@ pub struct UnionBody {
 #[derive(Drop)]
 pub struct Method {
     pub docs: Vec<Vec<u8>>,
+    pub left: usize,
     pub name: Vec<u8>,
     pub request: Path,
     pub response: Path,

@@ -13,7 +13,7 @@ pub returns-then-not-branch-clause-wrong : goal.returns-then-not-branch-clause-w
 returns-then-not-branch-clause-wrong c =
     let names = names_of c.args.names.now.items in
     let used : is_in names c.args.method.now.name.items ≡ true = ap (is_in names) (sym c.deref.ensures.value) ∙ name_used _ _ c.if-not-branch.true c.in_ok-take_name.ensures.new in
-    rw c.wrong.ensures (stops_now _ problem.MethodNameTaken c.args.method.now.request.left _ used)
+    rw c.wrong.ensures (stops_now _ problem.MethodNameTaken c.args.method.now.left _ used)
 
 pub returns-in_err-table_at-clause-wrong : goal.returns-in_err-table_at-clause-wrong
 returns-in_err-table_at-clause-wrong c =
@@ -21,7 +21,7 @@ returns-in_err-table_at-clause-wrong c =
     let e = c.in_err-table_at.field-0.0 in
     let names = names_of c.args.names.now.items in
     let new : is_in names c.args.method.now.name.items ≡ false = ap (is_in names) (sym c.deref.ensures.value) ∙ name_new _ _ c.if-not-branch.false c.in_ok-take_name.ensures.new in
-    rw (p.1, p.2) (stops_next _ _ e (passes _ problem.MethodNameTaken c.args.method.now.request.left new) (stops_first _ _ e c.in_err-table_at.ensures.wrong))
+    rw (p.1, p.2) (stops_next _ _ e (passes _ problem.MethodNameTaken c.args.method.now.left new) (stops_first _ _ e c.in_err-table_at.ensures.wrong))
 
 pub returns-in_err-table_at-2-clause-wrong : goal.returns-in_err-table_at-2-clause-wrong
 returns-in_err-table_at-2-clause-wrong c =
@@ -29,7 +29,7 @@ returns-in_err-table_at-2-clause-wrong c =
     let e = c.in_err-table_at-2.field-0.0 in
     let names = names_of c.args.names.now.items in
     let new : is_in names c.args.method.now.name.items ≡ false = ap (is_in names) (sym c.deref.ensures.value) ∙ name_new _ _ c.if-not-branch.false c.in_ok-take_name.ensures.new in
-    rw (p.1, p.2) (stops_next _ _ e (passes _ problem.MethodNameTaken c.args.method.now.request.left new)
+    rw (p.1, p.2) (stops_next _ _ e (passes _ problem.MethodNameTaken c.args.method.now.left new)
     (stops_next _ _ e c.in_ok-table_at.ensures.wrong (stops_first _ _ e c.in_err-table_at-2.ensures.wrong)))
 
 pub returns-clause-added : goal.returns-clause-added
@@ -42,5 +42,5 @@ pub returns-clause-wrong : goal.returns-clause-wrong
 returns-clause-wrong c =
     let names = names_of c.args.names.now.items in
     let new : is_in names c.args.method.now.name.items ≡ false = ap (is_in names) (sym c.deref.ensures.value) ∙ name_new _ _ c.if-not-branch.false c.in_ok-take_name.ensures.new in
-    let left = skip _ _ (passes _ problem.MethodNameTaken c.args.method.now.request.left new) ∙ skip _ _ c.in_ok-table_at.ensures.wrong ∙ skip _ _ c.in_ok-table_at-2.ensures.wrong ∙ ap (wrong_attributes (names_of c.args.known.now)) (sym c.deref-2.ensures.value) in
+    let left = skip _ _ (passes _ problem.MethodNameTaken c.args.method.now.left new) ∙ skip _ _ c.in_ok-table_at.ensures.wrong ∙ skip _ _ c.in_ok-table_at-2.ensures.wrong ∙ ap (wrong_attributes (names_of c.args.known.now)) (sym c.deref-2.ensures.value) in
     subst (λ o. Tells o c.check_attributes.result) (sym left) c.check_attributes.ensures

@@ -3,7 +3,7 @@ use Rattle.std.specs.Prelude.{None}
 use Rattle.std.proofs.lemmas.Result.{on_ok_weaker}
 use Rattle.planus_schema.specs.Wrong.{Stops}
 use Rattle.planus_schema.specs.WrongStructs.{measures_of}
-use Rattle.planus_schema.specs.Faults.{wrong_body, sound_measure, byte_measure}
+use Rattle.planus_schema.specs.Faults.{name_left, wrong_body, sound_measure, byte_measure}
 use Rattle.planus_schema.proofs.FaultLemmas.{ok_anyway, adds_nothing, adds_told, no_fault, byte_told}
 use Rattle.planus_syntax.specs.Values.{item_of}
 use Rattle.planus_schema.specs.Names.{head_of, space_of}
@@ -24,7 +24,7 @@ pub returns-in_ok-add_body-in-Ok-clause-adds : goal.returns-in_ok-add_body-in-Ok
 returns-in_ok-add_body-in-Ok-clause-adds c =
     let hs = map head_of c.args.heads.now in
     let h = c.args.head.now in
-    let n = subst (λ ds. wrong_body hs (space_of h.space) (measures_of ds) h.declaration.now.left h.declaration.now.item ≡ None) c.deref.ensures.value c.in-Ok.ensures.wrong in
+    let n = subst (λ ds. wrong_body hs (space_of h.space) (measures_of ds) (name_left h.declaration.now) h.declaration.now.item ≡ None) c.deref.ensures.value c.in-Ok.ensures.wrong in
     adds_nothing c.args.faults.now.items _ c.requires (no_fault h.file _ n)
 
 pub returns-in_ok-note-in-Err-clause-measures : goal.returns-in_ok-note-in-Err-clause-measures
@@ -33,16 +33,16 @@ returns-in_ok-note-in-Err-clause-measures c =
     let h = c.args.head.now in
     let old = measures_of c.args.declared.now.items in
     let item = h.declaration.now.item in
-    let s = subst (λ ds. Stops (wrong_body hs (space_of h.space) (measures_of ds) h.declaration.now.left item) c.in-Err.stop) c.deref.ensures.value c.in-Err.ensures.wrong in
+    let s = subst (λ ds. Stops (wrong_body hs (space_of h.space) (measures_of ds) (name_left h.declaration.now) item) c.in-Err.stop) c.deref.ensures.value c.in-Err.ensures.wrong in
     on_ok_weaker c.add_body-in-Err.result
-    (λ e. e ∙ ap (λ m. old ++ m ∷ []) (c.stand_in-body.ensures ∙ sym (byte_told (wrong_body hs (space_of h.space) old h.declaration.now.left item) c.in-Err.stop (sound_measure hs (space_of h.space) old item) (byte_measure item) s c.in_ok-note-in-Err.ensures.told)))
+    (λ e. e ∙ ap (λ m. old ++ m ∷ []) (c.stand_in-body.ensures ∙ sym (byte_told (wrong_body hs (space_of h.space) old (name_left h.declaration.now) item) c.in-Err.stop (sound_measure hs (space_of h.space) old item) (byte_measure item) s c.in_ok-note-in-Err.ensures.told)))
     c.add_body-in-Err.ensures.measures
 
 pub returns-in_ok-note-in-Err-clause-adds : goal.returns-in_ok-note-in-Err-clause-adds
 returns-in_ok-note-in-Err-clause-adds c =
     let hs = map head_of c.args.heads.now in
     let h = c.args.head.now in
-    let s = subst (λ ds. Stops (wrong_body hs (space_of h.space) (measures_of ds) h.declaration.now.left h.declaration.now.item) c.in-Err.stop) c.deref.ensures.value c.in-Err.ensures.wrong in
+    let s = subst (λ ds. Stops (wrong_body hs (space_of h.space) (measures_of ds) (name_left h.declaration.now) h.declaration.now.item) c.in-Err.stop) c.deref.ensures.value c.in-Err.ensures.wrong in
     ok_anyway c.add_body-in-Err.result _
     (adds_told h.file _ c.in-Err.stop c.args.faults.now.items c.note.new.faults.items s
     c.in_ok-note-in-Err.ensures.told c.in_ok-note-in-Err.ensures.adds)
