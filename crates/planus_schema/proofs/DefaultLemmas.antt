@@ -1,4 +1,4 @@
--- What a literal says is a default of its type.
+-- The meaning of a literal is a default of its type.
 use Rattle.std.proofs.Common.{◌≡◌, ℕ, ◌+◌, ◌<◌, Bool, true, false, cond, List, [], ◌∷◌, ◌++◌, length, take, drop, get_or, refl, sym, ap, subst, ◌∙◌}
 use Rattle.std.specs.Global.{Vec}
 use Rattle.std.specs.Prelude.{fold}
@@ -19,7 +19,6 @@ use Rattle.planus_schema.specs.Names.{HeadV, item_at, cut_words}
 use Rattle.planus_schema.specs.Enums.{is_flags}
 use Rattle.planus_schema.specs.Defaults.{ValueV, absent, integer, float, text, empty, is_word, absent_or, if_fits, whole_number, number_default, truth, named_bool, named_float, float_number, scalar_default, value_named, value_name, value_in, as_integer, enum_named, is_among_values, among_values, flags_named, with_flag, or_flag, as_flags, text_default, vector_default, enum_at, default_in, base_default, zero_in, zero_scalar, zero_default, some_default, default_said, is_scalar_value, is_enum_value, is_text_value, is_vector_value, is_value, is_default}
 
--- whatever is there has this
 record Allowed (p : ValueV → Bool) (o : Option ValueV) : Type 0 where
   each : (v : ValueV) → o ≡ Some v → p v ≡ true
 
@@ -35,8 +34,6 @@ one_allowed p x h = record { each = λ v e. subst (λ y. p y ≡ true) (some_val
 chosen : (p : ValueV → Bool) (q : Bool) (x y : Option ValueV) → (q ≡ true → Allowed p x) → (q ≡ false → Allowed p y) → Allowed p (cond q x y)
 chosen p true x y f g = f refl
 chosen p false x y f g = g refl
-
--- ---- scalars
 
 float_allowed : (s : Scalar) (w : List ℕ) → is_float s ≡ true → Allowed (is_scalar_value s) (float_number w)
 float_allowed s w h = chosen (is_scalar_value s) (is_hexadecimal (without_sign w)) None (Some (float w)) (λ _. none_allowed (is_scalar_value s)) (λ _. one_allowed (is_scalar_value s) (float w) h)
@@ -87,8 +84,6 @@ scalar_allowed s (named p) =
 scalar_allowed s (quote w) = none_allowed (is_scalar_value s)
 scalar_allowed s nothing = none_allowed (is_scalar_value s)
 
--- ---- enums
-
 integer_allowed : (o : Option Number) → Allowed is_enum_value (as_integer o)
 integer_allowed None = none_allowed is_enum_value
 integer_allowed (Some n) = one_allowed is_enum_value (integer n) refl
@@ -114,8 +109,6 @@ enum_allowed (Some e) (numeral w) = number_allowed e (integer_said w)
 enum_allowed (Some e) (named p) = absent_allowed is_enum_value p (enum_named e p) refl (value_allowed e (value_name e p))
 enum_allowed (Some e) (quote w) = chosen is_enum_value (is_flags e) (as_flags (flags_named e (cut_words [] w))) None (λ _. flags_allowed (flags_named e (cut_words [] w))) (λ _. none_allowed is_enum_value)
 enum_allowed (Some e) nothing = none_allowed is_enum_value
-
--- ---- all types
 
 text_allowed : (l : LiteralV) → Allowed is_text_value (text_default l)
 text_allowed (numeral w) = none_allowed is_text_value
@@ -185,9 +178,6 @@ pub default_lawful : (hs : List HeadV) (d : Option LiteralV) (t : FieldType) (o 
 default_lawful hs None t o e = none_lawful hs t.vector t.base o e
 default_lawful hs (Some l) t o e = literal_lawful hs t.vector t.base l o e
 
--- ---- flags
-
--- this word is no value, so the words together are none
 pub no_flag : (e : EnumerationV) (ws : List (Vec ℕ)) (i : ℕ) (w : Vec ℕ) (total : ℕ) → i < length ws → w ≡ get_or ws i w → flags_named e (names_of (take i ws)) ≡ Some total → value_named w.items true None e.variants ≡ None → flags_named e (names_of ws) ≡ None
 no_flag e ws i w total l is t n =
     let rest = names_of (drop (i + 1) ws) in

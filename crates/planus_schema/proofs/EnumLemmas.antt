@@ -37,8 +37,6 @@ no_values xs e = rw e (distinct_none same_number)
 pub numbers_any : (vs : List EnumValue) (n : Number) → list_any (λ m. same_number m n) (map number_of_value vs) ≡ list_any (λ v. same_number v.number n) vs
 numbers_any vs n = list_any-map (λ m. same_number m n) number_of_value vs
 
--- ---- the values so far, and what is wrong with those that are left
-
 pub spelled_push : (vs : List VariantV) (v : VariantV) → list_all is_spelled vs ≡ true → is_spelled v ≡ true → list_all is_spelled (vs ++ v ∷ []) ≡ true
 spelled_push vs v h e = list_all-append is_spelled vs (v ∷ []) ∙ rw (h, e) refl
 

@@ -29,7 +29,6 @@ few n xs h = grind (arith, common_steps, h)
 cut : (n : ℕ) (xs ys : List Fault) → length xs ≡ n → take n (xs ++ ys) ≡ xs
 cut n xs ys h = take-append-le n xs ys (omega (arith, h)) ∙ few n xs (omega (arith, h))
 
--- no fault is added
 pub adds_none : (xs : List Fault) → length xs ≤ 20 → xs ≡ first_twenty (xs ++ [])
 unfolding first_twenty
 adds_none xs h = sym (few 20 xs h) ∙ ap (take 20) (sym (append-nil' xs))
@@ -45,24 +44,19 @@ pub adds_full : (xs : List Fault) (f : Fault) → length xs ≤ 20 → 20 ≤ le
 unfolding first_twenty
 adds_full xs f h k = sym (cut 20 xs (f ∷ []) (omega (arith, h, k)))
 
--- the faults so far and those of what is left are all
 pub adds_next : (old found new rest all : List Fault) → Adds found old new → first_twenty (old ++ (found ++ rest)) ≡ all → first_twenty (new ++ rest) ≡ all
 unfolding first_twenty
 adds_next old found new rest all e h =
     ap (λ xs. take 20 (xs ++ rest)) e ∙ capped 20 (old ++ found) rest ∙ ap (take 20) (append_assoc old found rest) ∙ h
 
--- three times
 pub adds_thrice : (a b c : List Fault) (x y z : List Fault) → Adds a [] x → Adds b x y → Adds c y z → z ≡ first_twenty (a ++ (b ++ c))
 adds_thrice a b c x y z e f g =
     g ∙ adds_next x b y c (first_twenty (x ++ (b ++ c))) f refl ∙ adds_next [] a x (b ++ c) (first_twenty (a ++ (b ++ c))) e refl
-
--- ---- what is found
 
 pub told_is : (o : Option Broken) (s : Stop) → Stops o s → is_set (broken_in s) ≡ true → o ≡ broken_in s
 told_is o stop.OutOfMemory h t = absurd cc
 told_is o (stop.Wrong p l) h t = h
 
--- one of two parts is what it is stopped by
 pub stops_first : (o p : Option Broken) (s : Stop) → Stops o s → Stops (first o p) s
 stops_first o p stop.OutOfMemory h = tt
 stops_first o p (stop.Wrong q l) h = rw h refl
@@ -79,7 +73,6 @@ skip o p e = rw e refl
 pub passes : (b : Bool) (p : Problem) (left : ℕ) → b ≡ false → when b p left ≡ None
 passes b p left e = rw e refl
 
--- of a list, what is wrong with the first item or with those after it
 pub first_stops : {A : Type 0} (W : List A → Option Broken) (o next : Option Broken) (xs : List A) (x : A) (rest : List A) (all : Option Broken) (s : Stop) → xs ≡ x ∷ rest → W (x ∷ rest) ≡ first o next → W xs ≡ all → Stops o s → Stops all s
 first_stops W o next xs x rest all s here is same h = subst (λ w. Stops w s) (sym is ∙ ap W (sym here) ∙ same) (stops_first o next s h)
 
@@ -90,7 +83,6 @@ told_now W b p left next xs x rest all here is same e =
 pub next_is : {A : Type 0} (W : List A → Option Broken) (o next : Option Broken) (xs : List A) (x : A) (rest : List A) (all : Option Broken) → xs ≡ x ∷ rest → W (x ∷ rest) ≡ first o next → W xs ≡ all → o ≡ None → next ≡ all
 next_is W o next xs x rest all here is same none = sym (skip o next none) ∙ sym is ∙ ap W (sym here) ∙ same
 
--- a name that is used, and one that is not
 pub name_used : (new used : Bool) → new ≡ false → new ≡ not used → used ≡ true
 name_used new true e n = refl
 name_used new false e n = absurd cc
@@ -124,8 +116,6 @@ sound_told o m b h = rw h refl
 pub ok_anyway : {T E : Type 0} (r : Result T E) (P : Type 0) → P → OnOk r P
 ok_anyway (Ok x) P p = p
 ok_anyway (Err e) P p = tt
-
--- ---- the whole
 
 pub all_found : (files : List (Vec Declaration)) (hs : List Head) (start x y z : List Fault) → start ≡ [] → map head_of hs ≡ heads_of (map (λ f. schema_of f.items) files) → map placed_of hs ≡ placed_from 0 files → Adds (name_faults (map head_of hs) 0 (map placed_of hs)) start x → Adds (body_faults (map head_of hs) [] (map placed_of hs)) x y → Adds (file_faults (map head_of hs) (known_attributes files) 0 files) y z → z ≡ faults_found files
 all_found files hs start x y z s h p a b c =

@@ -1,4 +1,4 @@
--- One more declaration in the index, and names that are new.
+-- The index with one more declaration, and new names.
 use Rattle.std.proofs.Common.{◌≡◌, ℕ, zero, suc, ◌+◌, ◌<◌, ◌≤◌, cond, Bool, false, List, length, map, take, drop, get_or, refl, sym, ap, subst, ◌∙◌, arith, add-one}
 use Rattle.std.specs.Prelude.{Some, position}
 use Rattle.std.specs.List.{list_any, position_from}
@@ -13,7 +13,6 @@ use Rattle.planus_layout.proofs.Lists.{distinct_push, list_any-map}
 use Rattle.planus_schema.proofs.Lists.{position-map}
 use Rattle.planus_schema.proofs.StructLemmas.{map_next, map_rest}
 
--- the first from here on is the one here, or the first of those after it
 pub one_before : (hs : List Head) (i n : ℕ) (h : Head) (name : List ℕ) → n ≡ i + 1 → i < length hs → h ≡ get_or hs i h → cond (bytes_eq h.name.items name) (Some i) (position_from (has_name name) n (map head_of (drop n hs))) ≡ position_from (has_name name) i (map head_of (drop i hs))
 one_before hs i n h name e l is =
     rw e (sym (ap (position_from (has_name name) i) (map_rest head_of hs i h l is)))
@@ -24,7 +23,6 @@ none_before p xs (suc i) d l h =
     let rest : list_any p (take i xs) ≡ false = none_before p xs i d (omega (arith, l)) (λ k lt. h k (omega (arith, lt))) in
     subst (λ n. list_any p (take n xs) ≡ false) (add-one i) (list_any_more p xs i d (omega (arith, l)) ∙ rw (rest, h i (omega arith)) refl)
 
--- the name of the first declaration of its name is not among those before it
 pub first_is_new : (hs : List Head) (i : ℕ) (h : Head) → i < length hs → h ≡ get_or hs i h → index_of (map head_of hs) h.name.items ≡ Some i → AreDistinct (map (λ v. v.name) (map head_of (take i hs))) → AreDistinct (map (λ v. v.name) (map head_of (take (i + 1) hs)))
 first_is_new hs i h l is first d =
     let name = h.name.items in

@@ -17,19 +17,16 @@ position-map p f xs =
     ap (λ n. cond (nat_lt n (length (map f xs))) (Some n) None) e
     ∙ ap (λ k. cond (nat_lt (prefix_len (λ x. not (p (f x))) xs) k) (Some (prefix_len (λ x. not (p (f x))) xs)) None) l
 
--- the first word, and then the others
 pub words_taken : (out : List ℕ) (first : Name) (more : List Name) (n : ℕ) → 0 < n → fold with_word (with_word out first) (take (n - 1) more) ≡ fold with_word out (take n (first ∷ more))
 words_taken out first more zero h = absurd (omega arith)
 words_taken out first more (suc n) h = rw sub-one refl
 
--- nothing has this name here, so it is looked for one word further out
 pub further_out : (hs : List HeadV) (space words : List Name) (n : ℕ) (r : Option ℕ) → 0 < n → r ≡ None → r ≡ index_of hs (dotted (take n space ++ words)) → found_from hs space words (n - 1) ≡ found_from hs space words n
 further_out hs space words zero r h e i = absurd (omega arith)
 further_out hs space words (suc n) r h e i =
     let k : index_of hs (dotted (take (suc n) space ++ words)) ≡ None = sym i ∙ e in
     rw (sub-one, k) refl
 
--- a byte of a text: the end of a word, or one more of it
 pub word_cut : (front : List Name) (word : List ℕ) (b : ℕ) (text rest : List ℕ) (all : List Name) → text ≡ b ∷ rest → b ≡ 32 → front ++ cut_words word text ≡ all → (front ++ word ∷ []) ++ cut_words [] rest ≡ all
 word_cut front word b text rest all here e same =
     append_assoc front (word ∷ []) (cut_words [] rest) ∙ ap (λ x. front ++ cut_words word (x ∷ rest)) (sym e) ∙ ap (λ t. front ++ cut_words word t) (sym here) ∙ same

@@ -1,4 +1,4 @@
--- A schema that files mean is sound.
+-- The meaning of files is a sound schema.
 use Rattle.std.proofs.Common.{◌≡◌, ℕ, zero, suc, ◌+◌, ◌<◌, Bool, true, false, cond, List, [], ◌∷◌, ◌++◌, length, map, refl, sym, ap, subst, ◌∙◌, append_assoc, length-append}
 use Rattle.std.specs.Prelude.{Option, Some, None, slice_get, codes}
 use Rattle.std.specs.Option.{option_map}
@@ -29,8 +29,6 @@ use Rattle.planus_schema.specs.Schemas.{SaysBody, SayBodies, IsHeadOf, Statement
 use Rattle.planus_layout.specs.declared.schema.Declared.{Declared}
 use Rattle.planus_layout.specs.declared.schema.Schema.{Schema}
 use Rattle.planus_schema.specs.Sound.{IsTableAt, Refers, IsNested, RefersField, IsBelow, RefersBefore, RefersBody, AreSound, IsSound}
-
--- ---- declarations and what they say are of one kind
 
 pub base_of_body : Option Body → ℕ → Option Base
 base_of_body None i = None
@@ -65,7 +63,6 @@ same_kind hs space before (root p) b i h = absurd h
 same_kind hs space before (identifier w) b i h = absurd h
 same_kind hs space before (extension w) b i h = absurd h
 
--- at every index
 pub record Matches (hs : List HeadV) (bs : List Body) : Type 0 where
   pub each : (i j : ℕ) → base_of_head (option_map (λ (h : HeadV). h.declaration.item) (slice_get hs i)) j ≡ base_of_body (slice_get bs i) j
 
@@ -120,8 +117,6 @@ refers_type : (hs : List HeadV) (bs : List Body) (space : List Name) (k : KindV)
 refers_type hs bs space (single p) t m e = refers_named hs bs space p t.base m (typed false (base_named hs space p) t e)
 refers_type hs bs space (vector p) t m e = refers_named hs bs space p t.base m (typed true (base_named hs space p) t e)
 
--- ---- fields and members
-
 refers_table : (hs : List HeadV) (bs : List Body) (space : List Name) (i : ℕ) (o : Option Name) → Matches hs bs → table_found hs space o ≡ Some (base.Table i) → IsTableAt bs i
 refers_table hs bs space i None m e = absurd cc
 refers_table hs bs space i (Some w) m e = refers_found hs bs (base.Table i) (found hs space (w ∷ [])) m e
@@ -145,7 +140,6 @@ refers_members hs bs space (d ∷ ds) [] m x = absurd x
 refers_members hs bs space (d ∷ ds) (f ∷ fs) m x =
     (refers_named hs bs space (target_of d) (base.Table f.table) m x.0.table, refers_members hs bs space ds fs m x.1)
 
--- what is measured is there
 measured : (before : List Body) (i : ℕ) (m : Measure) (o : Option Body) → o ≡ slice_get before i → measure_of_body o ≡ Some m → i < length before
 measured before i m None s e = absurd cc
 measured before i m (Some b) s e = slice_get_within before i b (sym s)
@@ -177,8 +171,6 @@ refers_before hs before rest space [] (f ∷ fs) x = absurd x
 refers_before hs before rest space (d ∷ ds) [] x = absurd x
 refers_before hs before rest space (d ∷ ds) (f ∷ fs) x =
     (record { below = below before f.base _ x.0.measure; measure = measure_kept before rest f.base _ x.0.measure }, refers_before hs before rest space ds fs x.1)
-
--- ---- declarations
 
 refers_said : (hs : List HeadV) (space : List Name) (before rest : List Body) (item : ItemV) (b : Body) → Matches hs (before ++ rest) → SaysBody hs space before item b → RefersBody (before ++ rest) (length before) b
 refers_said hs space before rest (include w) b m h = absurd h
@@ -220,8 +212,6 @@ same_names [] [] x = refl
 same_names [] (d ∷ ds) x = absurd x
 same_names (h ∷ hs) [] x = absurd x
 same_names (h ∷ hs) (d ∷ ds) x = ap (λ w. w ∷ map (λ (e : Declared). e.name.items) ds) x.0.name ∙ ap (λ ws. h.name ∷ ws) (same_names hs ds x.1)
-
--- ---- the root
 
 pub record RootIs (bs : List Body) (s : StatementsV) : Type 0 where
   pub table : (i : ℕ) → s.root ≡ Some (Some i) → IsTableAt bs i

@@ -1,4 +1,4 @@
--- One more field.
+-- One more field of a struct.
 use Rattle.std.proofs.Common.{◌≡◌, ℕ, ◌+◌, ◌<◌, ◌≤◌, max, Bool, true, false, List, [], ◌∷◌, ◌++◌, length, map, take, drop, get_or, suc, add-one, drop-cons, refl, sym, ap, subst, ◌∙◌, arith}
 use Rattle.std.proofs.lemmas.List.{map_push}
 use Rattle.std.proofs.lemmas.List.Sums.{fold-append}
@@ -34,7 +34,6 @@ laid_push at (g ∷ fs) end f h n = (h.0, laid_push (g.distance + g.size) fs end
 pub greatest_push : (fs : List StructField) (f : StructField) → greatest_alignment (fs ++ f ∷ []) ≡ max (greatest_alignment fs) f.alignment
 greatest_push fs f = fold-append (λ n (g : StructField). max n g.alignment) 1 fs (f ∷ [])
 
--- the item at the end of those so far
 pub map_next : {A B : Type 0} (f : A → B) (xs : List A) (i : ℕ) (x : A) → i < length xs → x ≡ get_or xs i x → map f (take (i + 1) xs) ≡ map f (take i xs) ++ f x ∷ []
 map_next f xs i x h e = ap (map f) (take-snoc xs i x h e) ∙ map_push f (take i xs) x
   where
@@ -45,14 +44,11 @@ pub taken : (b : Bool) (old : List (List ℕ)) (name : List ℕ) (new : List (Li
 taken true old name new e h = h
 taken false old name new e h = absurd cc
 
--- the item at the front of those that are left
 pub drop_next : {A : Type 0} (xs : List A) (i : ℕ) (x : A) → i < length xs → x ≡ get_or xs i x → drop i xs ≡ x ∷ drop (i + 1) xs
 drop_next xs i x h e = rw add-one (drop-cons xs i x h ∙ ap (λ y. y ∷ drop (suc i) xs) (sym e))
 
 pub map_rest : {A B : Type 0} (f : A → B) (xs : List A) (i : ℕ) (x : A) → i < length xs → x ≡ get_or xs i x → map f (drop i xs) ≡ f x ∷ map f (drop (i + 1) xs)
 map_rest f xs i x h e = ap (map f) (drop_next xs i x h e)
-
--- ---- what is wrong with the fields that are left
 
 pub struct_field_stops : (hs : List HeadV) (space : List Name) (ms : List (Option Measure)) (at : ℕ) (names : List Name) (fs : List Field) (d : Field) (ds : List Field) (all : Option Broken) (s : Stop) → fs ≡ d ∷ ds → wrong_struct_fields hs space ms at names fs ≡ all → Stops (wrong_struct_field hs space ms at d) s → Stops all s
 struct_field_stops hs space ms at names fs d ds all s here same h =
@@ -75,15 +71,12 @@ end_next hs space ms at fs d ds all at' here same end = rw end (ap (end_after hs
 pub greatest_next : (hs : List HeadV) (space : List Name) (ms : List (Option Measure)) (n : ℕ) (fs : List Field) (d : Field) (ds : List Field) (all m n' : ℕ) → fs ≡ d ∷ ds → greatest_after hs space ms n fs ≡ all → n' ≡ max n m → m ≡ alignment_in (field_measure hs space ms d) → greatest_after hs space ms n' ds ≡ all
 greatest_next hs space ms n fs d ds all m n' here same e is = rw (e, is) (ap (greatest_after hs space ms n) (sym here) ∙ same)
 
--- ---- one field, whose type is known
-
 pub field_known : (hs : List HeadV) (space : List Name) (ms : List (Option Measure)) (at : ℕ) (f : Field) (b : Base) → wrong_plain hs space f ≡ None → type_named hs space (kind_of f.kind) ≡ Some (record { vector = false; base = b }) → wrong_struct_field hs space ms at f ≡ first (wrong_measure b f.left (measure_among ms b)) (when (not (nat_le (end_of at (measure_among ms b)) 65535)) problem.StructTooLarge f.left)
 field_known hs space ms at f b p t = skip (wrong_plain hs space f) _ p ∙ ap (wrong_type ms at f.left) t
 
 pub measure_known : (hs : List HeadV) (space : List Name) (ms : List (Option Measure)) (f : Field) (b : Base) (m : Measure) → type_named hs space (kind_of f.kind) ≡ Some (record { vector = false; base = b }) → measure_among ms b ≡ Some m → field_measure hs space ms f ≡ Some m
 measure_known hs space ms f b m t a = ap (measure_in_type ms) t ∙ a
 
--- it ends within a struct, or not
 pub ends_within : (at end left : ℕ) (o : Option Measure) (m : Measure) → o ≡ Some m → end ≡ end_of at (Some m) → end ≤ 65535 → when (not (nat_le (end_of at o) 65535)) problem.StructTooLarge left ≡ None
 ends_within at end left o m e is h =
     ap (λ x. when (not (nat_le (end_of at x) 65535)) problem.StructTooLarge left) e
@@ -95,8 +88,6 @@ ends_after at end left o m e is h =
     ap (λ x. when (not (nat_le (end_of at x) 65535)) problem.StructTooLarge left) e
     ∙ ap (λ n. when (not (nat_le n 65535)) problem.StructTooLarge left) (sym is)
     ∙ ap (λ b. when (not b) problem.StructTooLarge left) (lt-leb end 65535 h)
-
--- ---- the whole
 
 pub empty_is : (fs : List Field) → is_empty fs ≡ (length fs == 0)
 empty_is [] = refl

@@ -31,8 +31,6 @@ names_push (g ∷ fs) f = ap (λ ns. names_taken g ++ ns) (names_push fs f) ∙ 
 pub lawful_push : (fs : List TableField) (f : TableField) → list_all is_lawful fs ≡ true → is_lawful f ≡ true → list_all is_lawful (fs ++ f ∷ []) ≡ true
 lawful_push fs f h e = list_all-append is_lawful fs (f ∷ []) ∙ rw (h, e) refl
 
--- ---- what is wrong with the fields that are left
-
 slots_push : (fs : List TableField) (f : TableField) → slots_taken (fs ++ f ∷ []) ≡ slots_taken fs ++ slots_of f
 slots_push [] f = append-nil (slots_of f)
 slots_push (g ∷ fs) f = ap (λ ns. slots_of g ++ ns) (slots_push fs f) ∙ sym (append_assoc (slots_of g) (slots_taken fs) (slots_of f))
@@ -54,7 +52,7 @@ pub record Left (hs : List HeadV) (space : List Name) (ids : Bool) (next : ℕ) 
   pub field : wrong_field hs space ids next d ≡ None
   pub same : wrong_fields hs space ids next key names fs ≡ all
 
--- what is wrong after this field, of which these names are taken
+-- the fault after this field, which takes these names
 abbrev pub after_field : List HeadV → List Name → Bool → ℕ → Bool → List Name → TableField → Field → List Field → Option Broken
 after_field hs space ids next key names f d ds =
     first (when (are_among names (names_taken f)) problem.FieldNameTaken d.left)
@@ -70,23 +68,19 @@ after_is hs space ids next key names fs d ds all f l k is n =
     ∙ sym (skip (wrong_field hs space ids next d) _ l.field) ∙ sym (skip (when (not (nat_le next 65535)) problem.TooManySlots d.left) _ (passes _ problem.TooManySlots d.left low))
     ∙ ap (wrong_fields hs space ids next key names) (sym l.here) ∙ l.same
 
--- no slot is left for the first field
 pub slot_stops : (hs : List HeadV) (space : List Name) (ids : Bool) (next : ℕ) (key : Bool) (names : List Name) (fs : List Field) (d : Field) (ds : List Field) (all : Option Broken) → fs ≡ d ∷ ds → nat_le next 65535 ≡ false → wrong_fields hs space ids next key names fs ≡ all → Stops all (stop.Wrong problem.TooManySlots d.left)
 slot_stops hs space ids next key names fs d ds all here high same =
     subst (λ o. Stops o (stop.Wrong problem.TooManySlots d.left)) (ap (wrong_fields hs space ids next key names) (sym here) ∙ same)
     (stops_now _ problem.TooManySlots d.left _ (ap not high))
 
--- the first field has a fault
 pub field_stops : (hs : List HeadV) (space : List Name) (ids : Bool) (next : ℕ) (key : Bool) (names : List Name) (fs : List Field) (d : Field) (ds : List Field) (all : Option Broken) (s : Stop) → fs ≡ d ∷ ds → nat_le next 65535 ≡ true → wrong_fields hs space ids next key names fs ≡ all → Stops (wrong_field hs space ids next d) s → Stops all s
 field_stops hs space ids next key names fs d ds all s here low same h =
     subst (λ o. Stops o s) (ap (wrong_fields hs space ids next key names) (sym here) ∙ same)
     (stops_next _ _ s (passes _ problem.TooManySlots d.left (ap not low)) (stops_first _ _ s h))
 
--- its names are taken
 pub names_stop : (hs : List HeadV) (space : List Name) (ids : Bool) (next : ℕ) (key : Bool) (names : List Name) (f : TableField) (d : Field) (ds : List Field) (all : Option Broken) (s : Stop) → after_field hs space ids next key names f d ds ≡ all → Stops (when (are_among names (names_taken f)) problem.FieldNameTaken d.left) s → Stops all s
 names_stop hs space ids next key names f d ds all s is h = subst (λ o. Stops o s) is (stops_first _ _ s h)
 
--- it is a second key
 pub key_stops : (hs : List HeadV) (space : List Name) (ids : Bool) (next : ℕ) (key : Bool) (names : List Name) (f : TableField) (d : Field) (ds : List Field) (all : Option Broken) (s : Stop) → after_field hs space ids next key names f d ds ≡ all → are_among names (names_taken f) ≡ false → Stops (when (f.key && key) problem.SecondKey d.left) s → Stops all s
 key_stops hs space ids next key names f d ds all s is new h =
     subst (λ o. Stops o s) is (stops_next _ _ s (passes _ problem.FieldNameTaken d.left new) (stops_first _ _ s h))
@@ -99,14 +93,12 @@ nothing_wrong hs space ids next key names d ds all f names' key' next' h a b n k
 pub names_are : (f : TableField) (d : Field) (t : FieldType) → f.kind ≡ t → f.name.items ≡ d.name.items → names_taken f ≡ names_in t d
 names_are f d t k n = ap (λ u. names_for u f.name.items) k ∙ ap (names_for t) n
 
--- a field whose type is known
 pub typed_is : (hs : List HeadV) (space : List Name) (ids : Bool) (next : ℕ) (f : Field) (t : FieldType) → wrong_kind hs space f.kind ≡ None → type_named hs space (kind_of f.kind) ≡ Some t → wrong_field hs space ids next f ≡ wrong_typed hs space ids next f (Some t)
 typed_is hs space ids next f t k n = skip (wrong_kind hs space f.kind) _ k ∙ ap (wrong_typed hs space ids next f) n
 
 abbrev pub field_law : FieldType → Field → Option Broken
 field_law t f = wrong_law (is_required t (field_of f)) (has (codes "key") (field_of f).attributes) (has (codes "nested_flatbuffer") (field_of f).attributes) t f.left
 
--- what is left of it after its slot, its default and its nested buffer
 pub law_left : (hs : List HeadV) (space : List Name) (ids : Bool) (next : ℕ) (f : Field) (t : FieldType) → wrong_slot t ids next f ≡ None → wrong_default hs t f.left f.default ≡ None → wrong_nested hs space (attribute_named (codes "nested_flatbuffer") f.attributes.items) ≡ None → wrong_typed hs space ids next f (Some t) ≡ field_law t f
 law_left hs space ids next f t a b c = skip (wrong_slot t ids next f) _ a ∙ skip (wrong_default hs t f.left f.default) _ b ∙ skip (wrong_nested hs space (attribute_named (codes "nested_flatbuffer") f.attributes.items)) _ c
 

@@ -40,8 +40,6 @@ one_name names name e = rw e (tt, tt)
 pub tags_any : (ms : List UnionMember) (t : ℕ) → list_any (λ x. nat_eq x t) (map tag_in ms) ≡ list_any (λ m. nat_eq m.tag t) ms
 tags_any ms t = list_any-map (λ x. nat_eq x t) tag_in ms
 
--- ---- what is wrong with the members that are left
-
 pub member_stops : (hs : List HeadV) (space : List Name) (previous : ℕ) (tags : List ℕ) (names : List Name) (ms : List Member) (d : Member) (ds : List Member) (all : Option Broken) (s : Stop) → ms ≡ d ∷ ds → wrong_members hs space previous tags names ms ≡ all → Stops (wrong_member hs space previous tags d) s → Stops all s
 member_stops hs space previous tags names ms d ds all s here same h =
     subst (λ o. Stops o s) (ap (wrong_members hs space previous tags names) (sym here) ∙ same) (stops_first _ _ s h)
@@ -56,8 +54,6 @@ members_next hs space previous tags names ms d ds all tag tags' names' here same
     rw (tagged, named, is) (sym (skip (when (is_in names (member_name d)) problem.MemberNameTaken d.path.left) _ (passes _ problem.MemberNameTaken d.path.left new))
     ∙ sym (skip (wrong_member hs space previous tags d) _ member)
     ∙ ap (wrong_members hs space previous tags names) (sym here) ∙ same)
-
--- ---- one member
 
 pub tag_missing : (hs : List HeadV) (space : List Name) (previous : ℕ) (tags : List ℕ) (m : Member) → tag_said previous (digits_of m.value) ≡ None → wrong_member hs space previous tags m ≡ broken problem.TagOutOfRange m.path.left
 tag_missing hs space previous tags m e = ap (λ o. first (wrong_tag tags m o) (wrong_table problem.MemberIsNoTable hs space (target_path m))) e

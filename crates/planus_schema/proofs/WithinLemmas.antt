@@ -46,8 +46,6 @@ files_within n hs known k [] h = All-nil (Within n)
 files_within n hs known k (f ∷ fs) h =
     All-append (Within n) (statement_faults hs known k None f.items) (file_faults hs known (k + 1) fs) (statements n hs known k None f.items (omega (arith, h))) (files_within n hs known (k + 1) fs (omega (arith, h)))
 
--- ---- what is placed
-
 head_begun : (n file : ℕ) (space : List Name) (v : DeclarationV) (d : Declaration) (o : Option Name) → file < n → All (Begun n) (placed_head d (named_head file space v o))
 head_begun n file space v d None h = All-nil (Begun n)
 head_begun n file space v d (Some w) h = All-cons (Begun n) _ [] h (All-nil (Begun n))

@@ -22,7 +22,7 @@ use Rattle.planus_schema.specs.Names.{HeadV, item_at, cut_words}
 use Rattle.planus_schema.specs.Enums.{number_said, settled_said, is_flags, numbers_said}
 use Rattle.planus_schema.specs.Enums.{same_number}
 
--- ---- what a default is
+-- ---- values
 
 pub data ValueV : Type 0 where
   absent : ValueV
@@ -38,9 +38,8 @@ value_of (value.Float w) = float w.items
 value_of (value.Text w) = text w.items
 value_of value.EmptyVector = empty
 
--- ---- what the literals of each type mean; `None` where it is no value of the type
+-- ---- literals of each type; `None` where one is no value of the type
 
--- a name of one word
 abbrev pub is_word : List ℕ → PathV → Bool
 is_word w p = is_alone p.more && bytes_eq p.first w
   where
@@ -69,7 +68,7 @@ abbrev pub named_float : PathV → Option ValueV
 named_float p =
     if is_word (codes "nan") p || is_word (codes "inf") p then Some (float p.first) else None
 
--- digits that are not hexadecimal
+-- no hexadecimal digits
 abbrev pub float_number : List ℕ → Option ValueV
 float_number w = if is_hexadecimal (without_sign w) then None else Some (float w)
 
@@ -84,7 +83,6 @@ abbrev pub this_or : Bool → Bool → Option Number → Option Number → Optio
 this_or this flags None rest = None
 this_or this flags (Some n) rest = if this then settled_said flags n else rest
 
--- the value of this name
 abbrev pub value_named : Name → Bool → Option Number → List VariantV → Option Number
 value_named w flags previous [] = None
 value_named w flags previous (v ∷ vs) =
@@ -95,7 +93,7 @@ abbrev pub as_integer : Option Number → Option ValueV
 as_integer None = None
 as_integer (Some n) = Some (integer n)
 
--- the word alone, or the word after the name of the enum
+-- the word alone, or the word after the enum's name
 abbrev pub value_name : EnumerationV → PathV → Option Name
 value_name e p = name_in p.more
   where
@@ -131,7 +129,7 @@ abbrev pub with_flag : EnumerationV → Option ℕ → Name → Option ℕ
 with_flag e None w = None
 with_flag e (Some total) w = or_flag total (value_named w true None e.variants)
 
--- the values of these names together
+-- the values of these names, joined by or
 abbrev pub flags_named : EnumerationV → List Name → Option ℕ
 flags_named e ws = fold (with_flag e) (Some 0) ws
 
@@ -211,13 +209,13 @@ abbrev pub some_default : Option ValueV → Option (Option ValueV)
 some_default None = None
 some_default (Some v) = Some (Some v)
 
--- the default of a field of this type; `None` where the literal is none
+-- the default of a field of this type; `None` where the literal is no value of it
 abbrev pub default_said : List HeadV → FieldType → Option LiteralV → Option (Option ValueV)
 default_said hs t None = if t.vector then Some None else zero_default hs t.base
 default_said hs t (Some l) =
     some_default (if t.vector then vector_default l else base_default hs t.base l)
 
--- ---- which defaults a type has
+-- ---- the defaults of a type
 
 abbrev pub is_scalar_value : Scalar → ValueV → Bool
 is_scalar_value s absent = true

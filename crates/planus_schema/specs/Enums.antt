@@ -16,12 +16,11 @@ use Rattle.planus_layout.specs.Distinct.{AreDistinct}
 
 -- ---- numbers
 
--- one more than the number before
 abbrev pub next_number : Option Number → Number
 next_number None = zero_number
 next_number (Some n) = following n
 
--- the number that is given, or the next
+-- the given number, or the next
 abbrev pub number_of : Option Number → Option (List ℕ) → Number
 number_of previous None = next_number previous
 number_of previous (Some digits) = integer_of digits
@@ -31,7 +30,7 @@ numbers_from previous [] = []
 numbers_from previous (v ∷ vs) =
     number_of previous v.value ∷ numbers_from (Some (number_of previous v.value)) vs
 
--- the digits of each value are an integer
+-- each given value is an integer
 abbrev pub is_spelled : VariantV → Bool
 is_spelled v = is_spelled_value v.value
   where
@@ -39,7 +38,7 @@ is_spelled v = is_spelled_value v.value
     is_spelled_value None = true
     is_spelled_value (Some digits) = is_integer digits
 
--- the number that is given, or the next, if it can be held
+-- the given number, or the next, if it is below 2^64
 abbrev pub next_said : Option Number → Option Number
 next_said None = Some zero_number
 next_said (Some n) = following_said n
@@ -52,18 +51,18 @@ abbrev pub also : Option Number → List Number → List Number
 also None rest = []
 also (Some n) rest = n ∷ rest
 
--- the numbers up to the first that can't be held
+-- the numbers before the first that is not below 2^64
 abbrev pub numbers_said : Option Number → List VariantV → List Number
 numbers_said previous [] = []
 numbers_said previous (v ∷ vs) =
     also (number_said previous v.value) (numbers_said (number_said previous v.value) vs)
 
--- with `bit_flags` a number says which bit
+-- with `bit_flags` a number is the index of a bit
 abbrev pub settled : Bool → Number → Number
 settled true n = record { negative = false; magnitude = 2 ^ n.magnitude }
 settled false n = n
 
--- the bit that a number says is one of 64
+-- with `bit_flags` one of 64 bits
 abbrev pub settled_said : Bool → Number → Option Number
 settled_said false n = Some n
 settled_said true n =
@@ -72,7 +71,6 @@ settled_said true n =
 abbrev pub is_flags : EnumerationV → Bool
 is_flags e = has (codes "bit_flags") e.attributes
 
--- the values of an enum
 abbrev pub enum_numbers : EnumerationV → List Number
 enum_numbers e = map (settled (is_flags e)) (numbers_from None e.variants)
 
@@ -84,11 +82,9 @@ same_number a b = (if a.negative then b.negative else not b.negative) && a.magni
 abbrev pub number_of_value : EnumValue → Number
 number_of_value v = v.number
 
--- an integer type
 abbrev pub is_integer_type : Scalar → Bool
 is_integer_type s = not (is_float s) && not (is_bool s)
 
--- the integer type of this name
 abbrev pub integer_in : Option Scalar → Option Scalar
 integer_in None = None
 integer_in (Some s) = if is_integer_type s then Some s else None
@@ -100,7 +96,6 @@ integer_type_of (n ∷ ns) w = None
 abbrev pub integer_type : PathV → Option Scalar
 integer_type p = integer_type_of p.more p.first
 
--- a value was added
 pub record IsValueAdded (s : Scalar) (v : VariantV) (n : Number) (old new : List EnumValue) : Type 0
   where
     pub names : map (λ x. x.name.items) new ≡ map (λ x. x.name.items) old ++ v.name ∷ []
@@ -112,7 +107,6 @@ pub record IsValueAdded (s : Scalar) (v : VariantV) (n : Number) (old new : List
     pub distinct : IsDistinct same_number (map number_of_value old)
         → IsDistinct same_number (map number_of_value new)
 
--- the values of these variants
 pub record AreValues (s : Scalar) (flags : Bool) (vs : List VariantV) (values : List EnumValue)
     : Type 0 where
   pub names : map (λ x. x.name.items) values ≡ map (λ v. v.name) vs
@@ -122,7 +116,7 @@ pub record AreValues (s : Scalar) (flags : Bool) (vs : List VariantV) (values : 
   pub within : list_all (λ x. fits s x.number) values ≡ true
   pub distinct : IsDistinct same_number (map number_of_value values)
 
--- its values are distinct, and each is one of its type
+-- distinct names and values, each value one of the enum's type
 pub record IsEnum (e : Enum) : Type 0 where
   pub integer : is_integer_type e.scalar ≡ true
   pub within : list_all (λ v. fits e.scalar v.number) e.values.items ≡ true

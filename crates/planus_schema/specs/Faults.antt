@@ -1,4 +1,4 @@
--- All that is wrong with the files of a schema.
+-- All faults of the files of a schema.
 use Rattle.std.specs.Prelude.{◌≡◌, ℕ, ◌+◌, ◌-◌, ◌<◌, Bool, false, not, nat_eq, ◌==◌, List, [], ◌∷◌}
 use Rattle.std.specs.Prelude.{◌++◌}
 use Rattle.std.specs.Prelude.{length, map, take, Option, Some, None}
@@ -41,11 +41,11 @@ abbrev pub broken_in : Stop → Option Broken
 broken_in stop.OutOfMemory = None
 broken_in (stop.Wrong p left) = broken p left
 
--- the first twenty, if there are as many
+-- the first twenty, or all if there are fewer
 unfoldable pub first_twenty : List Fault → List Fault
 first_twenty fs = take 20 fs
 
--- faults are kept while there are fewer than twenty
+-- new faults are stored while there are fewer than twenty
 abbrev pub Adds : List Fault → List Fault → List Fault → Type 0
 Adds found old new = new ≡ first_twenty (old ++ found)
 
@@ -71,7 +71,7 @@ placed_in file space [] = []
 placed_in file space (d ∷ ds) =
     placed_at file space d ++ placed_in file (space_after space (item_of d.item)) ds
 
--- what the files from the n-th on declare, in order
+-- the declarations of the files from the n-th on, in order
 abbrev pub placed_from : ℕ → List (Vec Declaration) → List Placed
 placed_from n [] = []
 placed_from n (f ∷ fs) = placed_in n None f.items ++ placed_from (n + 1) fs
@@ -82,11 +82,10 @@ abbrev pub is_index : Option ℕ → ℕ → Bool
 is_index None n = false
 is_index (Some m) n = nat_eq m n
 
--- the name of a declaration is the word after its first
+-- a declaration's name is the word after its first word
 abbrev pub name_left : Declaration → ℕ
 name_left d = d.left - 1
 
--- a declaration whose name one before it has
 abbrev pub name_fault : List HeadV → ℕ → Placed → List Fault
 name_fault hs n p = fault_in p.head.file
     (when (not (is_index (index_of hs p.head.name) n)) problem.NameTaken (name_left p.tree))
@@ -97,7 +96,7 @@ name_faults hs n (p ∷ ps) = name_fault hs n p ++ name_faults hs (n + 1) ps
 
 -- ---- declarations
 
--- what a declaration says; `left` is the place of its name
+-- the fault of a declaration; `left` is the place of its name
 abbrev pub wrong_body : List HeadV → List Name → List (Option Measure) → ℕ → Item → Option Broken
 wrong_body hs space ms left (item.Include w) = broken problem.UnknownType left
 wrong_body hs space ms left (item.Namespace p) = broken problem.UnknownType left
@@ -115,7 +114,7 @@ abbrev pub scalar_measure : Option Scalar → Option Measure
 scalar_measure None = None
 scalar_measure (Some s) = Some (record { size = scalar_size s; alignment = scalar_size s })
 
--- what a declaration without a fault measures, and one with a fault: a byte
+-- the size of a declaration without a fault; one with a fault counts as a byte
 abbrev pub sound_measure : List HeadV → List Name → List (Option Measure) → Item → Option Measure
 sound_measure hs space ms (item.Include w) = None
 sound_measure hs space ms (item.Namespace p) = None
@@ -155,7 +154,6 @@ abbrev pub body_fault : List HeadV → List (Option Measure) → Placed → List
 body_fault hs ms p =
     fault_in p.head.file (wrong_body hs p.head.space ms (name_left p.tree) p.tree.item)
 
--- after declarations that measure this
 abbrev pub body_faults : List HeadV → List (Option Measure) → List Placed → List Fault
 body_faults hs ms [] = []
 body_faults hs ms (p ∷ ps) =
@@ -177,7 +175,7 @@ wrong_statement hs space left (item.FileIdentifier w) =
     when (not (length w.items == 4)) problem.WrongIdentifier left
 wrong_statement hs space left (item.FileExtension w) = None
 
--- the attributes and methods of a declaration, and then what it states
+-- the fault of its attributes and methods, and then of its statement
 abbrev pub wrong_said : List HeadV → List Name → List Name → Declaration → Option Broken
 wrong_said hs space known d =
     first (wrong_item hs space known d.item) (wrong_statement hs space d.left d.item)
@@ -189,7 +187,6 @@ statement_faults hs known file space (d ∷ ds) =
     fault_in file (wrong_said hs (words_in space) known d)
     ++ statement_faults hs known file (space_after space (item_of d.item)) ds
 
--- of the files from the n-th on
 abbrev pub file_faults : List HeadV → List Name → ℕ → List (Vec Declaration) → List Fault
 file_faults hs known n [] = []
 file_faults hs known n (f ∷ fs) =
@@ -197,27 +194,27 @@ file_faults hs known n (f ∷ fs) =
 
 -- ---- the whole
 
--- the faults of names, of declarations and of statements, twenty at most
+-- the faults of names, then of declarations, then of statements, at most twenty
 abbrev pub faults_found : List (Vec Declaration) → List Fault
 faults_found files =
     let hs = heads_of (map (λ f. schema_of f.items) files) in
     first_twenty (name_faults hs 0 (placed_from 0 files)
     ++ (body_faults hs [] (placed_from 0 files) ++ file_faults hs (known_attributes files) 0 files))
 
--- where a fault is: first the file, and then the word, which has more tokens left if it is earlier
+-- the file, and then the word: an earlier word has more tokens to the end
 abbrev pub place_of : Fault → ℕ × ℕ
 place_of f = (f.file, 18446744073709551615 - f.left)
 
 abbrev pub place_cmp : ℕ × ℕ → ℕ × ℕ → Ordering
 place_cmp p q = ordering_then (nat_cmp p.0 q.0) (nat_cmp p.1 q.1)
 
--- the same faults in the order of their places; at one place as they were found
+-- the same faults by place; those at one place in the order in which they were found
 pub record AreInOrder (found told : List Fault) : Type 0 where
   pub same : IsPermutation found told
   pub sorted : IsSortedByKey place_of place_cmp told
   pub stable : IsStableByKey place_of place_cmp found told
 
--- exactly the faults of these files, unless memory is refused
+-- exactly the faults of these files, or memory was refused
 abbrev pub IsExact : List (Vec Declaration) → Refusal → Type 0
 IsExact files refusal.OutOfMemory = Unit {0}
 IsExact files (refusal.Faults v) = AreInOrder (faults_found files) v.items

@@ -1,4 +1,4 @@
--- The first declaration of each full name, kept in a map.
+-- A map from full names to their first declarations.
 use Rattle.std.specs.Prelude.{◌≡◌, ℕ, List, Option}
 use Rattle.std.specs.BTreeMap.{BTreeMap, get_by}
 use Rattle.std.specs.Ordering.{nat_cmp}
@@ -6,10 +6,9 @@ use Rattle.std.specs.Cmp.Lexicographic.{slice_cmp}
 use denote.Ref.{Bor}
 use Rattle.planus_schema.specs.Names.{HeadV, index_of}
 
--- what a map of names has at a name
 abbrev pub index_at : BTreeMap (Bor (List ℕ)) ℕ → List ℕ → Option ℕ
 index_at m name = get_by (λ k. slice_cmp nat_cmp name k.now) m
 
--- it has at each name the index of the first declaration of that name
+-- the index of the first declaration of each name
 abbrev pub IsIndex : BTreeMap (Bor (List ℕ)) ℕ → List HeadV → Type 0
 IsIndex m hs = (name : List ℕ) → index_at m name ≡ index_of hs name

@@ -1,4 +1,4 @@
--- What is declared, under which full name, and which declaration a name means.
+-- Declarations, their full names, and the declaration that a name refers to.
 use Rattle.std.specs.Prelude.{ℕ, zero, suc, ◌+◌, ◌==◌, Bool, true, false, if◌then◌else◌}
 use Rattle.std.specs.Prelude.{List, [], ◌∷◌, ◌++◌, length, take, fold, position, Option}
 use Rattle.std.specs.Prelude.{Some, None, codes, slice_get}
@@ -39,7 +39,7 @@ pub record HeadV : Type 0 where
   pub name : List ℕ
   pub declaration : DeclarationV
 
--- tables, structs, enums and unions have a name that a type may be
+-- only tables, structs, enums and unions can be types
 abbrev pub own_name : ItemV → Option Name
 own_name (include w) = None
 own_name (namespace p) = None
@@ -74,7 +74,7 @@ named_head file space d (Some w) = record {
 abbrev pub heads_at : ℕ → Option PathV → DeclarationV → List HeadV
 heads_at file space d = named_head file (words_in space) d (own_name d.item)
 
--- a file begins outside of every namespace
+-- a file begins outside all namespaces
 abbrev pub heads_in : ℕ → Option PathV → List DeclarationV → List HeadV
 heads_in file space [] = []
 heads_in file space (d ∷ ds) =
@@ -84,11 +84,11 @@ abbrev pub heads_from : ℕ → List (List DeclarationV) → List HeadV
 heads_from n [] = []
 heads_from n (ds ∷ files) = heads_in n None ds ++ heads_from (n + 1) files
 
--- what the files declare, in order
+-- the declarations of the files, in order
 abbrev pub heads_of : List (List DeclarationV) → List HeadV
 heads_of files = heads_from 0 files
 
--- the words of a text with a space between them, after the beginning of the first
+-- the words of a text with one space between them, after the beginning of the first
 abbrev pub cut_words : List ℕ → List ℕ → List Name
 cut_words word [] = word ∷ []
 cut_words word (b ∷ bs) =
@@ -112,7 +112,7 @@ found_from hs space words zero = index_of hs (dotted words)
 found_from hs space words (suc k) = or_else (index_of hs (dotted (take (suc k) space ++ words)))
     (found_from hs space words k)
 
--- the declaration that these words mean in this namespace: the innermost
+-- the innermost declaration that these words refer to in this namespace
 abbrev pub found : List HeadV → List Name → List Name → Option ℕ
 found hs space words = found_from hs space words (length space)
 
@@ -150,7 +150,7 @@ abbrev pub plain_of : List Name → Name → Option Base
 plain_of [] w = base_of_word w
 plain_of (n ∷ ns) w = None
 
--- `string` and a scalar type by their names
+-- `string`, or a scalar type
 abbrev pub plain_base : PathV → Option Base
 plain_base p = plain_of p.more p.first
 
@@ -158,7 +158,7 @@ abbrev pub base_or : Option Base → Option Base → Option Base
 base_or None o = o
 base_or (Some b) o = Some b
 
--- the type that a name means in this namespace
+-- the type that a name refers to in this namespace
 abbrev pub base_named : List HeadV → List Name → PathV → Option Base
 base_named hs space p = base_or (plain_base p) (base_found hs (found hs space (words_of p)))
 
@@ -184,7 +184,7 @@ abbrev pub setting : Name → List AttributeV → Option AttributeV
 setting w [] = None
 setting w (a ∷ more) = if bytes_eq a.label.name w then Some a else setting w more
 
--- the first of this name, among the attributes with their places
+-- the same, with its place
 abbrev pub attribute_named : Name → List Attribute → Option Attribute
 attribute_named w [] = None
 attribute_named w (a ∷ more) =
@@ -197,7 +197,7 @@ is_set (Some x) = true
 abbrev pub has : Name → List AttributeV → Bool
 has w attributes = is_set (setting w attributes)
 
--- ---- what the code holds
+-- ---- the code's values
 
 abbrev pub path_in : Option (Bor Path) → Option PathV
 path_in space = option_map (λ p. path_of p.now) space

@@ -30,7 +30,7 @@ IsBody (body.Struct s) = IsStruct s
 IsBody (body.Enum e) = IsEnum e
 IsBody (body.Union u) = IsUnion u
 
--- a declaration says this; enums and structs in a struct are among those before it
+-- the meaning of a declaration; enums and structs in a struct are among those before it
 abbrev pub SaysBody : List HeadV → List Name → List Body → ItemV → Body → Type 0
 SaysBody hs space before (table r) (body.Table t) = SaysTable hs space r t
 SaysBody hs space before (struct r) (body.Struct s) = SaysStruct hs space before r s
@@ -38,7 +38,6 @@ SaysBody hs space before (enumeration e) (body.Enum t) = SaysEnum e t
 SaysBody hs space before (union u) (body.Union t) = SaysUnion hs space u t
 SaysBody hs space before i b = ⊥
 
--- one after the other
 abbrev pub SayBodies : List HeadV → List Body → List HeadV → List Body → Type 0
 SayBodies hs before [] [] = Unit {0}
 SayBodies hs before [] (b ∷ bs) = ⊥
@@ -56,7 +55,7 @@ pub record StatementsV : Type 0 where
 abbrev pub no_statements : StatementsV
 no_statements = record { root = None; identifier = None; extension = None }
 
--- a statement replaces what one before it said
+-- a statement replaces an earlier one
 abbrev pub after : List HeadV → Option PathV → StatementsV → ItemV → StatementsV
 after hs space s (include w) = s
 after hs space s (namespace p) = s
@@ -75,20 +74,18 @@ after_file hs space s [] = s
 after_file hs space s (d ∷ ds) =
     after_file hs (space_after space d.item) (after hs space s d.item) ds
 
--- what the last file says, which includes the others
+-- the statements of the last file, which includes the others
 abbrev pub after_files : List HeadV → StatementsV → List (List DeclarationV) → StatementsV
 after_files hs s [] = s
 after_files hs s (ds ∷ files) = after_files hs (after_file hs None no_statements ds) files
 
 -- ---- schemas
 
--- the name, the documentation and the file of a declaration
 pub record IsHeadOf (h : HeadV) (d : Declared) : Type 0 where
   pub name : d.name.items ≡ h.name
   pub docs : names_of d.docs.items ≡ h.declaration.docs
   pub file : d.file ≡ h.file
 
--- a declaration was added
 pub record IsAppended (h : HeadV) (b : Body) (old new : List Declared) : Type 0 where
   pub last : Declared
   pub added : new ≡ old ++ last ∷ []
@@ -108,7 +105,7 @@ pub record AreDeclared (hs : List HeadV) (some : List HeadV) (ds : List Declared
   pub heads : Each2 IsHeadOf some ds
   pub bodies : SayBodies hs [] some (map body_in ds)
 
--- `root` is there where a `root_type` is, and is a table then
+-- a root is always a table
 abbrev pub said_of : Statements → StatementsV
 said_of s = record {
   root = option_map Some s.root;
@@ -120,7 +117,7 @@ abbrev pub IsFour : Option (List ℕ) → Type 0
 IsFour None = Unit {0}
 IsFour (Some w) = length w ≡ 4
 
--- what these files mean: each declaration in order, under a name that no other has
+-- the meaning of these files: each declaration in order, under a unique name
 pub record Means (files : List (List DeclarationV)) (s : Schema) : Type 0 where
   pub declared : AreDeclared (heads_of files) (heads_of files) s.declarations.items
   pub names : AreDistinct (map (λ h. h.name) (heads_of files))

@@ -19,11 +19,10 @@ use Rattle.planus_schema.specs.Defaults.{value_of, is_default}
 use Rattle.planus_layout.specs.Layouts.{measure_in, body_in}
 use Rattle.planus_schema.specs.Schemas.{IsBody, IsFour, said_of}
 
--- the declaration of this index is a table
 abbrev pub IsTableAt : List Body → ℕ → Type 0
 IsTableAt bs i = (t : Table) × (slice_get bs i ≡ Some (body.Table t))
 
--- an index is that of a declaration, and of the kind that the type says
+-- an index is that of a declaration of the type's kind
 abbrev pub Refers : List Body → Base → Type 0
 Refers bs (base.Scalar s) = Unit {0}
 Refers bs base.Text = Unit {0}
@@ -36,7 +35,7 @@ abbrev pub IsNested : List Body → Option ℕ → Type 0
 IsNested bs None = Unit {0}
 IsNested bs (Some i) = IsTableAt bs i
 
--- what a field refers to is there, and its default is one of its type
+-- the field's references exist, and its default is one of its type
 pub record RefersField (bs : List Body) (f : TableField) : Type 0 where
   pub kind : Refers bs f.kind.base
   pub nested : IsNested bs f.nested
@@ -51,7 +50,8 @@ IsBelow n (base.Struct i) = i < n
 IsBelow n (base.Table i) = ⊥
 IsBelow n (base.Union i) = ⊥
 
--- the field of a struct that is the declaration n: of a type before it, so no struct is in itself
+-- a field of the struct that is declaration n: its type is declared before, so no struct is in
+-- itself
 pub record RefersBefore (bs : List Body) (n : ℕ) (f : StructField) : Type 0 where
   pub below : IsBelow n f.base
   pub measure : measure_in bs f.base ≡ Some (record { size = f.size; alignment = f.alignment })

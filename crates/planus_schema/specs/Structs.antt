@@ -1,4 +1,4 @@
--- Structs, as they are declared.
+-- Declared structs.
 use Rattle.std.specs.Prelude.{◌≡◌, ℕ, Bool, true, false, ◌&&◌, not}
 use Rattle.std.specs.Prelude.{if◌then◌else◌}
 use Rattle.std.specs.Prelude.{List, Option, Some, None, codes}
@@ -33,7 +33,7 @@ literal_number (Some (named p)) = 0
 literal_number (Some (quote w)) = 0
 literal_number (Some nothing) = 0
 
--- `force_align`, or the greatest of the fields
+-- `force_align`, or the greatest alignment of the fields
 abbrev pub alignment_said : Option AttributeV → ℕ → ℕ
 alignment_said None greatest = greatest
 alignment_said (Some a) greatest = literal_number a.value
@@ -45,7 +45,6 @@ pub record SaysStruct (hs : List HeadV) (space : List Name) (bodies : List Body)
       ≡ alignment_said (setting (codes "force_align") d.attributes)
       (greatest_alignment s.fields.items)
 
--- the number that can be held of an attribute
 abbrev pub natural_of : Option Number → Option ℕ
 natural_of None = None
 natural_of (Some n) = if n.negative then None else Some n.magnitude

@@ -20,7 +20,7 @@ use Rattle.planus_schema.specs.Defaults.{value_of, default_said}
 
 -- ---- what a table is
 
--- the name of a field, and before it that of the type of a union
+-- a union's type is named before its value
 abbrev pub names_for : FieldType → Name → List Name
 names_for t w = if is_union t then (w ++ codes "_type") ∷ w ∷ [] else w ∷ []
 
@@ -36,7 +36,6 @@ pub record AreNamed (old taken new : List Name) : Type 0 where
   pub added : new ≡ old ++ taken
   pub distinct : AreDistinct old → AreDistinct new
 
--- scalars and enums
 abbrev pub is_number_base : Base → Bool
 is_number_base (base.Scalar s) = true
 is_number_base base.Text = false
@@ -67,7 +66,7 @@ is_bytes t = t.vector && is_ubyte t.base
     is_ubyte (base.Scalar UByte) = true
     is_ubyte b = false
 
--- what may be `required`, a `key` and a nested buffer
+-- which fields may be `required`, a `key` and a nested buffer
 abbrev pub is_lawful : TableField → Bool
 is_lawful f = not (f.required && is_number f.kind) && (not f.key || may_be_key f.kind)
     && (is_none f.nested || is_bytes f.kind)
@@ -91,7 +90,6 @@ abbrev pub id_in : Option AttributeV → Option ℕ
 id_in None = None
 id_in (Some a) = Some (literal_number a.value)
 
--- the number after `id`
 abbrev pub id_of : FieldV → Option ℕ
 id_of f = id_in (setting (codes "id") f.attributes)
 

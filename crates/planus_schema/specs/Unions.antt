@@ -11,7 +11,7 @@ use Rattle.planus_schema.specs.Structs.{natural_of}
 use Rattle.planus_schema.specs.Names.{HeadV, words_of, dotted, base_named}
 use Rattle.planus_layout.specs.Distinct.{AreDistinct, Each2}
 
--- the number that is given, or one more than that before it; `NONE` is 0
+-- the given number, or one more than that before; `NONE` is 0
 abbrev pub tag_of : ℕ → Option (List ℕ) → ℕ
 tag_of previous None = previous + 1
 tag_of previous (Some digits) = magnitude_of digits
@@ -27,12 +27,12 @@ abbrev pub in_tags : Option ℕ → Option ℕ
 in_tags None = None
 in_tags (Some n) = if is_tag n then Some n else None
 
--- that number, if it is one from 1 to 255
+-- the same, if it is from 1 to 255
 abbrev pub tag_said : ℕ → Option (List ℕ) → Option ℕ
 tag_said previous None = in_tags (Some (previous + 1))
 tag_said previous (Some digits) = in_tags (natural_of (integer_said digits))
 
--- the table of a member: after its alias, or its name
+-- the name after a member's alias, or its own
 abbrev pub target_of : MemberV → PathV
 target_of m = target_or m.target
   where
@@ -49,7 +49,7 @@ pub record SaysMember (hs : List HeadV) (space : List Name) (d : MemberV) (m : U
 abbrev pub tag_in : UnionMember → ℕ
 tag_in m = m.tag
 
--- tags from 1 to 255, no two alike, and no two names alike, nor one like `NONE`
+-- unique tags from 1 to 255, and unique names other than `NONE`
 pub record IsUnion (u : Union) : Type 0 where
   pub tags : list_all is_tag (map tag_in u.members.items) ≡ true
   pub distinct : IsDistinct nat_eq (map tag_in u.members.items)

@@ -1,5 +1,5 @@
--- What is wrong with a part of a schema: the first rule that it breaks, and where. The parts are
--- the trees of the syntax, since only those have places.
+-- The fault of a part of a schema: the first rule that it breaks, and where. Parts are trees of the
+-- syntax, since only those have places.
 use Rattle.std.specs.Prelude.{◌≡◌, ℕ, Bool, not}
 use Rattle.std.specs.Prelude.{if◌then◌else◌, List, Option, Some, None}
 use Rattle.std.specs.Prelude.{Result, Ok, Err}
@@ -13,7 +13,7 @@ use Rattle.planus_schema.specs.declared.fault.Stop.{Stop}
 use Rattle.planus_schema.specs.declared.fault.Stop.TheVariants as stop
 use Rattle.planus_schema.specs.Names.{HeadV, base_named, table_in, is_set}
 
--- `left`: how many tokens there are from the word at fault to the end of its text
+-- `left`: the number of tokens from the word at fault to the end of its text
 pub record Broken : Type 0 where
   pub problem : Problem
   pub left : ℕ
@@ -24,17 +24,16 @@ broken p left = Some (record { problem = p; left = left })
 abbrev pub when : Bool → Problem → ℕ → Option Broken
 when b p left = if b then broken p left else None
 
--- the first of these
 abbrev pub first : Option Broken → Option Broken → Option Broken
 first None o = o
 first (Some b) o = Some b
 
--- why it is stopped: memory was refused, or it is this that is wrong
+-- memory was refused, or this is the fault
 abbrev pub Stops : Option Broken → Stop → Type 0
 Stops o stop.OutOfMemory = Unit {0}
 Stops o (stop.Wrong p left) = o ≡ broken p left
 
--- it is returned if nothing is wrong, and else what is wrong, unless memory is refused
+-- returned if there is no fault, and else the fault, unless memory is refused
 abbrev pub Tells : {A : Type 0} → Option Broken → Result A Stop → Type 0
 Tells o (Ok x) = o ≡ None
 Tells o (Err e) = Stops o e
@@ -52,7 +51,7 @@ path_in_kind (kind.Vector p) = p
 abbrev pub wrong_kind : List HeadV → List Name → Kind → Option Broken
 wrong_kind hs space k = wrong_base hs space (path_in_kind k)
 
--- a name that has to be that of a table
+-- a name that has to be a table's
 abbrev pub wrong_table : Problem → List HeadV → List Name → Path → Option Broken
 wrong_table problem hs space p = first (wrong_base hs space p)
     (when (not (is_set (table_in (base_named hs space (path_of p))))) problem p.left)

@@ -1,4 +1,4 @@
--- What is wrong with an enum.
+-- Faults of enums.
 use Rattle.std.specs.Prelude.{Bool, not, List, [], ◌∷◌, ◌++◌, map}
 use Rattle.std.specs.Prelude.{Option, Some, None, codes}
 use Rattle.std.specs.List.{list_any}
@@ -16,7 +16,6 @@ use Rattle.planus_schema.specs.Enums.{number_of, number_said, settled, settled_s
 use Rattle.planus_schema.specs.Enums.{integer_type}
 use Rattle.planus_schema.specs.Wrong.{Broken, broken, when, first}
 
--- the type of an enum
 abbrev pub wrong_integer : Path → Option Broken
 wrong_integer p = when (not (is_set (integer_type (path_of p)))) problem.NoIntegerType p.left
 
@@ -26,7 +25,7 @@ wrong_names names [] = None
 wrong_names names (v ∷ vs) = first (when (is_in names v.name.items) problem.ValueNameTaken v.left)
     (wrong_names (names ++ v.name.items ∷ []) vs)
 
--- a variant with this value, `None` where it can't be held, after these values
+-- a variant with this value, `None` where it is not below 2^64, after these values
 abbrev pub wrong_value : Scalar → List Number → Variant → Option Number → Option Broken
 wrong_value s values v None = broken problem.ValueOutOfRange v.left
 wrong_value s values v (Some n) = first (when (not (fits s n)) problem.ValueOutOfRange v.left)
@@ -36,7 +35,6 @@ abbrev pub value_said : Bool → Option Number → Option Number
 value_said flags None = None
 value_said flags (Some n) = settled_said flags n
 
--- the variants after a number, and after these values
 abbrev pub wrong_values : Scalar → Bool → Option Number → List Number → List Variant → Option Broken
 wrong_values s flags previous values [] = None
 wrong_values s flags previous values (v ∷ vs) =

@@ -1,4 +1,4 @@
--- What is wrong with attributes and services.
+-- Faults of attributes and services.
 use Rattle.std.specs.Prelude.{not, List, [], ◌∷◌, ◌++◌, Option, None, codes}
 use Rattle.std.specs.Global.{Vec}
 use Rattle.planus_syntax.specs.Values.{Name}
@@ -16,7 +16,7 @@ use Rattle.planus_schema.specs.Wrong.{Broken, when, first, wrong_table}
 
 -- ---- attributes
 
--- of the language, of the code that is written from a schema, of one language, and of services
+-- of the language, of printed code, of one language, and of services
 unfoldable pub built_in : List Name
 built_in = cut_words []
     (codes "bit_flags deprecated flexbuffer force_align hash id key nested_flatbuffer "
@@ -24,7 +24,6 @@ built_in = cut_words []
     ++ codes "native_type native_type_pack_name private shared cpp_ptr_type cpp_ptr_type_get "
     ++ codes "cpp_str_flex_ctor cpp_str_type cpp_type csharp_partial idempotent streaming")
 
--- the attributes that a file declares
 abbrev pub customs_at : Item → List Name
 customs_at (item.Include w) = []
 customs_at (item.Namespace p) = []
@@ -50,7 +49,6 @@ customs_of (f ∷ fs) = customs_in f.items ++ customs_of fs
 abbrev pub known_attributes : List (Vec Declaration) → List Name
 known_attributes files = built_in ++ customs_of files
 
--- an attribute that is not known
 abbrev pub wrong_attributes : List Name → List Attribute → Option Broken
 wrong_attributes known [] = None
 wrong_attributes known (a ∷ more) =
@@ -68,7 +66,7 @@ wrong_in_record known r = first (wrong_attributes known r.attributes.items)
 
 -- ---- services
 
--- a method after those of these names
+-- after methods of these names
 abbrev pub wrong_method : List HeadV → List Name → List Name → List Name → Method → Option Broken
 wrong_method hs space known names m =
     first (when (is_in names m.name.items) problem.MethodNameTaken m.left)
@@ -76,7 +74,6 @@ wrong_method hs space known names m =
     (first (wrong_table problem.MethodIsNoTable hs space m.response)
     (wrong_attributes known m.attributes.items)))
 
--- the methods after those of these names
 abbrev pub wrong_methods : List HeadV → List Name → List Name → List Name → List Method
     → Option Broken
 wrong_methods hs space known names [] = None

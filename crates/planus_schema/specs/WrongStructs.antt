@@ -1,4 +1,4 @@
--- What is wrong with a struct.
+-- Faults of structs.
 use Rattle.std.specs.Prelude.{ℕ, ◌+◌, max, Bool, true, false, ◌&&◌, ◌||◌, not, nat_le, nat_lt}
 use Rattle.std.specs.Prelude.{codes}
 use Rattle.std.specs.Prelude.{if◌then◌else◌, List, [], ◌∷◌, ◌++◌, map, Option, Some, None}
@@ -23,7 +23,7 @@ use Rattle.planus_schema.specs.Wrong.{Broken, broken, when, first, wrong_kind}
 
 -- ---- fields
 
--- the size and the alignment of what is declared, `None` where it can't be in a struct
+-- `None` where the declaration can't be in a struct
 abbrev pub measured : Option (Option Measure) → Option Measure
 measured None = None
 measured (Some m) = m
@@ -31,7 +31,7 @@ measured (Some m) = m
 abbrev pub measures_of : List Declared → List (Option Measure)
 measures_of ds = map (λ d. measure_of_body (Some d.body)) ds
 
--- how many bytes a value has, by what is measured of the declarations before
+-- the size of a value, by the sizes of the declarations before
 abbrev pub measure_among : List (Option Measure) → Base → Option Measure
 measure_among ms (base.Scalar s) =
     Some (record { size = scalar_size s; alignment = scalar_size s })
@@ -52,7 +52,7 @@ is_declared_later (base.Union i) = false
 abbrev pub has_room : Measure → Bool
 has_room m = nat_lt 0 m.alignment && nat_le m.alignment 32 && nat_le m.size 65535
 
--- a type that has no size yet, or too large a one
+-- a type without a size, or too large
 abbrev pub wrong_measure : Base → ℕ → Option Measure → Option Broken
 wrong_measure b left None =
     broken (if is_declared_later b then problem.DeclaredLater else problem.NoStructField) left
@@ -67,7 +67,6 @@ abbrev pub is_vector : Option FieldType → Bool
 is_vector None = false
 is_vector (Some t) = t.vector
 
--- what a field of a struct can't have
 abbrev pub wrong_plain : List HeadV → List Name → Field → Option Broken
 wrong_plain hs space f =
     let set = map attribute_of f.attributes.items in
@@ -82,7 +81,7 @@ wrong_type ms at left None = None
 wrong_type ms at left (Some t) = first (wrong_measure t.base left (measure_among ms t.base))
     (when (not (nat_le (end_of at (measure_among ms t.base)) 65535)) problem.StructTooLarge left)
 
--- a field after byte `at`, with what is measured before it
+-- a field after byte `at`
 abbrev pub wrong_struct_field : List HeadV → List Name → List (Option Measure) → ℕ → Field
     → Option Broken
 wrong_struct_field hs space ms at f =
@@ -107,7 +106,6 @@ wrong_struct_fields hs space ms at names (f ∷ fs) =
 
 -- ---- the whole
 
--- where the fields end
 abbrev pub end_after : List HeadV → List Name → List (Option Measure) → ℕ → List Field → ℕ
 end_after hs space ms at [] = at
 end_after hs space ms at (f ∷ fs) =
@@ -117,7 +115,6 @@ abbrev pub alignment_in : Option Measure → ℕ
 alignment_in None = 1
 alignment_in (Some m) = m.alignment
 
--- the greatest alignment
 abbrev pub greatest_after : List HeadV → List Name → List (Option Measure) → ℕ → List Field → ℕ
 greatest_after hs space ms n [] = n
 greatest_after hs space ms n (f ∷ fs) =
@@ -142,7 +139,7 @@ abbrev pub is_empty : List Field → Bool
 is_empty [] = true
 is_empty (f ∷ fs) = false
 
--- its fields one by one, and then its alignment; `left` is the place of the struct's name
+-- the fields one by one, then the alignment; `left` is the place of the struct's name
 abbrev pub wrong_struct : List HeadV → List Name → List (Option Measure) → Record → ℕ
     → Option Broken
 wrong_struct hs space ms r left =

@@ -1,4 +1,4 @@
--- What is wrong with a table.
+-- Faults of tables.
 use Rattle.std.specs.Prelude.{ℕ, ◌+◌, ◌-◌, Bool, false, ◌&&◌, ◌||◌, not, nat_le, codes}
 use Rattle.std.specs.Prelude.{if◌then◌else◌, List, [], ◌∷◌, ◌++◌, length, map, Option, Some, None}
 use Rattle.std.specs.Option.{option_map}
@@ -49,21 +49,20 @@ abbrev pub wrong_default : List HeadV → FieldType → ℕ → Option Literal �
 wrong_default hs t left l = when (not (is_set (default_said hs t (option_map literal_of l))))
     (if is_set l then problem.WrongDefault else problem.UnknownValue) left
 
--- `nested_flatbuffer` that names no table
 abbrev pub wrong_nested : List HeadV → List Name → Option Attribute → Option Broken
 wrong_nested hs space None = None
 wrong_nested hs space (Some a) =
     when (not (is_set (table_in (table_found hs space (nested_name (attribute_of a).value)))))
     problem.NestedIsNoTable a.label.left
 
--- what may be `required`, a `key` and a nested buffer
+-- which fields may be `required`, a `key` and a nested buffer
 abbrev pub wrong_law : Bool → Bool → Bool → FieldType → ℕ → Option Broken
 wrong_law required key nested t left =
     first (when (required && is_number t) problem.RequiredScalar left)
     (first (when (key && not (may_be_key t)) problem.WrongKey left)
     (when (nested && not (is_bytes t)) problem.WrongNested left))
 
--- a field of a type that is known
+-- a field of a known type
 abbrev pub wrong_typed : List HeadV → List Name → Bool → ℕ → Field → Option FieldType
     → Option Broken
 wrong_typed hs space ids next f None = None
@@ -73,12 +72,11 @@ wrong_typed hs space ids next f (Some t) =
     (wrong_law (is_required t (field_of f)) (has (codes "key") (field_of f).attributes)
     (has (codes "nested_flatbuffer") (field_of f).attributes) t f.left)))
 
--- a field: its type, slot and default, the nested buffer, and what it may be
+-- its type, slot and default, the nested buffer, and what it may be
 abbrev pub wrong_field : List HeadV → List Name → Bool → ℕ → Field → Option Broken
 wrong_field hs space ids next f = first (wrong_kind hs space f.kind)
     (wrong_typed hs space ids next f (type_named hs space (kind_of f.kind)))
 
--- the type, where there is one
 abbrev pub field_type : List HeadV → List Name → Field → FieldType
 field_type hs space f = type_or (type_named hs space (kind_of f.kind))
   where
@@ -86,11 +84,10 @@ field_type hs space f = type_or (type_named hs space (kind_of f.kind))
     type_or None = record { vector = false; base = base.Scalar scalar.Bool }
     type_or (Some t) = t
 
--- the names that a field takes
 abbrev pub names_in : FieldType → Field → List Name
 names_in t f = names_for t f.name.items
 
--- one of these names is taken, or stands twice among them
+-- one of these names is taken, or is twice among them
 abbrev pub are_among : List Name → List Name → Bool
 are_among names [] = false
 are_among names (w ∷ ws) = is_in names w || are_among (names ++ w ∷ []) ws
@@ -110,18 +107,16 @@ wrong_fields hs space ids next key names (f ∷ fs) =
 
 -- ---- the whole
 
--- the slots that a field takes
 abbrev pub slots_at : FieldType → ℕ → List ℕ
 slots_at t n = if is_union t then (n - 1) ∷ n ∷ [] else n ∷ []
 
--- the slots of the fields after those below `next`
 abbrev pub slots_from : List HeadV → List Name → Bool → ℕ → List Field → List ℕ
 slots_from hs space ids next [] = []
 slots_from hs space ids next (f ∷ fs) =
     let t = field_type hs space f in
     slots_at t (field_slot t ids next f) ++ slots_from hs space ids (next + width t) fs
 
--- the fields one by one, and then all slots together; `left` is the place of the table's name
+-- the fields one by one, then all slots together; `left` is the place of the table's name
 abbrev pub wrong_table_fields : List HeadV → List Name → ℕ → List Field → Option Broken
 wrong_table_fields hs space left fs =
     let ids = has_ids (map field_of fs) in

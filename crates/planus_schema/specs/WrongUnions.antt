@@ -1,4 +1,4 @@
--- What is wrong with a union.
+-- Faults of unions.
 use Rattle.std.specs.Prelude.{ℕ, nat_eq, List, [], ◌∷◌, ◌++◌, Option, Some, None, codes}
 use Rattle.std.specs.List.{list_any}
 use Rattle.planus_syntax.specs.Values.{Name, path_of, digits_of}
@@ -11,7 +11,6 @@ use Rattle.planus_schema.specs.Names.{HeadV, words_of, dotted}
 use Rattle.planus_schema.specs.Unions.{tag_of, tag_said}
 use Rattle.planus_schema.specs.Wrong.{Broken, broken, when, first, wrong_table}
 
--- the path of a member's table
 abbrev pub target_path : Member → Path
 target_path m = target_or m.target
   where
@@ -27,13 +26,13 @@ abbrev pub wrong_tag : List ℕ → Member → Option ℕ → Option Broken
 wrong_tag tags m None = broken problem.TagOutOfRange m.path.left
 wrong_tag tags m (Some n) = when (list_any (λ t. nat_eq t n) tags) problem.TagTaken m.path.left
 
--- a member after one of this tag, and after these tags
+-- a member after the tag `previous`, and after these tags
 abbrev pub wrong_member : List HeadV → List Name → ℕ → List ℕ → Member → Option Broken
 wrong_member hs space previous tags m =
     first (wrong_tag tags m (tag_said previous (digits_of m.value)))
     (wrong_table problem.MemberIsNoTable hs space (target_path m))
 
--- the members after one of tag `previous`, after these tags and these names
+-- the members after the tag `previous`, after these tags and these names
 abbrev pub wrong_members : List HeadV → List Name → ℕ → List ℕ → List Name → List Member
     → Option Broken
 wrong_members hs space previous tags names [] = None

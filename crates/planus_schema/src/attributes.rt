@@ -8,7 +8,6 @@ ghost use Rattle.planus_schema.specs.Names.{attribute_named};
 
 use planus_syntax::Attribute;
 
-/// Returns the first attribute of this name.
 pub(crate) fn setting<'a>(attributes: &'a [Attribute], word: &[u8]) -> Option<&'a Attribute>
     ensures said { option_map (λ a. attribute_of a.now) result
         ≡ setting_lem word.now (map attribute_of attributes.now) }
@@ -24,7 +23,6 @@ pub(crate) fn setting<'a>(attributes: &'a [Attribute], word: &[u8]) -> Option<&'
     None
 }
 
-/// Returns whether there is an attribute of this name.
 pub(crate) fn has(attributes: &[Attribute], word: &[u8]) -> bool
     ensures { result ≡ has_lem word.now (map attribute_of attributes.now) }
 {

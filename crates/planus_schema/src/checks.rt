@@ -1,4 +1,4 @@
-//! What is only checked: attributes and services.
+//! Checks of attributes and services.
 
 ghost use Rattle.std.specs.Prelude.{◌≡◌, ◌++◌, ◌∷◌, [], map, IfOk, OnOk};
 ghost use Rattle.planus_syntax.specs.Values.{names_of};
@@ -20,8 +20,7 @@ use planus_layout::{is_among, take_name};
 use planus_syntax::{Attribute, Declaration, Field, Item, Method, Path, Record};
 use std::alloc::{AllocError, Global};
 
-/// The attributes of the language, of the code that is written from a schema, of one language, and
-/// of services, with a space between them.
+/// The attributes of the language, of printed code, of one language, and of services.
 const BUILT_IN: &[u8] = b"bit_flags deprecated flexbuffer force_align hash id key \
     nested_flatbuffer original_order required native_custom_alloc native_default native_inline \
     native_type native_type_pack_name private shared cpp_ptr_type cpp_ptr_type_get \
@@ -34,7 +33,6 @@ fn built_in(alloc: Global) -> Result<Vec<Vec<u8>>, AllocError>
     cut_words(alloc, BUILT_IN)
 }
 
-/// Adds the attribute that a declaration declares.
 fn add_custom(
     alloc: Global,
     known: &mut Vec<Vec<u8>>,
@@ -50,7 +48,6 @@ fn add_custom(
     Ok(())
 }
 
-/// Adds the attributes that a file declares.
 fn add_customs(
     alloc: Global,
     known: &mut Vec<Vec<u8>>,
@@ -65,8 +62,6 @@ fn add_customs(
     Ok(())
 }
 
-/// Returns the attributes that may be used: those that are built in, and those that the files
-/// declare.
 pub(crate) fn known_attributes(
     alloc: Global,
     files: &[Vec<Declaration>],
@@ -87,7 +82,6 @@ fn is_known(known: &[Vec<u8>], name: &[u8]) -> bool
     is_among(known, name)
 }
 
-/// Checks that each attribute is known.
 fn check_attributes(known: &[Vec<u8>], attributes: &[Attribute]) -> Result<(), Stop>
     ensures { Tells (wrong_attributes (names_of known.now) attributes.now) result }
 {
@@ -116,7 +110,6 @@ fn check_record(known: &[Vec<u8>], body: &Record) -> Result<(), Stop>
     check_fields(known, &body.fields)
 }
 
-/// Checks a method and adds its name to those before it.
 fn check_method(
     alloc: Global,
     heads: &Heads,
@@ -167,7 +160,6 @@ fn check_methods(
     Ok(())
 }
 
-/// Checks the attributes of a declaration, and the methods of a service.
 pub(crate) fn check_item(
     alloc: Global,
     heads: &Heads,

@@ -41,7 +41,6 @@ use planus_layout::{
 use planus_syntax::{Enumeration, Item, Literal, Path, Variant};
 use std::alloc::{AllocError, Global};
 
-/// Returns whether a name is this word.
 fn is_word(path: &Path, word: &[u8]) -> bool
     ensures { result ≡ is_word_lem word.now (path_of path.now) }
 {
@@ -130,7 +129,6 @@ fn scalar_default(
     }
 }
 
-/// Returns the value of this name.
 fn value_named(variants: &[Variant], name: &[u8], flags: bool) -> Option<Number>
     ensures { result ≡ value_named_lem name.now flags None (map variant_of variants.now) }
 {
@@ -150,7 +148,6 @@ fn value_named(variants: &[Variant], name: &[u8], flags: bool) -> Option<Number>
     None
 }
 
-/// Returns whether a value is this number.
 fn has_value(variants: &[Variant], number: Number) -> bool
     ensures { result ≡ list_any (λ v. same_number_lem v number)
         (numbers_said None (map variant_of variants.now)) }
@@ -194,7 +191,6 @@ fn enum_number(declared: &Enumeration, digits: &[u8]) -> Option<Value>
     }
 }
 
-/// Returns the name of a value: the word alone, or the word after the name of the enum.
 fn value_name<'a>(declared: &Enumeration, path: &'a Path) -> Option<&'a [u8]>
     ensures { option_map (λ w. w.now) result
         ≡ value_name_lem (enumeration_of declared.now) (path_of path.now) }
@@ -220,7 +216,6 @@ fn enum_named(declared: &Enumeration, path: &Path) -> Option<Value>
     }
 }
 
-/// Returns the values of these names together.
 fn flags_named(declared: &Enumeration, words: &[Vec<u8>]) -> Option<u64>
     ensures { result ≡ flags_named_lem (enumeration_of declared.now) (names_of words.now) }
 {
@@ -234,7 +229,6 @@ fn flags_named(declared: &Enumeration, words: &[Vec<u8>]) -> Option<u64>
     Some(total)
 }
 
-/// Returns several values of an enum with `bit_flags`.
 fn flags_default(
     alloc: Global,
     declared: &Enumeration,
@@ -273,7 +267,6 @@ fn enum_default(
     }
 }
 
-/// Returns the enum of this index.
 fn enum_at<'b>(heads: &'b Heads, index: usize) -> Option<&'b Enumeration>
     ensures { option_map (λ e. enumeration_of e.now) result
         ≡ enum_at_lem (item_at (map head_of heads.now) index) }
@@ -304,7 +297,6 @@ fn base_default(
     }
 }
 
-/// Returns the default that a literal says.
 fn literal_default(
     alloc: Global,
     heads: &Heads,
@@ -341,7 +333,6 @@ fn enum_zero(heads: &Heads, index: usize) -> bool
     }
 }
 
-/// Returns the default of a field that has no literal.
 fn zero_default(
     alloc: Global,
     heads: &Heads,
@@ -366,7 +357,6 @@ fn zero_default(
     }
 }
 
-/// Returns the default of a field.
 pub(crate) fn default_of(
     alloc: Global,
     heads: &Heads,

@@ -30,7 +30,6 @@ fn is_integer_type(scalar: Scalar) -> bool
     !scalar.is_float() && !scalar.is_bool()
 }
 
-/// Returns the integer type of an enum.
 fn integer_type(path: &Path) -> Result<Scalar, Stop>
     ensures single { IfOk result (λ _. (path_of path.now).more ≡ []) }
     ensures named { IfOk result (λ s. scalar_named_lem (path_of path.now).first ≡ Some s) }
@@ -57,7 +56,6 @@ fn next_number(previous: Option<Number>) -> Option<Number>
     }
 }
 
-/// Returns the number of a variant: the one that is given, or one more than that before it.
 pub(crate) fn number_of(previous: Option<Number>, variant: &Variant) -> Option<Number>
     ensures number { IfSome result (λ n. n
         ≡ number_of_lem previous (variant_of variant.now).value) }
@@ -77,7 +75,6 @@ fn power_of_two(n: u64) -> u64
     1 << n
 }
 
-/// Returns the value of a number: with `flags`, the bit that it says.
 pub(crate) fn value_of(flags: bool, number: Number) -> Option<Number>
     ensures value { IfSome result (λ n. n ≡ settled flags number) }
     ensures said { result ≡ settled_said flags number }
@@ -107,7 +104,6 @@ fn has_number(values: &[EnumValue], number: Number) -> bool
 }
 
 #[tactic(auto, using(crate::proofs::EnumLemmas::numbers_any))]
-/// Adds a value that fits and is new.
 fn add_value(
     alloc: Global,
     scalar: Scalar,
@@ -132,7 +128,6 @@ fn add_value(
     Ok(())
 }
 
-/// Checks that no two variants have one name.
 fn check_names(alloc: Global, variants: &[Variant]) -> Result<(), Stop>
     ensures distinct { IfOk result (λ _. AreDistinct (map (λ v. v.name)
         (map variant_of variants.now))) }
@@ -174,7 +169,6 @@ fn enum_values(
     Ok(values)
 }
 
-/// Returns what an enum says.
 pub(crate) fn enum_of(alloc: Global, declared: &Enumeration) -> Result<Enum, Stop>
     ensures says { IfOk result (λ e. SaysEnum (enumeration_of declared.now) e) }
     ensures sound { IfOk result (λ e. IsEnum e) }

@@ -1,4 +1,4 @@
-//! What is wrong with a schema.
+//! Faults of a schema.
 
 ghost use Rattle.std.specs.Prelude.{◌≡◌, true, ◌<◌, ◌≤◌, length, OnOk};
 ghost use Rattle.planus_schema.specs.Names.{is_set};
@@ -6,26 +6,26 @@ ghost use Rattle.planus_schema.specs.Faults.{Adds, fault_in, broken_in};
 
 use std::alloc::{AllocError, AllocFailed};
 
-/// What is wrong.
+/// The kind of a fault.
 #[derive(Clone, Copy, PartialEq, Eq)]
 pub enum Problem {
     /// No scalar type and no declaration has this name.
     UnknownType,
     /// A declaration before it has this name.
     NameTaken,
-    /// A field of the table or struct before it has this name, or the type of a union has it.
+    /// A field before it has this name, or the type of a union has it.
     FieldNameTaken,
-    /// A value of the enum before it has this name.
+    /// A value before it has this name.
     ValueNameTaken,
-    /// A member of the union before it has this name, or it is `NONE`.
+    /// A member before it has this name, or it is `NONE`.
     MemberNameTaken,
-    /// A value of the enum before it is this number.
+    /// A value before it has this number.
     ValueTaken,
-    /// A member of the union before it has this number.
+    /// A member before it has this number.
     TagTaken,
     /// The type of an enum is no integer type, or it is `bool`.
     NoIntegerType,
-    /// A value is no integer that the type of the enum holds.
+    /// A value is no integer of the enum's type.
     ValueOutOfRange,
     /// The number of a member is not from 1 to 255.
     TagOutOfRange,
@@ -43,13 +43,13 @@ pub enum Problem {
     EmptyStruct,
     /// A struct has more than 65535 bytes.
     StructTooLarge,
-    /// `force_align` is no power of two from the alignment of the struct to 32.
+    /// `force_align` is no power of two from the alignment of the fields to 32.
     WrongAlignment,
     /// A default is no value of the field's type.
     WrongDefault,
-    /// Zero, which is the default where none is given, is no value of the enum.
+    /// A field has no default, and zero is no value of its enum.
     UnknownValue,
-    /// A scalar is `required`.
+    /// A scalar or an enum is `required`.
     RequiredScalar,
     /// Some fields of a table have an `id`, and others none.
     IdMissing,
@@ -67,20 +67,20 @@ pub enum Problem {
     WrongNested,
     /// The value of `nested_flatbuffer` names no table.
     NestedIsNoTable,
-    /// An attribute is not known and not declared.
+    /// An attribute is neither built in nor declared.
     UnknownAttribute,
     /// The root is no table.
     RootIsNoTable,
-    /// The identifier has not four bytes.
+    /// The identifier doesn't have four bytes.
     WrongIdentifier,
-    /// A method of the service before it has this name.
+    /// A method before it has this name.
     MethodNameTaken,
     /// The request or the response of a method is no table.
     MethodIsNoTable,
 }
 
-/// A fault: what is wrong, and where. `file` is the index of its file, and `left` how many tokens
-/// there are from the word at fault to the end of its text, the word counted.
+/// A fault. `file` is the index of its file, and `left` the number of tokens from the word at fault
+/// to the end of the text, the word included.
 #[derive(Clone, Copy, PartialEq, Eq)]
 pub struct Fault {
     pub problem: Problem,
@@ -97,12 +97,9 @@ pub enum Refusal {
     Faults(Vec<Fault>),
 }
 
-/// Why a part of a schema has no meaning.
 #[derive(Clone, Copy)]
 pub(crate) enum Stop {
-    /// Memory was refused.
     OutOfMemory,
-    /// What is wrong, and where.
     Wrong { problem: Problem, left: usize },
 }
 
@@ -146,7 +143,6 @@ pub(crate) fn wrong(problem: Problem, left: usize) -> Stop
 }
 
 #[tactic(auto, using(crate::proofs::FaultLemmas::adds_one, crate::proofs::FaultLemmas::adds_full))]
-/// Adds a fault, unless there are twenty.
 pub(crate) fn note(faults: &mut Vec<Fault>, file: usize, stop: Stop) -> Result<(), AllocError>
     requires { length faults.old.items ≤ 20 }
     ensures some { OnOk result (0 < length faults.new.items) }

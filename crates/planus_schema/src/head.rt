@@ -1,4 +1,4 @@
-//! What is declared, with its full name.
+//! Declarations with their full names.
 
 ghost use Rattle.std.specs.Prelude.{◌≡◌, ◌++◌, ◌∷◌, [], map, fold, take, length, IfOk, OnOk, ◌≤◌};
 ghost use Rattle.std.specs.Option.{option_map};
@@ -12,8 +12,7 @@ ghost use Rattle.planus_schema.specs.Names.{space_after as space_after_lem};
 use planus_syntax::{Declaration, Item, Path};
 use std::alloc::{AllocError, Global};
 
-/// A declaration of a type. `file` is the index of its file, `space` its namespace, and `name` its
-/// full name with dots.
+/// `file` is the index of its file, `space` its namespace, and `name` its full name with dots.
 #[derive(Drop)]
 pub(crate) struct Head<'a> {
     pub(crate) file: usize,
@@ -22,7 +21,6 @@ pub(crate) struct Head<'a> {
     pub(crate) declaration: &'a Declaration,
 }
 
-/// Appends a word, after a dot where something stands before it.
 pub(crate) fn put_word(out: &mut Vec<u8>, word: &[u8]) -> Result<(), AllocError>
     ensures { OnOk result (out.new.items ≡ with_word out.old.items word.now) }
 {
@@ -50,7 +48,6 @@ pub(crate) fn put_path(out: &mut Vec<u8>, path: &Path) -> Result<(), AllocError>
     put_words(out, &path.more)
 }
 
-/// Returns how many words a namespace has.
 pub(crate) fn depth(space: Option<&Path>) -> usize
     ensures { result ≡ length (space_of space.entry) }
 {
@@ -60,7 +57,6 @@ pub(crate) fn depth(space: Option<&Path>) -> usize
     }
 }
 
-/// Appends the first words of a namespace, `count` of them.
 pub(crate) fn put_space(
     out: &mut Vec<u8>,
     space: Option<&Path>,
@@ -91,7 +87,6 @@ fn own_name(item: &Item) -> Option<&[u8]>
     }
 }
 
-/// Returns the full name of what has this name in this namespace.
 fn full_name(alloc: Global, space: Option<&Path>, word: &[u8]) -> Result<Vec<u8>, AllocError>
     ensures { IfOk result (λ v. v.items
         ≡ dotted (space_of space.entry ++ word.now ∷ [])) }
@@ -126,7 +121,6 @@ fn add_head<'a>(
     Ok(())
 }
 
-/// Returns the namespace after a declaration.
 pub(crate) fn space_after<'a>(
     space: Option<&'a Path>,
     declaration: &'a Declaration,
@@ -160,7 +154,6 @@ fn add_heads<'a>(
     Ok(())
 }
 
-/// Returns what the files declare, in order.
 pub(crate) fn heads(alloc: Global, files: &[Vec<Declaration>]) -> Result<Vec<Head<'_>>, AllocError>
     ensures heads { IfOk result (λ v. map head_of v.items
         ≡ heads_of (map (λ f. schema_of f.items) files.now)) }

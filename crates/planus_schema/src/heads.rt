@@ -1,4 +1,4 @@
-//! What is declared, and where a full name stands first.
+//! Declarations, and the first of each full name.
 
 ghost use Rattle.std.specs.Prelude.{◌≡◌, map, slice_get, IfOk};
 ghost use Rattle.std.specs.Option.{option_map};
@@ -10,9 +10,8 @@ use std::alloc::{AllocError, Global};
 use std::collections::BTreeMap;
 use std::marker::Model;
 
-/// What the files declare, in order. A full name is looked up in logarithmic time.
-///
-/// Contracts see the list of declarations.
+/// The declarations of the files, in order. Contracts see the list; a full name is looked up in
+/// logarithmic time.
 #[derive(Drop)]
 pub(crate) struct Heads<'h, 'a> {
     list: &'h [Head<'a>],
@@ -32,7 +31,6 @@ impl<'h, 'a> Model for Heads<'h, 'a> {
     ghost invariant = { λ a. IsIndex a.first (map head_of a.list.now) };
 }
 
-/// Returns the index of the first declaration of each full name.
 fn index_names<'h>(alloc: Global, list: &'h [Head]) -> Result<BTreeMap<&'h [u8], usize>, AllocError>
     ensures { IfOk result (λ first. IsIndex first (map head_of list.now)) }
 {
@@ -47,7 +45,6 @@ fn index_names<'h>(alloc: Global, list: &'h [Head]) -> Result<BTreeMap<&'h [u8],
 }
 
 impl<'h, 'a> Heads<'h, 'a> {
-    /// Builds the index of these declarations.
     pub(crate) fn new(alloc: Global, list: &'h [Head<'a>]) -> Result<Self, AllocError>
         ensures { IfOk result (λ heads. heads ≡ list.now) }
     {
@@ -55,21 +52,18 @@ impl<'h, 'a> Heads<'h, 'a> {
         Ok(Heads { list, first })
     }
 
-    /// Returns the declarations, in order.
     pub(crate) fn as_slice(&self) -> &[Head<'a>]
         ensures { result.now ≡ self.now }
     {
         self.list
     }
 
-    /// Returns the declaration of this index.
     pub(crate) fn get(&self, index: usize) -> Option<&Head<'a>>
         ensures { option_map (λ h. h.now) result ≡ slice_get self.now index }
     {
         self.list.get(index)
     }
 
-    /// Returns the index of the first declaration with this full name.
     pub(crate) fn index_of(&self, name: &[u8]) -> Option<usize>
         ensures { result ≡ index_of_lem (map head_of self.now) name.now }
     {

@@ -1,4 +1,4 @@
-//! The type that a name means.
+//! The type that a name refers to.
 
 ghost use Rattle.std.specs.Prelude.{◌≡◌, map, IfOk, Some};
 ghost use Rattle.std.specs.Option.{option_map};
@@ -28,7 +28,6 @@ fn base_of_word(word: &[u8]) -> Option<Base>
     }
 }
 
-/// Returns `string` or the scalar type of this name.
 fn plain_base(path: &Path) -> Option<Base>
     ensures { result ≡ plain_base_lem (path_of path.now) }
 {
@@ -51,7 +50,6 @@ fn item_base(item: &Item, index: usize) -> Option<Base>
     }
 }
 
-/// Returns what the declaration of this index says.
 pub(crate) fn item_of_head<'b>(heads: &'b Heads, index: usize) -> Option<&'b Item>
     ensures { option_map (λ i. item_of i.now) result ≡ item_at (map head_of heads.now) index }
 {
@@ -70,7 +68,6 @@ pub(crate) fn head_base(heads: &Heads, index: usize) -> Option<Base>
     }
 }
 
-/// Returns the type that a name means in this namespace.
 pub(crate) fn base_of(
     alloc: Global,
     heads: &Heads,
@@ -93,7 +90,6 @@ pub(crate) fn base_of(
     Err(wrong(Problem::UnknownType, path.left))
 }
 
-/// Returns the type of a field.
 pub(crate) fn type_of(
     alloc: Global,
     heads: &Heads,
@@ -113,7 +109,6 @@ pub(crate) fn type_of(
     Ok(FieldType { vector, base })
 }
 
-/// Returns the index of the table that a name means.
 pub(crate) fn table_at(
     alloc: Global,
     heads: &Heads,

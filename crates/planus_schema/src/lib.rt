@@ -1,4 +1,5 @@
-//! What a schema of flatbuffers means: names, types, slots, layouts and defaults.
+//! The meaning of a flatbuffers schema: names, types, slots, layouts and defaults. Start at
+//! [`resolve`].
 #![tactic(auto)]
 
 mod attributes;

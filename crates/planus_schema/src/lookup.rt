@@ -1,4 +1,4 @@
-//! The declaration that a name means.
+//! The declaration that a name refers to.
 
 ghost use Rattle.std.specs.Prelude.{◌≡◌, ◌++◌, map, take, length, IfOk, ◌≤◌};
 ghost use Rattle.planus_syntax.specs.Values.{path_of};
@@ -10,7 +10,6 @@ use crate::heads::Heads;
 use planus_syntax::Path;
 use std::alloc::{AllocError, Global};
 
-/// Returns the index of the declaration that has this name in the first words of the namespace.
 fn found_at(
     alloc: Global,
     heads: &Heads,
@@ -29,7 +28,6 @@ fn found_at(
     Ok(heads.index_of(&name))
 }
 
-/// Returns the index of the declaration that a name means in a namespace: the innermost.
 pub(crate) fn found(
     alloc: Global,
     heads: &Heads,

@@ -1,4 +1,4 @@
-//! Files to the schema that they mean.
+//! The meaning of files.
 
 ghost use Rattle.std.specs.Prelude.{◌≡◌, [], ◌∷◌, ◌++◌, ◌≤◌, map, length, Some, IfOk, IfErr, OnOk};
 ghost use Rattle.planus_syntax.specs.Values.{item_of, schema_of};
@@ -29,14 +29,12 @@ use planus_layout::{Body, Declared, Enum, Scalar, Schema, Struct, Table, Union, 
 use planus_syntax::{Declaration, Item};
 use std::alloc::{AllocError, Global};
 
-/// Returns where the name of a declaration is, which follows its first word.
 fn name_left(declaration: &Declaration) -> usize
     ensures { result ≡ name_left_lem declaration.now }
 {
     declaration.left.saturating_sub(1)
 }
 
-/// Returns what a declaration says.
 fn body_of(alloc: Global, heads: &Heads, declared: &[Declared], head: &Head) -> Result<Body, Stop>
     ensures says { IfOk result (λ b. SaysBody (map head_of heads.now) (space_of head.now.space)
         (map body_in declared.now) (item_of head.now.declaration.now.item) b) }
@@ -61,7 +59,7 @@ fn body_of(alloc: Global, heads: &Heads, declared: &[Declared], head: &Head) -> 
     }
 }
 
-/// Returns what stands for a declaration that has a fault, so that the others can be checked.
+/// Returns the body of a declaration with a fault, so that the others can be checked.
 fn stand_in(alloc: Global, item: &Item) -> Body
     ensures { measure_of_body (Some result) ≡ byte_measure item.now }
 {
@@ -107,7 +105,6 @@ fn add_body(
     Ok(())
 }
 
-/// Adds what a declaration says, or what is wrong with it.
 fn add_declared(
     alloc: Global,
     heads: &Heads,
@@ -140,7 +137,6 @@ fn add_declared(
     }
 }
 
-/// Returns what the declarations say, and adds what is wrong with them.
 fn declarations(
     alloc: Global,
     heads: &Heads,
@@ -161,7 +157,6 @@ fn declarations(
     Ok(declared)
 }
 
-/// Adds the fault of a declaration whose name an earlier one has.
 fn check_name(
     heads: &Heads,
     index: usize,
@@ -187,7 +182,6 @@ fn check_name(
     }
 }
 
-/// Adds the faults of names that are declared twice.
 fn check_names(heads: &Heads, faults: &mut Vec<Fault>) -> Result<(), AllocError>
     requires { length faults.old.items ≤ 20 }
     ensures distinct { OnOk result (faults.new.items ≡ [] → AreDistinct (map (λ h. h.name)
@@ -205,7 +199,6 @@ fn check_names(heads: &Heads, faults: &mut Vec<Fault>) -> Result<(), AllocError>
     Ok(())
 }
 
-/// Puts faults in the order of their places.
 fn put_in_order(faults: &mut Vec<Fault>) -> Result<(), AllocError>
     ensures length { OnOk result (length faults.new.items ≡ length faults.old.items) }
     ensures order { OnOk result (AreInOrder faults.old.items faults.new.items) }
@@ -214,7 +207,6 @@ fn put_in_order(faults: &mut Vec<Fault>) -> Result<(), AllocError>
     Ok(())
 }
 
-/// Returns what files mean, or what is wrong with them.
 fn settle(alloc: Global, files: &[Vec<Declaration>]) -> Result<Schema, Refusal>
     ensures means { IfOk result (λ s. Means (map (λ f. schema_of f.items) files.now) s) }
     ensures none { OnOk result (faults_found files.now ≡ []) }
@@ -238,15 +230,15 @@ fn settle(alloc: Global, files: &[Vec<Declaration>]) -> Result<Schema, Refusal>
     }
 }
 
-/// Returns what files mean. An included file stands before those that include it, since a struct
-/// holds only structs and enums that are declared before it.
+/// Returns the meaning of files. An included file has to be before those that include it, since a
+/// struct holds only structs and enums that are declared before it.
 ///
-/// The error has up to twenty faults.
+/// Fails with up to twenty faults.
 pub fn resolve(alloc: Global, files: &[Vec<Declaration>]) -> Result<Schema, Refusal>
     ensures means { IfOk result (λ s. Means (map (λ f. schema_of f.items) files.now) s) }
-    // Whatever it was read from, it is sound.
+    // A schema is sound, whatever it was read from.
     ensures sound { IfOk result (λ s. IsSound s) }
-    // A good schema is taken, and a bad one refused with exactly its faults.
+    // A good schema is returned, and a bad one fails with exactly its faults.
     ensures none { OnOk result (faults_found files.now ≡ []) }
     ensures faults { IfErr result (λ e. IsRefusal e) }
     ensures exact { IfErr result (λ e. IsExact files.now e) }

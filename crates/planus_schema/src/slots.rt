@@ -1,4 +1,4 @@
-//! The slots that fields say.
+//! The slots of fields.
 
 ghost use Rattle.std.specs.Prelude.{◌≡◌, ◌+◌, ◌≤◌, true, false, map, IfOk, IfSome, Some};
 ghost use Rattle.planus_syntax.specs.Values.{field_of};
@@ -16,7 +16,6 @@ use planus_layout::{FieldType, TableField, are_whole, slot_of, slots_taken};
 use planus_syntax::Field;
 use std::alloc::Global;
 
-/// Returns whether a field has an `id`.
 pub(crate) fn has_ids(fields: &[Field]) -> bool
     ensures { result ≡ has_ids_lem (map field_of fields.now) }
 {
@@ -30,7 +29,6 @@ pub(crate) fn has_ids(fields: &[Field]) -> bool
     false
 }
 
-/// Returns the `id` of a field.
 fn id_of(field: &Field) -> Option<usize>
     ensures said { IfSome result (λ n. id_of_lem (field_of field.now) ≡ Some n) }
     ensures small { IfSome result (λ n. n ≤ 65535) }
@@ -45,7 +43,6 @@ fn id_of(field: &Field) -> Option<usize>
     }
 }
 
-/// Returns the slot of a field: its `id`, or the next that is free.
 pub(crate) fn field_slot(
     field: &Field,
     kind: FieldType,
@@ -65,7 +62,6 @@ pub(crate) fn field_slot(
     }
 }
 
-/// Checks that each slot is taken once, and that a vtable has room for them.
 pub(crate) fn check_slots(alloc: Global, fields: &[TableField], left: usize) -> Result<(), Stop>
     ensures sound { IfOk result (λ _. AreSlots (slots_taken_lem fields.now)) }
     ensures wrong { Tells (wrong_slots left (slots_taken_lem fields.now)) result }

@@ -20,7 +20,6 @@ use planus_layout::Statements;
 use planus_syntax::{Declaration, Item, Path};
 use std::alloc::{AllocError, Global};
 
-/// Adds what a declaration states.
 fn state(
     alloc: Global,
     heads: &Heads,
@@ -56,7 +55,6 @@ fn state(
 }
 
 #[tactic(auto, using(crate::proofs::FaultLemmas::adds_none))]
-/// Adds what a declaration states, or what is wrong with it.
 fn state_or_note(
     alloc: Global,
     heads: &Heads,
@@ -126,7 +124,6 @@ fn state_file(
     Ok(())
 }
 
-/// Returns that nothing is stated.
 fn nothing_stated() -> Statements
     ensures { said_of result ≡ no_statements }
 {
@@ -138,8 +135,6 @@ fn nothing_stated() -> Statements
 }
 
 #[tactic(auto, using(crate::proofs::FaultLemmas::adds_next, crate::proofs::FaultLemmas::adds_none))]
-/// Returns what the last file states, and adds what is wrong with that and with what those that it
-/// includes state.
 pub(crate) fn statements(
     alloc: Global,
     heads: &Heads,

@@ -1,4 +1,4 @@
-//! Structs: where the bytes of their fields lie.
+//! The places of a struct's fields.
 
 ghost use Rattle.std.specs.Prelude.{◌≡◌, ◌≤◌, ◌<◌, ◌+◌, true, false, map, IfOk, IfSome, Some};
 ghost use Rattle.std.specs.Prelude.{[], codes, slice_get, max};
@@ -33,7 +33,6 @@ use planus_layout::{
 use planus_syntax::{Attribute, Field, Literal, Path, Record};
 use std::alloc::Global;
 
-/// Checks what a field of a struct can't have, and returns its type.
 fn base_in_struct(
     alloc: Global,
     heads: &Heads,
@@ -60,7 +59,6 @@ fn base_in_struct(
 }
 
 #[tactic(auto, using(crate::proofs::MeasureLemmas::among))]
-/// Returns the size and the alignment of a field, which are those of a declaration before.
 fn measure_in_struct(bodies: &[Declared], base: Base, left: usize) -> Result<Measure, Stop>
     ensures measure { IfOk result (λ m. measure_in (map body_in bodies.now) base ≡ Some m) }
     ensures among { IfOk result (λ m. measure_among (measures_of bodies.now) base ≡ Some m) }
@@ -83,7 +81,6 @@ fn measure_in_struct(bodies: &[Declared], base: Base, left: usize) -> Result<Mea
     }
 }
 
-/// Returns what a field says; the fields before it end at `at`.
 fn struct_field(
     alloc: Global,
     heads: &Heads,
@@ -122,7 +119,6 @@ fn struct_field(
     })
 }
 
-/// Returns what the fields of a struct say.
 fn struct_fields(
     alloc: Global,
     heads: &Heads,
@@ -164,7 +160,6 @@ fn struct_fields(
     })
 }
 
-/// Returns the number that an attribute has.
 pub(crate) fn setting_number(attribute: &Attribute) -> Option<u64>
     ensures value { IfSome result (λ n. n ≡ literal_number (attribute_of attribute.now).value) }
     ensures said { result ≡ number_in (attribute_of attribute.now).value }
@@ -178,7 +173,6 @@ pub(crate) fn setting_number(attribute: &Attribute) -> Option<u64>
     }
 }
 
-/// Returns `force_align`, or the greatest alignment of the fields.
 fn alignment_of(attributes: &[Attribute], greatest: usize, left: usize) -> Result<usize, Stop>
     ensures said { IfOk result (λ n. n ≡ alignment_said
         (setting_lem (codes "force_align") (map attribute_of attributes.now)) greatest) }
@@ -201,8 +195,6 @@ fn alignment_of(attributes: &[Attribute], greatest: usize, left: usize) -> Resul
     }
 }
 
-/// Returns what a struct says. Enums and structs in it are among `bodies`, which are declared
-/// before it.
 pub(crate) fn struct_of(
     alloc: Global,
     heads: &Heads,

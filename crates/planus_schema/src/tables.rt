@@ -71,14 +71,12 @@ fn is_text(base: Base) -> bool
     matches!(base, Base::Text)
 }
 
-/// Returns whether a field must be there. A string that is the key must.
 fn is_required(kind: FieldType, field: &Field) -> bool
     ensures { result ≡ is_required_lem kind (field_of field.now) }
 {
     has(&field.attributes, b"required") || (has(&field.attributes, b"key") && is_text(kind.base))
 }
 
-/// Checks what may be `required`, a `key` and a nested buffer.
 fn check_lawful(field: &TableField, left: usize) -> Result<(), Stop>
     ensures lawful { IfOk result (λ _. is_lawful_lem field.now ≡ true) }
     ensures wrong { Tells (wrong_law field.now.required field.now.key (is_set field.now.nested)
@@ -105,7 +103,6 @@ fn path_of_text(alloc: Global, text: &[u8], left: usize) -> Result<Path, AllocEr
     })
 }
 
-/// Returns the index of the table of this name.
 fn table_named(
     alloc: Global,
     heads: &Heads,
@@ -129,7 +126,6 @@ fn table_named(
     }
 }
 
-/// Returns the index of the table that `nested_flatbuffer` names.
 fn nested_of(
     alloc: Global,
     heads: &Heads,
@@ -155,8 +151,6 @@ fn nested_of(
     }
 }
 
-/// Returns what a field says. `next` is the next slot that is free, and `ids` says that the table's
-/// fields have an `id`.
 fn table_field(
     alloc: Global,
     heads: &Heads,
@@ -197,8 +191,7 @@ fn table_field(
     Ok(settled)
 }
 
-/// Adds the name of a field, and before it that of the type of a union, and returns whether they
-/// were new.
+/// Adds the name of a field, and before it that of a union's type; returns whether they were new.
 fn take_names(
     alloc: Global,
     names: &mut Vec<Vec<u8>>,
@@ -219,7 +212,6 @@ fn take_names(
     take_name(alloc, names, &field.name)
 }
 
-/// Adds the names of a field, which no field before it has.
 fn add_names(
     alloc: Global,
     names: &mut Vec<Vec<u8>>,
@@ -240,7 +232,6 @@ fn add_names(
     }
 }
 
-/// Returns whether there is a `key` after a field, which there may be once.
 fn one_key(key: bool, field: &TableField, left: usize) -> Result<bool, Stop>
     ensures key { IfOk result (λ k. k ≡ (key || field.now.key)) }
     ensures first { IfOk result (λ _. (field.now.key && key) ≡ false) }
@@ -287,7 +278,6 @@ fn table_fields(
     Ok(fields)
 }
 
-/// Returns what a table says.
 pub(crate) fn table_of(
     alloc: Global,
     heads: &Heads,

@@ -31,7 +31,6 @@ fn target_of(member: &Member) -> &Path
     }
 }
 
-/// Returns the tag of a member: the one that is given, or one more than that before it.
 fn tag_of(previous: u8, member: &Member) -> Option<u8>
     ensures tag { IfSome result (λ n. n ≡ tag_of_lem previous (member_of member.now).value) }
     ensures within { IfSome result (λ n. is_tag n ≡ true) }
@@ -96,7 +95,6 @@ fn has_tag(members: &[UnionMember], tag: u8) -> bool
 }
 
 #[tactic(auto, using(crate::proofs::UnionLemmas::tags_any))]
-/// Returns the next member, whose tag no other has.
 fn next_member(
     alloc: Global,
     heads: &Heads,
@@ -156,7 +154,6 @@ fn union_members(
     Ok(members)
 }
 
-/// Returns what a union says.
 pub(crate) fn union_of(
     alloc: Global,
     heads: &Heads,

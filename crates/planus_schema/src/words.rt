@@ -6,7 +6,6 @@ ghost use Rattle.planus_schema.specs.Names.{cut_words as cut_words_lem};
 
 use std::alloc::{AllocError, Global};
 
-/// Returns the words of a text with a space between them.
 pub(crate) fn cut_words(alloc: Global, text: &[u8]) -> Result<Vec<Vec<u8>>, AllocError>
     ensures { IfOk result (λ v. names_of v.items ≡ cut_words_lem [] text.now) }
 {

@@ -3,7 +3,6 @@ use Rattle.planus_syntax.specs.Values.{attribute_of}
 use Rattle.planus_schema.specs.Names.{setting, attribute_named}
 use Rattle.planus_schema.proofs.attributes.setting.Given as goal
 
--- the first is among what is left
 abbrev pub invariant-attributes : goal.invariant-attributes
 invariant-attributes l = record {
   said : setting l.word (map attribute_of l.rest) ≡ setting l.word (map attribute_of l.attributes);

@@ -3,7 +3,6 @@ use Rattle.planus_syntax.specs.Values.{names_of}
 use Rattle.planus_schema.specs.WrongServices.{customs_in}
 use Rattle.planus_schema.proofs.checks.add_customs.Given as goal
 
--- the attributes so far and those that are left are all
 abbrev pub invariant-declarations : goal.invariant-declarations
 invariant-declarations l = names_of l.known.items ++ customs_in (drop l.declaration-index l.declarations)
     ≡ names_of l.fn.known.items ++ customs_in l.declarations

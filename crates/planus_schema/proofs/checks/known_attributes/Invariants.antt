@@ -3,7 +3,6 @@ use Rattle.planus_syntax.specs.Values.{names_of}
 use Rattle.planus_schema.specs.WrongServices.{customs_of, known_attributes}
 use Rattle.planus_schema.proofs.checks.known_attributes.Given as goal
 
--- the attributes so far and those that are left are all
 abbrev pub invariant-files : goal.invariant-files
 invariant-files l = names_of l.known.items ++ customs_of (drop l.declarations-index l.files)
     ≡ known_attributes l.files

@@ -4,7 +4,6 @@ use Rattle.planus_syntax.specs.Values.{names_of, enumeration_of}
 use Rattle.planus_schema.specs.Defaults.{flags_named}
 use Rattle.planus_schema.proofs.defaults.flags_named.Given as goal
 
--- the values so far
 abbrev pub invariant-words : goal.invariant-words
 invariant-words l =
     flags_named (enumeration_of l.declared) (names_of (take l.word-index l.words)) ≡ Some l.total

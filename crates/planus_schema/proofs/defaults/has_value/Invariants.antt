@@ -5,7 +5,6 @@ use Rattle.planus_syntax.specs.Values.{variant_of}
 use Rattle.planus_schema.specs.Enums.{same_number, numbers_said}
 use Rattle.planus_schema.proofs.defaults.has_value.Given as goal
 
--- it is among what is left
 abbrev pub invariant-variants : goal.invariant-variants
 invariant-variants l =
     list_any (λ v. same_number v l.number) (numbers_said l.previous (map variant_of l.rest))

@@ -4,7 +4,6 @@ use Rattle.planus_syntax.specs.Values.{variant_of}
 use Rattle.planus_schema.specs.Defaults.{value_named}
 use Rattle.planus_schema.proofs.defaults.value_named.Given as goal
 
--- it is among what is left
 abbrev pub invariant-variants : goal.invariant-variants
 invariant-variants l =
     value_named l.name l.flags l.previous (map variant_of l.rest)

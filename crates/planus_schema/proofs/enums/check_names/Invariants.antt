@@ -4,7 +4,6 @@ use Rattle.planus_layout.specs.Distinct.{AreDistinct}
 use Rattle.planus_schema.specs.WrongEnums.{wrong_names}
 use Rattle.planus_schema.proofs.enums.check_names.Given as goal
 
--- the names so far
 abbrev pub invariant-variants : goal.invariant-variants
 invariant-variants l = record {
   names : names_of l.names.items

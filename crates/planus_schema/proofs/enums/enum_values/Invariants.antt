@@ -7,7 +7,6 @@ use Rattle.planus_schema.specs.Enums.{number_of_value, settled, numbers_from, sa
 use Rattle.planus_schema.specs.WrongEnums.{wrong_values}
 use Rattle.planus_schema.proofs.enums.enum_values.Given as goal
 
--- the values so far, and those that follow
 abbrev pub invariant-variants : goal.invariant-variants
 invariant-variants l = record {
   names : map (λ x. x.name.items) l.values.items

@@ -5,7 +5,6 @@ use Rattle.planus_schema.specs.Names.{path_in, head_of, heads_in}
 use Rattle.planus_schema.specs.Faults.{placed_of, placed_in}
 use Rattle.planus_schema.proofs.head.add_heads.Given as goal
 
--- the heads so far and those of what is left are all
 abbrev pub invariant-declarations : goal.invariant-declarations
 invariant-declarations l = record {
   heads : map head_of l.heads.items ++ heads_in l.file (path_in l.space)

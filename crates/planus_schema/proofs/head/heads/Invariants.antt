@@ -4,7 +4,6 @@ use Rattle.planus_schema.specs.Names.{head_of, heads_from, heads_of}
 use Rattle.planus_schema.specs.Faults.{placed_of, placed_from}
 use Rattle.planus_schema.proofs.head.heads.Given as goal
 
--- the heads so far and those of the files that are left are all
 abbrev pub invariant-files : goal.invariant-files
 invariant-files l = record {
   index : l.file ≡ l.declarations-index;

@@ -4,7 +4,6 @@ use Rattle.planus_syntax.specs.Values.{names_of}
 use Rattle.planus_schema.specs.Names.{with_word}
 use Rattle.planus_schema.proofs.head.put_words.Given as goal
 
--- the words so far
 abbrev pub invariant-words : goal.invariant-words
 invariant-words l =
     l.out.items ≡ fold with_word l.fn.out.items (names_of (take l.word-index l.words))

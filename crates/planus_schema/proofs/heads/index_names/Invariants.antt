@@ -4,7 +4,6 @@ use Rattle.planus_schema.specs.Names.{head_of, has_name}
 use Rattle.planus_schema.specs.Index.{index_at}
 use Rattle.planus_schema.proofs.heads.index_names.Given as goal
 
--- the first of each name among those from the index on
 abbrev pub invariant-heads : goal.invariant-heads
 invariant-heads l = record {
   within : l.index ≤ length l.list;

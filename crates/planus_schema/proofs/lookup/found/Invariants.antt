@@ -3,7 +3,6 @@ use Rattle.planus_syntax.specs.Values.{path_of}
 use Rattle.planus_schema.specs.Names.{words_of, space_of, head_of, found_from, found}
 use Rattle.planus_schema.proofs.lookup.found.Given as goal
 
--- nothing was found further inside
 abbrev pub invariant-spaces : goal.invariant-spaces
 invariant-spaces l = record {
   within : l.count ≤ length (space_of l.space);

@@ -4,7 +4,6 @@ use Rattle.planus_layout.specs.Distinct.{AreDistinct}
 use Rattle.planus_schema.specs.Faults.{first_twenty, placed_of, name_faults}
 use Rattle.planus_schema.proofs.meaning.check_names.Given as goal
 
--- the names so far
 abbrev pub invariant-heads : goal.invariant-heads
 invariant-heads l = record {
   index : l.index ≡ l.head-index;

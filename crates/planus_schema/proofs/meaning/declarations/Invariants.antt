@@ -5,7 +5,6 @@ use Rattle.planus_schema.specs.WrongStructs.{measures_of}
 use Rattle.planus_schema.specs.Faults.{first_twenty, placed_of, body_faults}
 use Rattle.planus_schema.proofs.meaning.declarations.Given as goal
 
--- the declarations so far
 abbrev pub invariant-heads : goal.invariant-heads
 invariant-heads l = record {
   says : l.faults.items ≡ [] → AreDeclared (map head_of l.heads)

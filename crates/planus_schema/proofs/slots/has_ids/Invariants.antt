@@ -3,7 +3,6 @@ use Rattle.planus_syntax.specs.Values.{field_of}
 use Rattle.planus_schema.specs.Tables.{has_ids}
 use Rattle.planus_schema.proofs.slots.has_ids.Given as goal
 
--- one is among what is left
 abbrev pub invariant-fields : goal.invariant-fields
 invariant-fields l = has_ids (map field_of l.rest) ≡ has_ids (map field_of l.fields)
 

@@ -6,7 +6,6 @@ use Rattle.planus_schema.specs.Names.{head_of, path_in}
 use Rattle.planus_schema.specs.Schemas.{said_of, after_file, IsFour}
 use Rattle.planus_schema.proofs.statements.state_file.Given as goal
 
--- what is stated so far, and what is left
 abbrev pub invariant-declarations : goal.invariant-declarations
 invariant-declarations l = record {
   said : l.faults.items ≡ [] → after_file (map head_of l.heads) (path_in l.space) (said_of l.statements)

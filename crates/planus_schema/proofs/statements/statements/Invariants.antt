@@ -6,7 +6,6 @@ use Rattle.planus_schema.specs.Names.{head_of}
 use Rattle.planus_schema.specs.Schemas.{said_of, after_files, no_statements, IsFour}
 use Rattle.planus_schema.proofs.statements.statements.Given as goal
 
--- what is stated so far, and what is left
 abbrev pub invariant-files : goal.invariant-files
 invariant-files l = record {
   index : l.file ≡ l.declarations-index;

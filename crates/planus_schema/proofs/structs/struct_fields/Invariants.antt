@@ -7,7 +7,6 @@ use Rattle.planus_layout.specs.Layouts.{Laid, greatest_alignment, body_in}
 use Rattle.planus_schema.specs.WrongStructs.{measures_of, end_after, greatest_after, wrong_struct_fields}
 use Rattle.planus_schema.proofs.structs.struct_fields.Given as goal
 
--- the fields so far
 abbrev pub invariant-fields : goal.invariant-fields
 invariant-fields l = record {
   says : Each2 (SaysStructField (map head_of l.heads) (space_of l.space) (map body_in l.bodies))

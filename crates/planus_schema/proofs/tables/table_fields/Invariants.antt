@@ -9,7 +9,6 @@ use Rattle.planus_layout.specs.Slots.{slots_taken}
 use Rattle.planus_schema.specs.WrongTables.{slots_from, wrong_fields}
 use Rattle.planus_schema.proofs.tables.table_fields.Given as goal
 
--- the fields so far
 abbrev pub invariant-fields : goal.invariant-fields
 invariant-fields l = record {
   says : Each2 (SaysField (map head_of l.heads) (space_of l.space) l.ids)

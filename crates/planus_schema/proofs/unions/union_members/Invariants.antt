@@ -8,7 +8,6 @@ use Rattle.planus_schema.specs.Unions.{SaysMember, tags_from, tag_in, is_tag}
 use Rattle.planus_schema.specs.WrongUnions.{wrong_members}
 use Rattle.planus_schema.proofs.unions.union_members.Given as goal
 
--- the members so far
 abbrev pub invariant-members : goal.invariant-members
 invariant-members l = record {
   says : Each2 (SaysMember (map head_of l.heads) (space_of l.space))

@@ -3,7 +3,6 @@ use Rattle.planus_syntax.specs.Values.{names_of}
 use Rattle.planus_schema.specs.Names.{cut_words}
 use Rattle.planus_schema.proofs.words.cut_words.Given as goal
 
--- the words so far, and those of what is left
 abbrev pub invariant-bytes : goal.invariant-bytes
 invariant-bytes l =
     names_of l.words.items ++ cut_words l.word.items (drop l.b-index l.text) ≡ cut_words [] l.text
