@@ -1,4 +1,4 @@
--- Digits whose number is too large, and words that are no digits.
+-- Numbers that are too large.
 use Rattle.std.proofs.Common.{◌≡◌, ℕ, ◌+◌, ◌*◌, ◌<◌, ◌≤◌, Bool, true, false, cond, List, [], ◌∷◌, length, take, drop, get_or, refl, sym, ap, subst, ◌∙◌, arith}
 use Rattle.std.specs.Prelude.{fold, Some, None}
 use Rattle.std.specs.List.{list_all}

@@ -13,7 +13,6 @@ is_in names name = list_any (λ w. bytes_eq w name) names
 abbrev pub AreDistinct : List (List ℕ) → Type 0
 AreDistinct names = IsDistinct bytes_eq names
 
--- the names after `name` was added, if it was new
 pub record IsAdded (old : List (List ℕ)) (name : List ℕ) (new : List (List ℕ)) : Type 0 where
   pub added : new ≡ old ++ name ∷ []
   pub distinct : AreDistinct old → AreDistinct new
@@ -22,7 +21,6 @@ abbrev pub Takes : Bool → List (List ℕ) → List ℕ → List (List ℕ) →
 Takes true old name new = IsAdded old name new
 Takes false old name new = Unit {0}
 
--- the items of two lists at each place
 abbrev pub Each2 : {A B : Type 0} → (A → B → Type 0) → List A → List B → Type 0
 Each2 R [] [] = Unit {0}
 Each2 R [] (y ∷ ys) = ⊥

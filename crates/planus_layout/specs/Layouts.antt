@@ -13,8 +13,6 @@ use Rattle.planus_layout.specs.declared.measure.Measure.{Measure}
 use Rattle.planus_layout.specs.Numbers.{scalar_size}
 use Rattle.planus_layout.specs.Distinct.{AreDistinct}
 
--- ---- sizes
-
 abbrev pub body_in : Declared → Body
 body_in d = d.body
 
@@ -26,7 +24,7 @@ measure_of_body (Some (body.Enum e)) =
     Some (record { size = scalar_size e.scalar; alignment = scalar_size e.scalar })
 measure_of_body (Some (body.Union u)) = None
 
--- the size and alignment of a value in a struct; `bodies` are the declarations
+-- of a value in a struct; `bodies` are the declarations
 abbrev pub measure_in : List Body → Base → Option Measure
 measure_in bodies (base.Scalar s) =
     Some (record { size = scalar_size s; alignment = scalar_size s })
@@ -35,8 +33,6 @@ measure_in bodies (base.Enum i) = measure_of_body (slice_get bodies i)
 measure_in bodies (base.Struct i) = measure_of_body (slice_get bodies i)
 measure_in bodies (base.Table i) = None
 measure_in bodies (base.Union i) = None
-
--- ---- places
 
 -- the least multiple of `alignment` that is not below `at`
 pub record IsNext (alignment at place : ℕ) : Type 0 where
@@ -56,7 +52,6 @@ Laid at (f ∷ fs) end = IsNext f.alignment at f.distance × Laid (f.distance + 
 abbrev pub greatest_alignment : List StructField → ℕ
 greatest_alignment fs = fold (λ n f. max n f.alignment) 1 fs
 
--- a power of two up to 32
 abbrev pub is_alignment : ℕ → Bool
 is_alignment n = n == 1 || n == 2 || n == 4 || n == 8 || n == 16 || n == 32
 

@@ -1,4 +1,4 @@
--- The numbers that digits stand for, and the values of scalar types.
+-- Numbers of digits, and values of scalar types.
 use Rattle.std.specs.Prelude.{ℕ, ◌+◌, ◌-◌, ◌*◌, Bool, true, false, ◌==◌, ◌&&◌, ◌||◌, not}
 use Rattle.std.specs.Prelude.{nat_le, nat_lt, if◌then◌else◌, List, [], ◌∷◌, drop, fold, Option}
 use Rattle.std.specs.Prelude.{Some, None}
@@ -11,9 +11,6 @@ use Rattle.planus_layout.specs.declared.scalar.Scalar.TheVariants.{Bool as Boole
 use Rattle.planus_layout.specs.declared.scalar.Scalar.TheVariants.{Short, UShort, Int, UInt, Long}
 use Rattle.planus_layout.specs.declared.scalar.Scalar.TheVariants.{ULong, Float, Double}
 
--- ---- integers
-
--- of `0` to `9`, `A` to `F` and `a` to `f`
 abbrev pub digit_value : ℕ → ℕ
 digit_value b = if nat_le 97 b then b - 87 else if nat_le 65 b then b - 55 else b - 48
 
@@ -28,7 +25,6 @@ abbrev pub base : Bool → ℕ
 base true = 16
 base false = 10
 
--- the most significant digit first
 abbrev pub value_in : ℕ → List ℕ → ℕ
 value_in n digits = fold (λ total b. total * n + digit_value b) 0 digits
 
@@ -47,7 +43,7 @@ is_hexadecimal bs = false
 abbrev pub without_mark : List ℕ → List ℕ
 without_mark bs = if is_hexadecimal bs then drop 2 bs else bs
 
--- all are digits: not a float, and no name
+-- no float, and no name
 abbrev pub is_integer : List ℕ → Bool
 is_integer word =
     let bs = without_sign word in list_all (is_digit (is_hexadecimal bs)) (without_mark bs)
@@ -71,7 +67,7 @@ digits_said hexadecimal digits =
     if list_all (is_digit hexadecimal) digits then held (value_in (base hexadecimal) digits)
     else None
 
--- the integer that a word stands for, if its distance from zero is below 2^64
+-- an integer whose distance from zero is below 2^64
 abbrev pub integer_said : List ℕ → Option Number
 integer_said word = if is_integer word && nat_lt (magnitude_of word) 18446744073709551616
     then Some (integer_of word) else None
@@ -87,8 +83,6 @@ following n = if n.negative
 abbrev pub following_said : Number → Option Number
 following_said n = if n.negative || nat_lt (n.magnitude + 1) 18446744073709551616
     then Some (following n) else None
-
--- ---- scalar types
 
 abbrev pub scalar_size : Scalar → ℕ
 scalar_size Boolean = 1
@@ -112,7 +106,7 @@ abbrev pub is_bool : Scalar → Bool
 is_bool Boolean = true
 is_bool s = false
 
--- the greatest value; `least` has its distance from zero; a `bool` is 0 or 1
+-- a `bool` is 0 or 1
 abbrev pub greatest : Scalar → ℕ
 greatest Boolean = 1
 greatest Byte = 127
@@ -136,7 +130,6 @@ least s = 0
 abbrev pub fits : Scalar → Number → Bool
 fits s n = if n.negative then nat_le n.magnitude (least s) else nat_le n.magnitude (greatest s)
 
--- by either of its names
 unfoldable pub scalar_named : List ℕ → Option Scalar
 scalar_named w =
     if bytes_eq w (codes "bool") then Some Boolean

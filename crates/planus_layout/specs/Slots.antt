@@ -16,7 +16,7 @@ is_union_base (base.Struct i) = false
 is_union_base (base.Table i) = false
 is_union_base (base.Union i) = true
 
--- a union or a vector of unions: its type has the slot before its value
+-- a union's type has the slot before its value
 abbrev pub is_union : FieldType → Bool
 is_union t = is_union_base t.base
 
@@ -30,12 +30,12 @@ abbrev pub slots_taken : List TableField → List ℕ
 slots_taken [] = []
 slots_taken (f ∷ fs) = slots_of f ++ slots_taken fs
 
--- each field takes the slots after those of the field before it
+-- each field takes the next slots
 abbrev pub Follow : ℕ → List TableField → ℕ → Type 0
 Follow at [] end = at ≡ end
 Follow at (f ∷ fs) end = (f.slot + 1 ≡ at + width f.kind) × Follow (at + width f.kind) fs end
 
--- an `id` that leaves room for the type of a union
+-- a union's type has room before it
 abbrev pub id_with_room : FieldType → Option ℕ → Option ℕ
 id_with_room t None = None
 id_with_room t (Some n) = if nat_le (width t) (n + 1) then Some n else None
@@ -49,7 +49,7 @@ abbrev pub are_apart : List ℕ → Bool
 are_apart [] = true
 are_apart (n ∷ ns) = not (list_any (nat_eq n) ns) && are_apart ns
 
--- the numbers from 0 on in some order, each once
+-- the numbers from 0 on, each once
 abbrev pub are_whole : List ℕ → Bool
 are_whole ns = list_all (λ n. nat_lt n (length ns)) ns && are_apart ns
 

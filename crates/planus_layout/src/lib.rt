@@ -1,5 +1,4 @@
-//! The meaning of a flatbuffers schema, and its layout rules: numbers, slots of tables, places in
-//! structs, and unique names.
+//! The meaning of flatbuffers schemas, and their layout rules.
 #![tactic(auto)]
 
 mod measure;

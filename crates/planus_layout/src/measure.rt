@@ -45,7 +45,7 @@ fn measure_at(bodies: &[Declared], index: usize) -> Option<Measure>
     }
 }
 
-/// Returns the size and alignment of a value in a struct; `None` where a struct can't hold it.
+/// Returns the size and alignment of a value, if a struct can hold it.
 pub fn measure_of(bodies: &[Declared], base: Base) -> Option<Measure>
     ensures { result ≡ measure_in (map body_in bodies.now) base }
 {

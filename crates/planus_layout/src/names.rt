@@ -1,4 +1,4 @@
-//! Copied names, and unique names.
+//! Names.
 
 ghost use Rattle.std.specs.Prelude.{◌≡◌, IfOk, position, not, IsTrue, ◌↔◌, Some};
 ghost use Rattle.std.specs.List.{list_any};
@@ -26,7 +26,7 @@ pub fn is_among(names: &[Vec<u8>], name: &[u8]) -> bool
     names.iter().any(|word| word.as_slice() == name)
 }
 
-/// Adds a name to the used ones; returns whether it was new.
+/// Adds a name to these; returns whether it was new.
 pub fn take_name(alloc: Global, names: &mut Vec<Vec<u8>>, name: &[u8]) -> Result<bool, AllocError>
     ensures taken { IfOk result (λ new. Takes new (items_of names.old.items) name.now
         (items_of names.new.items)) }
@@ -40,17 +40,14 @@ pub fn take_name(alloc: Global, names: &mut Vec<Vec<u8>>, name: &[u8]) -> Result
     Ok(true)
 }
 
-/// Returns whether `found`, the first declaration of a name, is the declaration `index`.
+/// Returns whether `found`, a name's first index, is this.
 pub fn is_first(found: Option<usize>, index: usize) -> bool
     ensures { IsTrue result ↔ found ≡ Some index }
 {
     found == Some(index)
 }
 
-/// Returns the index of the file of this name.
-///
-/// A file that has one is not read again, so that each is read once, however files include each
-/// other.
+/// Returns the index of a file, so that each is read once, however files include each other.
 pub fn file_index(files: &[Vec<u8>], name: &[u8]) -> Option<usize>
     ensures { result ≡ position (λ file. bytes_eq file.items name.now) files.now }
 {

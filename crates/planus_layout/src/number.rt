@@ -10,7 +10,7 @@ ghost use Rattle.planus_layout.specs.Numbers.{without_mark as without_mark_lem, 
 ghost use Rattle.planus_layout.specs.Numbers.{value_in, is_integer, integer_of};
 ghost use Rattle.planus_layout.specs.Numbers.{following as following_lem};
 
-/// An integer: its sign, and its distance from zero. Zero is not negative.
+/// An integer; zero is not negative.
 #[derive(Clone, Copy, PartialEq, Eq)]
 pub struct Number {
     pub negative: bool,
@@ -81,7 +81,7 @@ fn is_negative(digits: &[u8]) -> bool
     }
 }
 
-/// Returns the digits after the sign, if there is one.
+/// Returns the digits after a sign.
 pub fn without_sign(digits: &[u8]) -> &[u8]
     ensures { result.now ≡ without_sign_lem digits.now }
 {
@@ -91,7 +91,7 @@ pub fn without_sign(digits: &[u8]) -> &[u8]
     }
 }
 
-/// Returns whether the digits begin with `0x` or `0X`.
+/// Returns whether these begin with `0x` or `0X`.
 pub fn is_hexadecimal(digits: &[u8]) -> bool
     ensures { result ≡ is_hexadecimal_lem digits.now }
 {
@@ -110,7 +110,7 @@ fn without_mark(digits: &[u8]) -> &[u8]
     }
 }
 
-/// Returns the integer that a word stands for, if its distance from zero is below 2^64.
+/// Returns the integer of a word, if its distance from zero is below 2^64.
 pub fn integer(word: &[u8]) -> Option<Number>
     ensures said { result ≡ integer_said word.now }
     ensures whole { IfSome result (λ _. is_integer word.now ≡ true) }

@@ -6,7 +6,7 @@ ghost use Rattle.planus_layout.specs.Layouts.{is_alignment as is_alignment_lem};
 
 use crate::schema::{Struct, StructField};
 
-/// Returns the least multiple of an alignment that is not below `at`.
+/// Returns the least multiple of an alignment from `at` on.
 pub fn next_multiple(at: usize, alignment: usize) -> usize
     requires from { at ≤ 65535 }
     requires some { 0 < alignment }
@@ -29,14 +29,14 @@ pub fn greater(a: usize, b: usize) -> usize
     a.max(b)
 }
 
-/// Returns whether it is a power of two up to 32.
+/// Returns whether this is a power of two up to 32.
 pub fn is_alignment(n: usize) -> bool
     ensures { result ≡ is_alignment_lem n }
 {
     n == 1 || n == 2 || n == 4 || n == 8 || n == 16 || n == 32
 }
 
-/// The fields of a struct, where they end in bytes, and the greatest of their alignments.
+/// Fields of a struct, their end, and their greatest alignment.
 #[derive(Drop)]
 pub struct Layout {
     pub fields: Vec<StructField>,
@@ -45,7 +45,7 @@ pub struct Layout {
 }
 
 impl Layout {
-    /// Returns the struct of these fields with this alignment in bytes.
+    /// Returns the struct, padded to this alignment.
     pub fn finished(self, alignment: usize) -> Struct
         requires end { self.end ≤ 65535 }
         requires aligned { is_alignment_lem alignment ≡ true }

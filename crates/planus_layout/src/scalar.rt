@@ -95,7 +95,7 @@ impl Scalar {
         }
     }
 
-    /// Returns whether this integer is a value of the type. A float type has only 0.
+    /// Returns whether the type holds this integer; a float type only 0.
     pub fn fits(self, number: Number) -> bool
         ensures { result ≡ fits_lem self number }
     {

@@ -3,7 +3,7 @@
 use crate::number::Number;
 use crate::scalar::Scalar;
 
-/// What a value or an item of a vector is, with the index of its declaration.
+/// The type of a value, with the index of its declaration.
 #[derive(Clone, Copy, PartialEq, Eq)]
 pub enum Base {
     Scalar(Scalar),
@@ -15,7 +15,7 @@ pub enum Base {
     Union(usize),
 }
 
-/// The type of a field: a value, or a vector of them.
+/// The type of a field.
 #[derive(Clone, Copy, PartialEq, Eq)]
 pub struct FieldType {
     pub vector: bool,
@@ -27,7 +27,7 @@ pub struct FieldType {
 pub enum Value {
     /// `null`: the field may be absent.
     Absent,
-    /// An integer, the value of an enum, or 1 for `true` and 0 for `false`.
+    /// An integer; 1 for `true`, 0 for `false`.
     Integer(Number),
     /// A float, as it is written.
     Float(Vec<u8>),
@@ -37,8 +37,7 @@ pub enum Value {
     EmptyVector,
 }
 
-/// A field of a table. `slot` is that of its value; the type of a union has the slot before it.
-/// `nested` is the index of a `nested_flatbuffer`'s root table.
+/// A field of a table. A union's type has the slot before. `nested`: a `nested_flatbuffer`'s root.
 #[derive(Drop)]
 pub struct TableField {
     pub name: Vec<u8>,
@@ -52,13 +51,13 @@ pub struct TableField {
     pub nested: Option<usize>,
 }
 
-/// A table, with its fields as they are declared.
+/// A table.
 #[derive(Drop)]
 pub struct Table {
     pub fields: Vec<TableField>,
 }
 
-/// A field of a struct: `size` bytes, `distance` bytes after the struct's start.
+/// A field of a struct, `distance` bytes after its start.
 #[derive(Drop)]
 pub struct StructField {
     pub name: Vec<u8>,
@@ -69,7 +68,7 @@ pub struct StructField {
     pub alignment: usize,
 }
 
-/// A struct, with its size and alignment in bytes.
+/// A struct; its size is in bytes.
 #[derive(Drop)]
 pub struct Struct {
     pub fields: Vec<StructField>,
@@ -93,7 +92,7 @@ pub struct Enum {
     pub values: Vec<EnumValue>,
 }
 
-/// A member of a union: the index of its table, and its tag, from 1 on.
+/// A member of a union; tags begin at 1.
 #[derive(Drop)]
 pub struct UnionMember {
     pub name: Vec<u8>,
@@ -108,7 +107,7 @@ pub struct Union {
     pub members: Vec<UnionMember>,
 }
 
-/// The kind and contents of a declaration.
+/// What is declared.
 #[derive(Drop)]
 pub enum Body {
     Table(Table),
@@ -117,8 +116,7 @@ pub enum Body {
     Union(Union),
 }
 
-/// A table, a struct, an enum or a union. `name` is its full name with dots, and `file` the index
-/// of its file.
+/// A declaration. `name` has its namespace; `file` is an index.
 #[derive(Drop)]
 pub struct Declared {
     pub name: Vec<u8>,
@@ -127,7 +125,7 @@ pub struct Declared {
     pub body: Body,
 }
 
-/// The last statement of each kind. `root` is the index of a table.
+/// The last statements.
 #[derive(Drop)]
 pub struct Statements {
     pub root: Option<usize>,
@@ -135,7 +133,7 @@ pub struct Statements {
     pub extension: Option<Vec<u8>>,
 }
 
-/// What the files of a schema mean. Indices are those of `declarations`.
+/// A schema. Indices are those of `declarations`.
 #[derive(Drop)]
 pub struct Schema {
     pub declarations: Vec<Declared>,

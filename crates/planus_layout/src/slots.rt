@@ -8,7 +8,7 @@ ghost use Rattle.planus_layout.specs.Slots.{are_whole as are_whole_lem};
 use crate::schema::{Base, FieldType, TableField};
 use std::alloc::{AllocError, Global};
 
-/// Returns whether it is a union, or a vector of them.
+/// Returns whether this is a union or a vector of unions.
 pub fn is_union(kind: FieldType) -> bool
     ensures { result ≡ is_union_lem kind }
 {
@@ -25,8 +25,7 @@ pub fn width(kind: FieldType) -> usize
     if is_union(kind) { 2 } else { 1 }
 }
 
-/// Returns the slot of a field: the next free one, or with `ids` its own, if it is a number that
-/// leaves room for the type of a union.
+/// Returns the next slot, or with `ids` the field's, if a union's type has room before it.
 pub fn slot_of(id: Option<usize>, kind: FieldType, ids: bool, next: usize) -> Option<usize>
     requires next { next ≤ 65535 }
     requires id { IfSome id (λ n. n ≤ 65535) }
@@ -62,7 +61,7 @@ pub fn slots_taken(alloc: Global, fields: &[TableField]) -> Result<Vec<usize>, A
     Ok(slots)
 }
 
-/// Returns whether the slots are all the numbers from 0 on, each once.
+/// Returns whether these are all the numbers from 0 on, each once.
 pub fn are_whole(alloc: Global, slots: &[usize]) -> Result<bool, AllocError>
     ensures { IfOk result (λ b. b ≡ are_whole_lem slots.now) }
 {

@@ -8,8 +8,7 @@ ghost use Rattle.planus_plan.specs.Plans.{alignment_of as alignment_of_lem};
 use planus_layout::{Base, Declared, FieldType, Table, TableField, measure_of, slots_taken};
 use std::alloc::{AllocError, Global};
 
-/// A field of a table: the index of the table, the field's place in it, its declaration, and its
-/// alignment in bytes.
+/// A field, its table's index, its place in the table, and its alignment in bytes.
 #[derive(Clone, Copy)]
 pub struct Line<'a> {
     pub table: usize,

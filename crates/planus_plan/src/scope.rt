@@ -75,14 +75,14 @@ fn are_all_names(names: &[Vec<u8>]) -> bool
     true
 }
 
-/// Returns whether these can be the names of a scope: identifiers, of which no two are alike.
+/// Returns whether these are identifiers, no two alike.
 pub fn are_names(names: &[Vec<u8>]) -> bool
     ensures { result ≡ are_names_lem names.now }
 {
     are_all_names(names) && are_apart(names)
 }
 
-/// Returns whether each of these can be the names of a scope.
+/// Returns whether each of these passes [`are_names`].
 pub fn are_scopes(scopes: &[Vec<Vec<u8>>]) -> bool
     ensures { result ≡ are_scopes_lem scopes.now }
 {
