@@ -5,7 +5,7 @@ use Rattle.planus_schema.proofs.meaning.body_of.Goals as goal
 pub returns-in_err-table_of-in-Table-clause-wrong : goal.returns-in_err-table_of-in-Table-clause-wrong
 returns-in_err-table_of-in-Table-clause-wrong c =
     let p = err_from_is_err_and c.from_residual.result c.from_residual.ensures.1 in
-    rw (p.1, p.2, c.in-Table.is) c.in_err-table_of-in-Table.ensures.wrong
+    rw (p.1, p.2, c.in-Table.is) (rw c.name_left-left.ensures at c.in_err-table_of-in-Table.ensures.wrong)
 
 pub returns-in_ok-table_of-in-Table-clause-says : goal.returns-in_ok-table_of-in-Table-clause-says
 returns-in_ok-table_of-in-Table-clause-says c = rw c.in-Table.is c.in_ok-table_of-in-Table.ensures.says
@@ -17,12 +17,12 @@ pub returns-in_ok-table_of-in-Table-clause-measure : goal.returns-in_ok-table_of
 returns-in_ok-table_of-in-Table-clause-measure c = rw c.in-Table.is refl
 
 pub returns-in_ok-table_of-in-Table-clause-wrong : goal.returns-in_ok-table_of-in-Table-clause-wrong
-returns-in_ok-table_of-in-Table-clause-wrong c = rw c.in-Table.is c.in_ok-table_of-in-Table.ensures.wrong
+returns-in_ok-table_of-in-Table-clause-wrong c = rw c.in-Table.is (rw c.name_left-left.ensures at c.in_ok-table_of-in-Table.ensures.wrong)
 
 pub returns-in_err-struct_of-in-Struct-clause-wrong : goal.returns-in_err-struct_of-in-Struct-clause-wrong
 returns-in_err-struct_of-in-Struct-clause-wrong c =
     let p = err_from_is_err_and c.from_residual-in_err-struct_of-in-Struct.result c.from_residual-in_err-struct_of-in-Struct.ensures.1 in
-    rw (p.1, p.2, c.in-Struct.is) c.in_err-struct_of-in-Struct.ensures.wrong
+    rw (p.1, p.2, c.in-Struct.is) (rw c.name_left-left.ensures at c.in_err-struct_of-in-Struct.ensures.wrong)
 
 pub returns-in_ok-struct_of-in-Struct-clause-says : goal.returns-in_ok-struct_of-in-Struct-clause-says
 returns-in_ok-struct_of-in-Struct-clause-says c = rw c.in-Struct.is c.in_ok-struct_of-in-Struct.ensures.says
@@ -34,7 +34,7 @@ pub returns-in_ok-struct_of-in-Struct-clause-measure : goal.returns-in_ok-struct
 returns-in_ok-struct_of-in-Struct-clause-measure c = rw c.in-Struct.is (ap Some c.in_ok-struct_of-in-Struct.ensures.measure)
 
 pub returns-in_ok-struct_of-in-Struct-clause-wrong : goal.returns-in_ok-struct_of-in-Struct-clause-wrong
-returns-in_ok-struct_of-in-Struct-clause-wrong c = rw c.in-Struct.is c.in_ok-struct_of-in-Struct.ensures.wrong
+returns-in_ok-struct_of-in-Struct-clause-wrong c = rw c.in-Struct.is (rw c.name_left-left.ensures at c.in_ok-struct_of-in-Struct.ensures.wrong)
 
 pub returns-in_err-enum_of-in-Enum-clause-wrong : goal.returns-in_err-enum_of-in-Enum-clause-wrong
 returns-in_err-enum_of-in-Enum-clause-wrong c =
