@@ -78,12 +78,16 @@ field_stops hs space ids next key names fs d ds all s here low same h =
     subst (λ o. Stops o s) (ap (wrong_fields hs space ids next key names) (sym here) ∙ same)
     (stops_next _ _ s (passes _ problem.TooManySlots d.left (ap not low)) (stops_first _ _ s h))
 
-pub names_stop : (hs : List HeadV) (space : List Name) (ids : Bool) (next : ℕ) (key : Bool) (names : List Name) (f : TableField) (d : Field) (ds : List Field) (all : Option Broken) (s : Stop) → after_field hs space ids next key names f d ds ≡ all → Stops (when (are_among names (names_taken f)) problem.FieldNameTaken d.left) s → Stops all s
-names_stop hs space ids next key names f d ds all s is h = subst (λ o. Stops o s) is (stops_first _ _ s h)
+one_by_one : (a b c : Option Broken) → first a (first b c) ≡ first (first a b) c
+one_by_one None b c = refl
+one_by_one (Some x) b c = refl
 
-pub key_stops : (hs : List HeadV) (space : List Name) (ids : Bool) (next : ℕ) (key : Bool) (names : List Name) (f : TableField) (d : Field) (ds : List Field) (all : Option Broken) (s : Stop) → after_field hs space ids next key names f d ds ≡ all → are_among names (names_taken f) ≡ false → Stops (when (f.key && key) problem.SecondKey d.left) s → Stops all s
-key_stops hs space ids next key names f d ds all s is new h =
-    subst (λ o. Stops o s) is (stops_next _ _ s (passes _ problem.FieldNameTaken d.left new) (stops_first _ _ s h))
+pub names_stop : (hs : List HeadV) (space : List Name) (ids : Bool) (next : ℕ) (key : Bool) (names : List Name) (f : TableField) (d : Field) (ds : List Field) (all : Option Broken) (s : Stop) → after_field hs space ids next key names f d ds ≡ all → Stops (first (when (are_among names (names_taken f)) problem.FieldNameTaken d.left) (when (f.key && key) problem.SecondKey d.left)) s → Stops all s
+names_stop hs space ids next key names f d ds all s is h =
+    let a = when (are_among names (names_taken f)) problem.FieldNameTaken d.left in
+    let b = when (f.key && key) problem.SecondKey d.left in
+    let c = wrong_fields hs space ids (next + width f.kind) (key || f.key) (names ++ names_taken f) ds in
+    subst (λ o. Stops o s) (sym (one_by_one a b c) ∙ is) (stops_first (first a b) c s h)
 
 pub nothing_wrong : (hs : List HeadV) (space : List Name) (ids : Bool) (next : ℕ) (key : Bool) (names : List Name) (d : Field) (ds : List Field) (all : Option Broken) (f : TableField) (names' : List Name) (key' : Bool) (next' : ℕ) → after_field hs space ids next key names f d ds ≡ all → are_among names (names_taken f) ≡ false → (f.key && key) ≡ false → names' ≡ names ++ names_taken f → key' ≡ (key || f.key) → next' ≡ next + width f.kind → wrong_fields hs space ids next' key' names' ds ≡ all
 nothing_wrong hs space ids next key names d ds all f names' key' next' h a b n k w =

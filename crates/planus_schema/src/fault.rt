@@ -7,7 +7,7 @@ ghost use Rattle.planus_schema.specs.Faults.{Adds, fault_in, broken_in};
 use std::alloc::{AllocError, AllocFailed};
 
 /// The kind of a fault.
-#[derive(Clone, Copy, PartialEq, Eq)]
+#[derive(Clone, Copy)]
 pub enum Problem {
     /// No scalar type and no declaration has this name.
     UnknownType,
@@ -81,7 +81,7 @@ pub enum Problem {
 
 /// A fault. `file` is the index of its file, and `left` the number of tokens from the word at fault
 /// to the end of the text, the word included.
-#[derive(Clone, Copy, PartialEq, Eq)]
+#[derive(Clone, Copy)]
 pub struct Fault {
     pub problem: Problem,
     pub file: usize,

@@ -27,8 +27,7 @@ pub(crate) fn put_word(out: &mut Vec<u8>, word: &[u8]) -> Result<(), AllocError>
     if !out.is_empty() {
         out.push(b'.')?;
     }
-    out.extend_from_slice(word)?;
-    Ok(())
+    out.extend_from_slice(word)
 }
 
 pub(crate) fn put_words(out: &mut Vec<u8>, words: &[Vec<u8>]) -> Result<(), AllocError>

@@ -19,7 +19,7 @@ ghost use Rattle.planus_layout.specs.Slots.{Follow, width as width_lem};
 ghost use Rattle.planus_layout.specs.Slots.{slots_taken as slots_taken_lem};
 ghost use Rattle.planus_schema.specs.Names.{has as has_lem, is_set, table_in, attribute_named};
 ghost use Rattle.planus_schema.specs.Tables.{table_found};
-ghost use Rattle.planus_schema.specs.Wrong.{Tells, when};
+ghost use Rattle.planus_schema.specs.Wrong.{Tells, first, when};
 ghost use Rattle.planus_schema.specs.WrongTables.{wrong_law, wrong_nested, wrong_field};
 ghost use Rattle.planus_schema.specs.WrongTables.{wrong_fields, wrong_table_body, are_among};
 ghost use Rattle.planus_schema.specs.WrongTables.{field_type, slots_from};
@@ -215,33 +215,27 @@ fn take_names(
 fn add_names(
     alloc: Global,
     names: &mut Vec<Vec<u8>>,
+    key: bool,
     field: &TableField,
     left: usize,
-) -> Result<(), Stop>
+) -> Result<bool, Stop>
     ensures named { IfOk result (λ _. AreNamed (names_of names.old.items) (names_taken field.now)
         (names_of names.new.items)) }
     ensures new { IfOk result (λ _. are_among (names_of names.old.items) (names_taken field.now)
         ≡ false) }
-    ensures wrong { Tells (when (are_among (names_of names.old.items) (names_taken field.now))
-        Problem.FieldNameTaken left) result }
-{
-    if take_names(alloc, names, field)? {
-        Ok(())
-    } else {
-        Err(wrong(Problem::FieldNameTaken, left))
-    }
-}
-
-fn one_key(key: bool, field: &TableField, left: usize) -> Result<bool, Stop>
     ensures key { IfOk result (λ k. k ≡ (key || field.now.key)) }
     ensures first { IfOk result (λ _. (field.now.key && key) ≡ false) }
-    ensures wrong { Tells (when (field.now.key && key) Problem.SecondKey left) result }
+    ensures wrong { Tells (first
+        (when (are_among (names_of names.old.items) (names_taken field.now))
+        Problem.FieldNameTaken left) (when (field.now.key && key) Problem.SecondKey left)) result }
 {
-    if field.key && key {
-        Err(wrong(Problem::SecondKey, left))
-    } else {
-        Ok(key || field.key)
+    if !take_names(alloc, names, field)? {
+        return Err(wrong(Problem::FieldNameTaken, left));
     }
+    if field.key && key {
+        return Err(wrong(Problem::SecondKey, left));
+    }
+    Ok(key || field.key)
 }
 
 fn table_fields(
@@ -270,8 +264,7 @@ fn table_fields(
             return Err(wrong(Problem::TooManySlots, declaration.left));
         }
         let field = table_field(alloc, heads, space, declaration, ids, next)?;
-        add_names(alloc, &mut names, &field, declaration.left)?;
-        key = one_key(key, &field, declaration.left)?;
+        key = add_names(alloc, &mut names, key, &field, declaration.left)?;
         next += width(field.kind);
         fields.push(field)?;
     }

@@ -9,7 +9,7 @@ use Rattle.std.proofs.lemmas.Bool.{le-leb, lt-leb}
 use Rattle.planus_schema.specs.Tables.{all_names, names_taken}
 use Rattle.planus_layout.proofs.NameLemmas.{no_names}
 use Rattle.planus_schema.proofs.StructLemmas.{each2_push, map_next, drop_next}
-use Rattle.planus_schema.proofs.TableLemmas.{names_are, after_is, nothing_wrong, slots_next, follow_push, names_push, lawful_push, slot_stops, field_stops, names_stop, key_stops}
+use Rattle.planus_schema.proofs.TableLemmas.{names_are, after_is, nothing_wrong, slots_next, follow_push, names_push, lawful_push, slot_stops, field_stops, names_stop}
 use Rattle.planus_schema.specs.Names.{head_of, space_of}
 use Rattle.planus_schema.specs.WrongTables.{field_type}
 use Rattle.planus_schema.proofs.tables.table_fields.Goals as goal
@@ -36,7 +36,7 @@ fields-preserved c =
     let fs = c.fields.fields.items in
     let t = map_next field_of c.args.declared.now c.fields.declaration-index c.declaration-item.result (omega arith) c.declaration-item.is in
     let r = drop_next c.args.declared.now c.fields.declaration-index c.declaration-item.result (omega arith) c.declaration-item.is in
-    let a = c.in_ok-add_names.ensures.named in
+    let a = c.in_ok-key.ensures.named in
     let after = after_is (map head_of c.args.heads.now) (space_of c.args.space) c.args.ids c.fields.next c.fields.key (names_of c.fields.names.items) (drop c.fields.declaration-index c.args.declared.now) c.declaration-item.result (drop (c.fields.declaration-index + 1) c.args.declared.now) _ f
     (record { here = r; low = le-leb c.fields.next 65535 c.if-next-gt65535.false; field = c.in_ok-field.ensures.wrong; same = i.wrong })
     c.in_ok-field.ensures.kind c.in_ok-field.ensures.says.key (names_are f c.declaration-item.result (field_type (map head_of c.args.heads.now) (space_of c.args.space) c.declaration-item.result) c.in_ok-field.ensures.kind c.in_ok-field.ensures.says.name) in
@@ -46,7 +46,7 @@ fields-preserved c =
       lawful = rw e (lawful_push fs f i.lawful c.in_ok-field.ensures.lawful);
       slots = rw (e, c.width-next.ensures) (slots_next (map head_of c.args.heads.now) (space_of c.args.space) c.args.ids c.fields.next fs f c.declaration-item.result (drop c.fields.declaration-index c.args.declared.now) (drop (c.fields.declaration-index + 1) c.args.declared.now) _ r c.in_ok-field.ensures.kind c.in_ok-field.ensures.slot i.slots);
       wrong = nothing_wrong (map head_of c.args.heads.now) (space_of c.args.space) c.args.ids c.fields.next c.fields.key (names_of c.fields.names.items) c.declaration-item.result (drop (c.fields.declaration-index + 1) c.args.declared.now) _ f _ _ _
-          after c.in_ok-add_names.ensures.new c.in_ok-key.ensures.first a.added c.in_ok-key.ensures.key (ap (λ n. c.fields.next + n) c.width-next.ensures);
+          after c.in_ok-key.ensures.new c.in_ok-key.ensures.first a.added c.in_ok-key.ensures.key (ap (λ n. c.fields.next + n) c.width-next.ensures);
       names = a.added ∙ ap (λ ns. ns ++ names_taken f) i.names ∙ sym (names_push fs f) ∙ ap all_names (sym e);
       distinct = a.distinct i.distinct;
     }
@@ -63,15 +63,6 @@ returns-in_err-field-clause-wrong c =
     let p = err_from_is_err_and c.from_residual.result c.from_residual.ensures.1 in
     rw (p.1, p.2) (field_stops (map head_of c.args.heads.now) (space_of c.args.space) c.args.ids c.fields.next c.fields.key (names_of c.fields.names.items) _ c.declaration-item.result _ _ _ r (le-leb c.fields.next 65535 c.if-next-gt65535.false) c.fields.invariant.wrong c.in_err-field.ensures.wrong)
 
-pub returns-in_err-add_names-clause-wrong : goal.returns-in_err-add_names-clause-wrong
-returns-in_err-add_names-clause-wrong c =
-    let r = drop_next c.args.declared.now c.fields.declaration-index c.declaration-item.result (omega arith) c.declaration-item.is in
-    let after = after_is (map head_of c.args.heads.now) (space_of c.args.space) c.args.ids c.fields.next c.fields.key (names_of c.fields.names.items) (drop c.fields.declaration-index c.args.declared.now) c.declaration-item.result (drop (c.fields.declaration-index + 1) c.args.declared.now) _ c.in_ok-field.field
-    (record { here = r; low = le-leb c.fields.next 65535 c.if-next-gt65535.false; field = c.in_ok-field.ensures.wrong; same = c.fields.invariant.wrong })
-    c.in_ok-field.ensures.kind c.in_ok-field.ensures.says.key (names_are c.in_ok-field.field c.declaration-item.result (field_type (map head_of c.args.heads.now) (space_of c.args.space) c.declaration-item.result) c.in_ok-field.ensures.kind c.in_ok-field.ensures.says.name) in
-    let p = err_from_is_err_and c.from_residual-in_err-add_names.result c.from_residual-in_err-add_names.ensures.1 in
-    rw (p.1, p.2) (names_stop (map head_of c.args.heads.now) (space_of c.args.space) c.args.ids c.fields.next c.fields.key (names_of c.fields.names.items) c.in_ok-field.field c.declaration-item.result _ _ _ after c.in_err-add_names.ensures.wrong)
-
 pub returns-in_err-key-clause-wrong : goal.returns-in_err-key-clause-wrong
 returns-in_err-key-clause-wrong c =
     let r = drop_next c.args.declared.now c.fields.declaration-index c.declaration-item.result (omega arith) c.declaration-item.is in
@@ -79,7 +70,7 @@ returns-in_err-key-clause-wrong c =
     (record { here = r; low = le-leb c.fields.next 65535 c.if-next-gt65535.false; field = c.in_ok-field.ensures.wrong; same = c.fields.invariant.wrong })
     c.in_ok-field.ensures.kind c.in_ok-field.ensures.says.key (names_are c.in_ok-field.field c.declaration-item.result (field_type (map head_of c.args.heads.now) (space_of c.args.space) c.declaration-item.result) c.in_ok-field.ensures.kind c.in_ok-field.ensures.says.name) in
     let p = err_from_is_err_and c.from_residual-in_err-key.result c.from_residual-in_err-key.ensures.1 in
-    rw (p.1, p.2) (key_stops (map head_of c.args.heads.now) (space_of c.args.space) c.args.ids c.fields.next c.fields.key (names_of c.fields.names.items) c.in_ok-field.field c.declaration-item.result _ _ _ after c.in_ok-add_names.ensures.new c.in_err-key.ensures.wrong)
+    rw (p.1, p.2) (names_stop (map head_of c.args.heads.now) (space_of c.args.space) c.args.ids c.fields.next c.fields.key (names_of c.fields.names.items) c.in_ok-field.field c.declaration-item.result _ _ _ after c.in_err-key.ensures.wrong)
 
 pub returns-clause-says : goal.returns-clause-says
 returns-clause-says c =
