@@ -44,6 +44,19 @@ def read_by(crate):
             yield table.rstrip("_").lower(), field.lower(), int(slot), default
 
 
+def written_otherwise(crate):
+    """The fields that a table's lines don't have at the slot that their method reads by."""
+    plain = r"(?:optional|required|plain_if|union|unions|union_required|unions_required) .*?"
+    usual = r"number_or \w+|signed_or \w+ w\d+|plain_or \w+ \S+ as \w+>⟧\.eq"
+    line = rf"^ +(?:{plain}|{usual}) (\d+) (?:[^∷]* )?fields\.«?(\w+)»? ∷"
+    method = r"pub fn (\w+)\(&self\).*?&self\.table,\s*(\d+),"
+    for file in crate.rglob("*.rt"):
+        text = file.read_text()
+        if text.startswith("//! Tables `"):
+            lines = {(name, slot) for slot, name in re.findall(line, text, re.M)}
+            yield from lines ^ set(re.findall(method, text, re.S))
+
+
 def read_by_flatc(schema, folder):
     """The same by flatc, with the slot of a union's type."""
     made = ["flatc", "--cpp", "--gen-all", "-o", folder, schema]
@@ -70,6 +83,10 @@ def same_slots(schema, crate):
     with tempfile.TemporaryDirectory() as folder:
         wanted = list(read_by_flatc(schema, pathlib.Path(folder)))
     printed = list(read_by(crate))
+    otherwise = sorted(written_otherwise(crate))
+    if otherwise:
+        print(f"{schema.stem}: {otherwise} by lines or methods alone")
+        return False
     # What isn't a number here, as the value of an enum, is one in C++.
     numbers = {method[:3] for method in printed if method[3]}
     wanted = [(*one[:3], one[3] if one[:3] in numbers else "") for one in wanted]

@@ -87,9 +87,11 @@ holds_first (plain_or shape equal slot default given) =
     (slot, unless (equal given default) (holds_plain shape given)) ∷ []
 holds_first (number_or shape slot default given) =
     (slot, unless (given == default) (holds_plain shape given)) ∷ []
-holds_first (signed_or shape width slot default given) =
-    (slot, unless (int_eq (as_signed width given) default) (holds_plain shape (as_signed width given)))
-    ∷ []
+holds_first (signed_or shape width slot default given) = (
+  slot,
+  unless (int_eq (as_signed width given) default)
+      (holds_plain shape (as_signed width given)),
+) ∷ []
 holds_first (union variants slot given) = (slot + 1, holds_union_value given) ∷ []
 holds_first (union_required variants slot given) = (slot + 1, holds_union_value (Some given)) ∷ []
 holds_first (unions T slot given) =
@@ -147,7 +149,8 @@ ReturnsGiven B table (union {K = K} variants slot given) =
     MatchOption given ⊤
     (λ one. UnionStands variants B one.tag (written one.offset.distance))
     → Returns (λ type_ method. IsUnionField (ReadsVariants variants) table slot type_ method K)
-    (λ r. IsOkAnd r (SameIf (λ one. IsUnion variants B one.tag (written one.offset.distance)) given))
+    (λ r. IsOkAnd r
+    (SameIf (λ one. IsUnion variants B one.tag (written one.offset.distance)) given))
 ReturnsGiven B table (union_required variants slot given) =
     UnionStands variants B given.tag (written given.offset.distance)
     → Returns (IsUnionRequired (ReadsVariants variants) table slot)

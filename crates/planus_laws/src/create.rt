@@ -15,8 +15,9 @@ pub type Built<K> = Result<Offset<K>, BuildError>;
 
 /// A table that is created of a struct of its fields `F`.
 ///
-/// The ghost member `lines` has a line for each field, in the order in which they are written: its kind
-/// and slot, and what was given. `may` is the precondition: what the fields refer to is in the builder.
+/// The ghost member `lines` has a line for each field, in the order in which they are written: its
+/// kind and slot, and what was given. `may` is the precondition: what the fields refer to is in the
+/// builder.
 pub trait Create<F>: TableKind {
     ghost lines: { F → List FieldLine };
 
@@ -33,8 +34,9 @@ pub trait Create<F>: TableKind {
         ensures grows { Grows builder.old builder.new }
         ensures apart { IsTrue (are_apart (contents_of (lines fields))) };
 
-    /// Writes a table with these fields, finishes it as the root of a buffer, and reads it. The read never
-    /// fails, and each result that a clause of a field's kind allows for its slot is what was given.
+    /// Writes a table with these fields, finishes it as the root of a buffer, and reads it. The
+    /// read never fails, and each result that a clause of a field's kind allows for its slot is
+    /// what was given.
     ///
     /// An error is that of `create`, or else of [`Builder::finish`].
     final fn read_back<'b, 'n, V: TableView<'b, Kind = Self>>(

@@ -5,8 +5,8 @@ ghost use Rattle.planus_laws.specs.SizedRoots.{IsSizedRoot};
 use planus::errors::ErrorKind;
 use planus::{TableView, read_size_prefixed, read_view};
 
-/// Returns the view of the root of the first of these size-prefixed buffers, and the bytes after the
-/// buffer.
+/// Returns the view of the root of the first of these size-prefixed buffers, and the bytes after
+/// the buffer.
 ///
 /// An error is that of [`read_size_prefixed`], or else that of the root's read.
 pub fn read_sized_root<'a, V: TableView<'a>>(bytes: &'a [u8]) -> Result<(V, &'a [u8]), ErrorKind>

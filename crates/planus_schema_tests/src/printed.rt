@@ -5,8 +5,8 @@ ghost use Rattle.std.specs.Prelude.{◌≡◌, None, []};
 use crate::digits::bytes_of;
 use harbour::{
     Company, CompanyFields, Create, Fix, Kind, Level, Needs, Owner, OwnerRef, Person, PersonFields,
-    PersonRef, Pos, Ship, ShipFields, ShipRef, finish_root, finish_root_size_prefixed, has_identifier, read_as_root,
-    read_size_prefixed_as_root,
+    PersonRef, Pos, Ship, ShipFields, ShipRef, finish_root, finish_root_size_prefixed,
+    has_identifier, read_as_root, read_size_prefixed_as_root,
 };
 use planus::{BuildError, Builder, ByteList, table_item, union_item};
 use std::alloc::Global;
@@ -141,7 +141,7 @@ fn has_owners(ship: &ShipRef<'_>) -> bool {
     };
     matches!(ship.owner(), Ok(Some(OwnerRef::Firm(firm))) if matches!(firm.vat(), Ok(Some([9]))))
         && matches!(first, Some(Ok(OwnerRef::Person(pia))) if matches!(pia.age(), Ok(44)))
-        && matches!(second, Some(Ok(OwnerRef::Firm(firm))) if matches!(firm.title(), Ok(Some("Line"))))
+        && matches!(second, Some(Ok(OwnerRef::Firm(one))) if matches!(one.title(), Ok(Some("Line"))))
 }
 
 fn has_all(ship: &ShipRef<'_>) -> bool {
