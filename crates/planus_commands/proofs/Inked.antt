@@ -1,4 +1,4 @@
--- The canonical text has all bytes of a text that are no blank, but for its comments.
+-- The canonical text has all bytes of a text that aren't blank, but for its comments.
 use Rattle.std.proofs.Common.{◌≡◌, ℕ, ◌+◌, List, [], ◌∷◌, ◌++◌, Bool, true, false, cond, refl, ap, ◌∙◌, arith}
 use Rattle.std.specs.Prelude.{not, ◌==◌, ◌||◌, ◌&&◌, codes, fold, nat_lt}
 use Rattle.std.proofs.lemmas.Bool.Decides.{nat_tests}
@@ -19,8 +19,6 @@ ink_cons b bs = counted_from bs (0 + cond (is_ink b) 1 0) ∙ omega arith
 ink_append : (bs cs : List ℕ) → ink_of (bs ++ cs) ≡ ink_of bs + ink_of cs
 ink_append [] cs = omega arith
 ink_append (b ∷ bs) cs = omega (arith, ink_cons b (bs ++ cs), ink_cons b bs, ink_append bs cs)
-
--- ---- a gap has no ink
 
 abbrev IsBare : List ℕ → Type 0
 IsBare bs = ink_of bs ≡ 0
@@ -52,8 +50,6 @@ apart_bare p (mark b) q = mark_bare p b q
 gap_bare : (p : _) (a : Piece) (qs : List Piece) → IsBare (gap_before p a qs)
 gap_bare p a [] = refl
 gap_bare p a (q ∷ qs) = either (is_glued a q) [] (apart p a q) refl (apart_bare p a q)
-
--- ---- the ink of tokens, and of comments
 
 token_ink : List Piece → ℕ
 token_ink [] = 0

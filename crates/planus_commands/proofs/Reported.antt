@@ -6,7 +6,6 @@ use Rattle.planus_schema.specs.declared.fault.Fault.{Fault}
 use Rattle.planus_commands.specs.declared.checking.File.{File}
 use Rattle.planus_commands.specs.Checks.{AreReports, IsReportAdded}
 
--- one more
 pub reports_push : (names : List Name) (files : List File) (faults : List Fault) (fault : Fault) (old new : List ℕ)
     → AreReports names files faults old → IsReportAdded names files fault old new
     → AreReports names files (faults ++ fault ∷ []) new

@@ -19,7 +19,7 @@ use Rattle.planus_commands.specs.declared.arguments.Words.{Words}
 use Rattle.planus_commands.specs.declared.arguments.Request.{Request}
 use Rattle.planus_commands.specs.declared.arguments.Request.TheVariants as code
 
--- the words after a command; see `Words`
+-- the words after a command
 pub record WordsV : Type 0 where
   pub files : List (List ℕ)
   pub folders : List (List ℕ)
@@ -69,7 +69,7 @@ words_of w = record {
   unknown = option_map (λ s. s.now) w.unknown;
 }
 
--- `-` alone is the name of standard input
+-- `-` alone names standard input
 abbrev pub is_option : List ℕ → Bool
 is_option w = nat_lt 1 (length w) && slice_index w 0 == 45
 
@@ -95,7 +95,6 @@ option_of command w = if bytes_eq w (codes "--help") then Some HelpChoice else o
     option_in View = view_option w
     option_in RattleCommand = rattle_option w
 
--- the first of two
 abbrev pub or_first : Option (List ℕ) → List ℕ → Option (List ℕ)
 or_first None w = Some w
 or_first (Some u) w = Some u
@@ -126,7 +125,7 @@ with_value ws SizePrefixed w = ws
 with_value ws CheckChoice w = ws
 with_value ws HelpChoice w = ws
 
--- one word more: that after an option, a schema or a buffer, or an option
+-- the next word: the value of an option, a file or an option
 abbrev pub with_word : Command → WordsV → List ℕ → WordsV
 with_word command ws w = by_want ws.wants
   where
@@ -135,13 +134,10 @@ with_word command ws w = by_want ws.wants
     by_want None = if is_option w then with_option ws w (option_of command w)
         else record ws { files = ws.files ++ w ∷ [] }
 
--- ---- numbers
-
 abbrev pub not_negative : Option Number → Option ℕ
 not_negative None = None
 not_negative (Some n) = if n.negative then None else Some n.magnitude
 
--- the number that a word is
 abbrev pub number_of : List ℕ → Option ℕ
 number_of w = not_negative (integer_said w)
 
@@ -149,12 +145,10 @@ abbrev pub is_none : Option ℕ → Bool
 is_none None = true
 is_none (Some n) = false
 
--- a word is there, and is no number
+-- the word is present and isn't a number
 abbrev pub is_no_number : Option (List ℕ) → Bool
 is_no_number None = false
 is_no_number (Some w) = is_none (number_of w)
-
--- ---- requests
 
 -- what is asked for, or why the call is wrong
 pub data Asked : Type 0 where
@@ -191,7 +185,7 @@ abbrev pub is_empty : List (List ℕ) → Bool
 is_empty [] = true
 is_empty (x ∷ xs) = false
 
--- `view` has a schema and a buffer, and numbers
+-- `view` needs a schema, a buffer and numbers
 abbrev pub view_request : WordsV → Asked
 view_request ws = if not (length ws.files == 2) then no_buffer
     else if is_no_number ws.lines then no_number (unwrap_or ws.lines [])
@@ -202,7 +196,7 @@ abbrev pub run_with : Option (List ℕ) → WordsV → Asked
 run_with None ws = no_output
 run_with (Some folder) ws = run RattleCommand ws
 
--- `rattle` has one schema, and a folder
+-- `rattle` needs one schema and a folder
 abbrev pub rattle_request : WordsV → Asked
 rattle_request ws = if not (length ws.files == 1) then several_schemas
     else run_with ws.output ws

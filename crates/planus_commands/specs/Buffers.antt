@@ -1,4 +1,4 @@
--- By which root and with which identifier a buffer is viewed, and what is said of them.
+-- The root and the identifier by which a buffer is viewed, and the messages about them.
 use Rattle.std.specs.Prelude.{◌≡◌, ℕ, Bool, true, false, ◌&&◌, not, nat_lt, List, ◌++◌, codes}
 use Rattle.std.specs.Prelude.{position, take, drop, length, Option, Some, None}
 use Rattle.std.specs.Str.{bytes_eq}
@@ -14,26 +14,23 @@ is_table (body.Struct s) = false
 is_table (body.Enum e) = false
 is_table (body.Union u) = false
 
--- the table of this full name
 abbrev pub is_table_named : List ℕ → Declared → Bool
 is_table_named name d = is_table d.body && bytes_eq d.name.items name
 
--- the index of the root's table: that of this name, or else that of the schema
+-- the index of the root's table: the named one, or else the schema's
 abbrev pub root_of : Schema → Option (List ℕ) → Option ℕ
 root_of schema (Some name) = position (is_table_named name) schema.declarations.items
 root_of schema None = schema.statements.root
 
--- what is said where there is none
 abbrev pub no_root_text : Option (List ℕ) → List ℕ
 no_root_text (Some name) = codes "planus: the schema has no table `" ++ (name ++ codes "`\n")
 no_root_text None = codes "planus: the schema has no root; see --root\n"
 
--- a buffer has an identifier in its bytes 4 to 7
+-- bytes 4 to 7 of a buffer are its identifier
 abbrev pub has_identifier : List ℕ → List ℕ → Bool
 has_identifier identifier bytes =
     not (nat_lt (length bytes) 8) && bytes_eq (take 4 (drop 4 bytes)) identifier
 
--- a schema may have no identifier
 abbrev pub has_identifier_of : Option (List ℕ) → List ℕ → Bool
 has_identifier_of None bytes = true
 has_identifier_of (Some identifier) bytes = has_identifier identifier bytes
@@ -42,14 +39,14 @@ abbrev pub other_identifier_text : List ℕ → List ℕ → List ℕ
 other_identifier_text name identifier = codes "planus: " ++ (name
     ++ (codes " doesn't have the identifier `" ++ (identifier ++ codes "`\n")))
 
--- nothing is said of a buffer with the schema's identifier
+-- no message for a buffer with the schema's identifier
 abbrev pub SaysOther : Option (List ℕ) → List ℕ → Bool → Option (List ℕ) → Option (List ℕ) → Type 0
 SaysOther None name known unsaid said = Keeps unsaid said
 SaysOther (Some identifier) name true unsaid said = Keeps unsaid said
 SaysOther (Some identifier) name false unsaid said =
     Appends unsaid said (other_identifier_text name identifier)
 
--- This says whether a buffer has the schema's identifier; if not, so does a message.
+-- Whether a buffer has the schema's identifier; if not, a message is written.
 pub record ChecksIdentifier (identifier : Option (List ℕ)) (name bytes : List ℕ) (known : Bool)
     (unsaid said : Option (List ℕ)) : Type 0 where
   pub known_is : known ≡ has_identifier_of identifier bytes

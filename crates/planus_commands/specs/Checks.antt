@@ -1,4 +1,4 @@
--- What is said of the meaning of files.
+-- What is reported of the meaning of files.
 use Rattle.std.specs.Prelude.{◌≡◌, ℕ, ◌==◌, ◌||◌, not, Bool, List, [], ◌∷◌, ◌++◌}
 use Rattle.std.specs.Prelude.{map, take, drop, slice_get, Option, Some, None}
 use Rattle.std.specs.Prelude.{if◌then◌else◌}
@@ -36,27 +36,24 @@ unquoted (b ∷ bs) = if b == 34 then bs else b ∷ bs
 abbrev pub word_of : List ℕ → List ℕ
 word_of bytes = take (position_or_len ends_word bytes) bytes
 
--- the report of a fault: at its word, and with its word in the message; these names are declared
+-- the report of a fault at its word; `names` are declared
 abbrev pub IsReport : List Name → File → Fault → List ℕ → Type 0
 IsReport names file fault report = (at : ℕ) × IsPlaceAt file.text.items fault.left at
     × (report ≡ report_text (string_bytes file.name) file.text.items at
     (message_text names fault.problem (word_of (unquoted (drop at file.text.items)))))
 
--- the report of a fault in one of the files
 pub record IsReportIn (names : List Name) (files : List File) (fault : Fault) (report : List ℕ)
     : Type 0 where
   pub file : File
   pub here : slice_get files fault.file ≡ Some file
   pub is : IsReport names file fault report
 
--- the report of a fault was added
 pub record IsReportAdded (names : List Name) (files : List File) (fault : Fault)
     (old new : List ℕ) : Type 0 where
   pub report : List ℕ
   pub is : IsReportIn names files fault report
   pub added : new ≡ old ++ report
 
--- this, and then that
 pub record Joins (IsFirst AreRest : List ℕ → Type 0) (out : List ℕ) : Type 0 where
   pub first : List ℕ
   pub rest : List ℕ
@@ -73,13 +70,13 @@ AreReports names files (fault ∷ faults) out =
 abbrev pub schemas_of : List (Vec Declaration) → List (List DeclarationV)
 schemas_of declarations = map (λ f. schema_of f.items) declarations
 
--- these are the faults of the files, and there are some
+-- these are the files' faults, at least one
 pub record AreTold (declarations : List (Vec Declaration)) (faults : List Fault) : Type 0 where
   pub exact : AreInOrder (faults_found declarations) faults
   pub some : AreFaults faults
 
--- The files have no fault and mean this schema, which is sound, and nothing is said; or their faults
--- are reported, each in order.
+-- Without faults: the sound schema that the files mean, and no report. Else all faults are reported
+-- in order.
 abbrev pub ResolvesFiles : List File → List (Vec Declaration) → Option Schema
     → Option (List ℕ) → Option (List ℕ) → Type 0
 ResolvesFiles files declarations (Some s) before after = (faults_found declarations ≡ [])
@@ -89,7 +86,7 @@ ResolvesFiles files declarations None before after = (faults : List Fault)
     × ((out : List ℕ) × AreReports (names_of_files (schemas_of declarations)) files faults out
     × Appends before after out)
 
--- Memory was refused before anything was written; or there are faults, and writing failed.
+-- Memory was refused before anything was written, or there are faults and writing failed.
 abbrev pub FailsResolving : List (Vec Declaration) → RunError → Option (List ℕ)
     → Option (List ℕ) → Type 0
 FailsResolving declarations OutOfMemory before after = Keeps before after

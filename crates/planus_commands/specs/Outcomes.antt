@@ -26,7 +26,7 @@ use Rattle.planus_syntax.specs.Values.{AreWhole, schema_of}
 use Rattle.planus_commands.specs.declared.outcome.Printed.TheVariants.{Text, Report}
 use Rattle.planus_commands.specs.Reports.{report_text, lex_message, parse_message}
 
--- This is the report of this fault.
+-- the report of this fault
 abbrev pub ReportsError : List ℕ → List ℕ → SchemaError → List ℕ → Type 0
 ReportsError name text errors.OutOfMemory report = ⊥
 ReportsError name text (errors.Token fault at) report =
@@ -34,19 +34,19 @@ ReportsError name text (errors.Token fault at) report =
 ReportsError name text (errors.Declaration fault index at) report =
     report ≡ report_text name text at (parse_message fault)
 
--- the text is not UTF-8, from this byte on
+-- the text isn't UTF-8 from this byte on
 abbrev pub ReportsBytes : List ℕ → List ℕ → List ℕ → Type 0
 ReportsBytes name text report = (at : ℕ) × IsValidUpTo text at
     × (report ≡ report_text name text at (codes "the text is not UTF-8"))
 
--- This is the report of the text's first fault.
+-- the report of the text's first fault
 abbrev pub Reports : List ℕ → List ℕ → List ℕ → Type 0
 Reports name text report =
     ((¬ (IsUtf8 text)) × ReportsBytes name text report)
     ⊎ (IsUtf8 text × ((error : SchemaError) × IsFaultOf text error
     × ReportsError name text error report))
 
--- The text is UTF-8 and spells a schema, and this is its canonical text.
+-- The text is UTF-8 and spells a schema whose canonical text is the second.
 abbrev pub Formats : List ℕ → List ℕ → Type 0
 Formats text out =
     IsUtf8 text × ((schema : List DeclarationV) × Spells text schema × (out ≡ text_of schema))
@@ -57,7 +57,7 @@ IsParsed name text (parsed.Declarations ds) =
     IsUtf8 text × Spells text (schema_of ds.items) × AreWhole (schema_of ds.items)
 IsParsed name text (parsed.Faulty report) = Reports name text report.items
 
--- the byte of the word from which there are `left` tokens to the end of the text
+-- the byte of the word from which `left` tokens follow to the text's end
 abbrev pub IsPlaceAt : List ℕ → ℕ → ℕ → Type 0
 IsPlaceAt text left at =
     (ps : List Piece) → lex_of text ≡ Ok ps → StandsAt text ps (length ps - left) at
@@ -76,15 +76,15 @@ abbrev pub IsTextOf : List DeclarationV → Outcome → Type 0
 IsTextOf schema (Formatted out) = out.items ≡ text_of schema
 IsTextOf schema (Faulty report) = ⊥
 
--- bytes that are no blank
+-- not blank
 abbrev pub is_ink : ℕ → Bool
 is_ink b = not (is_blank b)
 
--- how many bytes are no blank
+-- the number of bytes that aren't blank
 abbrev pub ink_of : List ℕ → ℕ
 ink_of bytes = count_by is_ink bytes
 
--- a comment is among these parts, one that is no documentation
+-- one of these parts is a comment that isn't documentation
 abbrev pub has_comment : List Part → Bool
 has_comment [] = false
 has_comment (token p ∷ ps) = has_comment ps
@@ -92,16 +92,16 @@ has_comment (blank b ∷ ps) = has_comment ps
 has_comment (comment w ∷ ps) = true
 has_comment (block w ∷ ps) = true
 
--- no text is longer, in bytes
+-- the greatest length of a text, in bytes
 abbrev pub greatest_text : ℕ
 greatest_text = 16777216
 
--- This says of a text, however it is spelled, whether it has a comment.
+-- whether a text has a comment, however it is spelled
 abbrev pub SaysComments : List ℕ → List ℕ → Bool → Type 0
 SaysComments text out comments = (parts : List Part) → AreParts parts → text ≡ spelled parts
     → out ≡ printed (tokens_in parts) → comments ≡ has_comment parts
 
--- the line of a message with these words
+-- the line of a message
 abbrev pub line_of : List ℕ → List ℕ → List ℕ → List ℕ
 line_of before name after = codes "planus: " ++ (before ++ (name ++ (after ++ codes "\n")))
 
@@ -113,8 +113,7 @@ FailsPrinting Read before after unsaid said = ⊥
 FailsPrinting BadSchema before after unsaid said = ⊥
 FailsPrinting Write before after unsaid said = Unit {0}
 
--- The canonical text was written, and nothing was said; or nothing was written, and the first fault
--- was reported.
+-- The canonical text was written, or only a report of the first fault.
 abbrev pub Prints : List ℕ → List ℕ → Printed → Option (List ℕ) → Option (List ℕ)
     → Option (List ℕ) → Option (List ℕ) → Type 0
 Prints name text (Text comments) before after unsaid said =

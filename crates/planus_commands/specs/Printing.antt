@@ -6,11 +6,10 @@ use Rattle.std.specs.Int.{is_in_range}
 abbrev pub is_small_letter : ℕ → Bool
 is_small_letter b = is_in_range 97 122 b
 
--- a small letter, a digit or `_`
 abbrev pub is_in_name : ℕ → Bool
 is_in_name b = is_small_letter b || is_in_range 48 57 b || b == 95
 
--- a crate can have this name: small letters, digits and `_`, first a letter
+-- lower-case letters, digits and `_`, a letter first
 abbrev pub is_crate_name : List ℕ → Bool
 is_crate_name [] = false
 is_crate_name (b ∷ bs) = is_small_letter b && list_all is_in_name bs

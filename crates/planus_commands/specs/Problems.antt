@@ -1,17 +1,17 @@
--- What faults of meaning are called.
+-- The messages of faults of meaning.
 use Rattle.std.specs.Prelude.{ℕ, List, [], ◌++◌, codes}
 use Rattle.planus_syntax.specs.Values.{Name}
 use Rattle.planus_schema.specs.declared.fault.Problem.{Problem}
 use Rattle.planus_schema.specs.declared.fault.Problem.TheVariants as problem
 use Rattle.planus_commands.specs.Near.{hint_of, nearest}
 
--- what stands before the word at fault
+-- before the word at fault
 abbrev pub before : Problem → List ℕ
 before problem.UnknownType = codes "unknown type "
 before problem.UnknownAttribute = codes "unknown attribute "
 before p = []
 
--- what follows it
+-- after the word at fault
 abbrev pub after : Problem → List ℕ
 after problem.UnknownType = []
 after problem.NameTaken = codes ": this name is declared before"
@@ -55,7 +55,7 @@ after problem.MethodIsNoTable = codes " is no table"
 abbrev pub problem_text : Problem → List ℕ → List ℕ
 problem_text p word = before p ++ (codes "`" ++ (word ++ (codes "`" ++ after p)))
 
--- the same, with the nearest of these names for an unknown type
+-- the message, with the nearest of these names for an unknown type
 abbrev pub message_text : List Name → Problem → List ℕ → List ℕ
 message_text names problem.UnknownType word =
     problem_text problem.UnknownType word ++ hint_of (nearest names word)

@@ -1,4 +1,4 @@
--- How a fault is reported: where it stands, what it is, its line, and a mark below its place.
+-- The report of a fault: its place, its message, its line, and a mark below it.
 use Rattle.std.specs.Prelude.{ℕ, ◌+◌, ◌==◌, Bool, List, [], ◌∷◌, ◌++◌, length, map, take, drop}
 use Rattle.std.specs.Prelude.{count_by, codes, if◌then◌else◌}
 use Rattle.std.specs.List.{position_or_len}
@@ -11,24 +11,22 @@ use Rattle.planus_syntax.specs.declared.parse.ParseFault.TheVariants as parse
 abbrev pub is_feed : ℕ → Bool
 is_feed b = b == 10
 
--- what follows the last line feed of these bytes, or else the front
+-- what follows the last line feed of the second, or else the first
 abbrev pub after_last_feed : List ℕ → List ℕ → List ℕ
 after_last_feed front [] = front
 after_last_feed front (b ∷ bs) = after_last_feed (if is_feed b then bs else front) bs
 
--- the bytes of the last line
 abbrev pub last_line : List ℕ → List ℕ
 last_line bytes = after_last_feed bytes bytes
 
--- the bytes of the first line
 abbrev pub first_line : List ℕ → List ℕ
 first_line bytes = take (position_or_len is_feed bytes) bytes
 
--- below a byte: a tab below a tab, and else a space
+-- a tab below a tab, else a space
 abbrev pub below : ℕ → ℕ
 below b = if b == 9 then 9 else 32
 
--- Where it is, from 1 on: the line, and the column in bytes.
+-- the line and the column in bytes, from 1
 abbrev pub place_text : List ℕ → List ℕ → List ℕ
 place_text name before =
     name ++ (codes ":" ++ (decimal (1 + count_by is_feed before)
@@ -39,13 +37,11 @@ abbrev pub marked_text : List ℕ → List ℕ → List ℕ
 marked_text front rest =
     front ++ (first_line rest ++ (codes "\n" ++ (map below front ++ codes "^\n")))
 
--- the report of a fault in a text, at the byte with this index
+-- the report of a fault at the byte with this index
 abbrev pub report_text : List ℕ → List ℕ → ℕ → List ℕ → List ℕ
 report_text name text at message =
     place_text name (take at text) ++ (message ++ (codes "\n"
     ++ marked_text (last_line (take at text)) (drop at text)))
-
--- ---- messages
 
 abbrev pub lex_message : LexFault → List ℕ
 lex_message lex.BadNumber = codes "the number that ends here is malformed"

@@ -81,7 +81,6 @@ help_of Format = codes "usage: planus format [--write] [--drop-comments] SCHEMA.
 help_of View = codes "usage: planus view [OPTION].. SCHEMA BUFFER\n\nPrints what a buffer holds, a line a value, as far as the lines and bytes go.\n\n  --root NAME      the root is this table, and not that of the schema\n  --size-prefixed  BUFFER is any number of buffers, each after its size\n  --lines N        at most N lines, and not 1000\n  --bytes N        at most N bytes, and not 1048576\n  -I FOLDER        included files are sought in this folder too\n\nEnds with 0 where all is shown, with 1 where something is wrong with the buffer or\nmore follows, and with 2 where the call is wrong or a file can't be read.\n"
 help_of RattleCommand = codes "usage: planus rattle [--check] [-I FOLDER].. SCHEMA -o FOLDER\n\nPrints the code of a schema as a crate: its files in FOLDER, whose last word is the\ncrate's name. A file that has its text already is left alone.\n\n  -o FOLDER        the folder of the crate, which is made if it isn't there\n  --check          writes nothing, and says which files aren't what is printed\n  -I FOLDER        included files are sought in this folder too\n\nEnds with 0 where all is printed, with 1 where the schema has a fault or something\nthat isn't supported, or --check names a file, and with 2 where the call is wrong or\na file can't be read or written.\n"
 
--- where no word follows an option
 abbrev pub no_value_text : Choice → List ℕ
 no_value_text Root = codes "planus: no name follows --root\n"
 no_value_text Lines = codes "planus: no number follows --lines\n"
@@ -121,7 +120,7 @@ SaysBy true text status before after unsaid said =
 SaysBy false text status before after unsaid said =
     (status ≡ Some 0) × Appends before after text × Keeps unsaid said
 
--- This was written, and no status for what is said elsewhere.
+-- This was written, and a status only if anything was.
 abbrev pub Says : Option SaidV → Option ℕ → Option (List ℕ) → Option (List ℕ)
     → Option (List ℕ) → Option (List ℕ) → Type 0
 Says None status before after unsaid said =
@@ -129,7 +128,7 @@ Says None status before after unsaid said =
 Says (Some s) status before after unsaid said =
     SaysBy s.wrong s.text status before after unsaid said
 
--- This was written, if anything is said of a call alone.
+-- This was written, if the call alone says anything.
 abbrev pub SaysIf : Option SaidV → ℕ → Option (List ℕ) → Option (List ℕ)
     → Option (List ℕ) → Option (List ℕ) → Type 0
 SaysIf None status before after unsaid said = ⊤

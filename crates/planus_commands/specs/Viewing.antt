@@ -17,7 +17,7 @@ use Rattle.planus_dump.specs.declared.views.End.TheVariants.{Whole, TooDeep, Too
 use Rattle.planus_dump.specs.declared.views.End.TheVariants.{TooManyBytes}
 use Rattle.planus_dump.specs.declared.views.FirstLines.{FirstLines}
 
--- what is said after the lines of a view
+-- the message after a view's lines
 abbrev pub end_text : End → List ℕ
 end_text Whole = []
 end_text TooDeep = codes ".. what follows is nested too deep\n"
@@ -44,7 +44,7 @@ is_whole TooManyBytes = false
 abbrev pub is_clean : FirstLines → Bool
 is_clean view = is_whole view.end && not (list_any is_fault_line (lines_of view))
 
--- The first lines of the buffer were written, and this says whether nothing is wrong.
+-- The first lines of the buffer were written, and `clean` says whether nothing is wrong.
 pub record WritesView (schema : Schema) (bytes : List ℕ) (most size : ℕ) (clean : Bool)
     (before after : Option (List ℕ)) : Type 0 where
   pub view : FirstLines
@@ -52,7 +52,7 @@ pub record WritesView (schema : Schema) (bytes : List ℕ) (most size : ℕ) (cl
   pub clean_is : clean ≡ is_clean view
   pub written : Appends before after (view_text view)
 
--- Memory was refused, or the schema is a bad one, and nothing was written; or writing failed.
+-- Memory was refused or the schema is bad, and nothing was written; or writing failed.
 abbrev pub FailsViewing : Schema → RunError → Option (List ℕ) → Option (List ℕ) → Type 0
 FailsViewing schema OutOfMemory before after = Keeps before after
 FailsViewing schema Read before after = ⊥

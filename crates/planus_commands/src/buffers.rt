@@ -1,4 +1,4 @@
-//! The command `view`: a schema, and what a buffer holds by it.
+//! The command `view`: what a buffer holds by a schema.
 
 ghost use Rattle.std.specs.Prelude.{◌≡◌, MatchOption, IfOk, OnOk, position};
 ghost use Rattle.std.specs.Option.{option_map};
@@ -20,16 +20,15 @@ use std::alloc::{AllocError, Global};
 use std::io::{Read, Write};
 use std::rt::Files;
 
-/// The lines that are shown where no number is given.
+/// The default of `--lines`.
 const LINES: usize = 1000;
 
-/// The bytes of lines that are shown where no number is given.
+/// The default of `--bytes`.
 const BYTES: usize = 1048576;
 
 /// Where in a buffer its identifier begins, in bytes.
 const IDENTIFIER: usize = 4;
 
-/// Returns a number that is given, or another.
 fn limit(word: Option<&str>, otherwise: usize) -> usize {
     match word {
         Some(word) => number_of(word).unwrap_or(otherwise),
@@ -44,7 +43,6 @@ fn limits_of(words: &Words<'_>) -> Limits {
     }
 }
 
-/// Returns whether this declaration is the table of this full name.
 fn is_table_named(declared: &Declared, name: &str) -> bool
     ensures { result ≡ is_table_named_lem name.now declared.now }
 {
@@ -59,7 +57,6 @@ fn table_named(declared: &[Declared], name: &str) -> Option<usize>
         .position(|declared| is_table_named(declared, name))
 }
 
-/// Returns the index of the root's table: that of this name, or else that of the schema.
 fn root_of(schema: &Schema, root: Option<&str>) -> Option<usize>
     ensures { result ≡ root_lem schema.now (option_map (λ name. name.now) root.entry) }
 {
@@ -69,7 +66,6 @@ fn root_of(schema: &Schema, root: Option<&str>) -> Option<usize>
     }
 }
 
-/// Says that there is no such root.
 fn say_no_root<X: Write>(root: Option<&str>, errors: &mut X) -> Result<(), RunError>
     ensures { OnOk result (Appends (X.contents errors.old) (X.contents errors.new)
         (no_root_text (option_map (λ name. name.now) root.entry))) }
@@ -80,7 +76,6 @@ fn say_no_root<X: Write>(root: Option<&str>, errors: &mut X) -> Result<(), RunEr
     }
 }
 
-/// Returns whether a buffer has this identifier.
 fn has_identifier(bytes: &[u8], identifier: &[u8]) -> bool
     ensures { result ≡ has_identifier_lem identifier.now bytes.now }
 {
@@ -90,7 +85,6 @@ fn has_identifier(bytes: &[u8], identifier: &[u8]) -> bool
     }
 }
 
-/// Returns what is said of a buffer that doesn't have this identifier.
 fn other_identifier(alloc: Global, name: &str, identifier: &[u8]) -> Result<Vec<u8>, AllocError>
     ensures { IfOk result (λ text. text.items
         ≡ other_identifier_text name.now identifier.now) }
@@ -103,7 +97,6 @@ fn other_identifier(alloc: Global, name: &str, identifier: &[u8]) -> Result<Vec<
     Ok(text)
 }
 
-/// Says so where the identifier of a buffer isn't that of the schema. Returns whether it is.
 fn check_identifier<X: Write>(
     alloc: Global,
     schema: &Schema,
@@ -125,8 +118,6 @@ fn check_identifier<X: Write>(
     }
 }
 
-/// Returns the first of some buffers, each after its size, and what follows it, or `None` where the
-/// bytes end before.
 fn split_sized(bytes: &[u8]) -> Option<(&[u8], &[u8])>
     ensures { MatchOption result (EndsEarly bytes.now)
         (λ parts. SplitsSized bytes.now parts.0.now parts.1.now) }
@@ -136,7 +127,6 @@ fn split_sized(bytes: &[u8]) -> Option<(&[u8], &[u8])>
     rest.split_at_checked(size)
 }
 
-/// What the buffers of a file are viewed by.
 #[derive(Clone, Copy)]
 struct View<'a> {
     schema: &'a Schema,
@@ -147,7 +137,6 @@ struct View<'a> {
     name: &'a str,
 }
 
-/// Writes what one buffer holds.
 fn view_one<W: Write, X: Write>(
     alloc: Global,
     view: &View<'_>,
@@ -160,7 +149,6 @@ fn view_one<W: Write, X: Write>(
     Ok(if known && clean { CLEAN } else { FAULTY })
 }
 
-/// Writes what buffers hold, one after another, each after its size.
 fn view_sized<W: Write, X: Write>(
     alloc: Global,
     view: &View<'_>,
@@ -187,15 +175,15 @@ fn view_sized<W: Write, X: Write>(
 pub struct Viewing {
     /// The index of the root's table among the declarations.
     pub root: usize,
-    /// Whether there is any number of buffers, each after its size.
+    /// Whether the file is any number of buffers, each after its size.
     pub size_prefixed: bool,
-    /// How much of each is wanted.
+    /// How much of each is shown.
     pub limits: Limits,
 }
 
-/// Writes what the bytes of a file hold by a schema, and says on standard error where they have
-/// another identifier or end too soon. Returns the exit status: 0 where all is shown and nothing is
-/// wrong, else 1.
+/// Writes what the bytes of a file hold by a schema, and reports on standard error another
+/// identifier or an early end. Returns the exit status: 0 where all is shown and nothing is wrong,
+/// else 1.
 pub fn view_bytes<W: Write, X: Write>(
     alloc: Global,
     schema: &Schema,
@@ -219,7 +207,6 @@ pub fn view_bytes<W: Write, X: Write>(
     }
 }
 
-/// Writes what a buffer holds by a schema.
 fn view_by<R: Files + AllocGlobal, S: Read, W: Write, X: Write>(
     rt: &R,
     schema: &Schema,
@@ -244,7 +231,7 @@ fn view_by<R: Files + AllocGlobal, S: Read, W: Write, X: Write>(
     view_bytes(rt.alloc(), schema, how, name, &bytes, writer, errors)
 }
 
-/// Writes what a buffer holds by a schema, which the words name. Returns the exit status.
+/// Writes what a buffer holds by a schema, both named by the words. Returns the exit status.
 pub fn view_file<R: Files + AllocGlobal, S: Read, W: Write, X: Write>(
     rt: &R,
     words: &Words<'_>,

@@ -47,7 +47,6 @@ fn unquoted(bytes: &[u8]) -> &[u8]
     }
 }
 
-/// Returns the name at the front of these bytes.
 fn word_of(bytes: &[u8]) -> &[u8]
     ensures { result.now ≡ word_lem bytes.now }
 {
@@ -57,7 +56,6 @@ fn word_of(bytes: &[u8]) -> &[u8]
     }
 }
 
-/// Returns the report of a fault in this file.
 fn fault_report(
     alloc: Global,
     names: &[Vec<u8>],
@@ -72,7 +70,6 @@ fn fault_report(
     report(alloc, file.name.as_str(), &file.text, at, &message)
 }
 
-/// Appends the report of a fault.
 fn put_report(
     alloc: Global,
     out: &mut Vec<u8>,
@@ -89,7 +86,6 @@ fn put_report(
     Ok(())
 }
 
-/// Returns the reports of these faults, one after another.
 fn reports(
     alloc: Global,
     names: &[Vec<u8>],
@@ -106,10 +102,11 @@ fn reports(
     Ok(out)
 }
 
-/// Returns what these files mean, whose declarations are given in the same order, or reports what is
-/// wrong with them.
+/// Returns what these files mean, or reports what is wrong with them. `declarations` are in the
+/// order of `files`.
 ///
-/// [`RunError::Write`] where writing failed, [`RunError::OutOfMemory`] where memory was refused.
+/// Fails with [`RunError::Write`] where writing failed, with [`RunError::OutOfMemory`] where memory
+/// was refused.
 pub fn resolve_or_report<X: Write>(
     alloc: Global,
     files: &[File],

@@ -2,8 +2,7 @@
 
 use std::alloc::{AllocError, Global};
 
-/// Returns a path without `.` and without a folder that `..` leaves again, so that one file has one
-/// name.
+/// One file must have one name: without `.` and without a folder that `..` leaves again.
 fn normal(alloc: Global, path: &str) -> Result<String, AllocError> {
     let mut segments: Vec<&str> = Vec::new(alloc);
     for segment in path.split('/') {

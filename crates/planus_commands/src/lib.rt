@@ -1,5 +1,5 @@
-//! What the program `planus` does: it checks schemas of flatbuffers, prints them in their canonical
-//! layout, shows what buffers hold by them, and prints their code as the files of a crate.
+//! What the program `planus` does: it checks, formats and views by schemas of flatbuffers, and
+//! prints their code. Start at `program`.
 #![tactic(auto)]
 
 mod arguments;

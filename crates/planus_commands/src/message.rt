@@ -1,4 +1,4 @@
-//! What faults are called.
+//! The messages of faults in texts.
 
 ghost use Rattle.std.specs.Prelude.{◌≡◌};
 ghost use Rattle.planus_commands.specs.Reports.{lex_message as lex_message_lem};

@@ -12,7 +12,7 @@ pub enum Outcome {
 /// What was written of a text.
 #[derive(Clone, Copy, Debug, PartialEq, Eq)]
 pub enum Printed {
-    /// Its canonical text, and whether the text has comments that this lacks.
+    /// Its canonical text, and whether it lacks comments of the text.
     Text { comments: bool },
     /// The report of its first fault.
     Report,

@@ -17,8 +17,8 @@ pub enum Parsed {
     Faulty(Vec<u8>),
 }
 
-/// Returns the declarations that a text spells, or the report of its first fault. `name` is what the
-/// report calls the text.
+/// Returns the declarations that a text spells, or the report of its first fault, which calls the
+/// text `name`.
 pub fn parse_or_report(alloc: Global, name: &str, text: &[u8]) -> Result<Parsed, AllocError>
     ensures { IfOk result (λ parsed. IsParsed name.now text.now parsed) }
 {

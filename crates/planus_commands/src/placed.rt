@@ -1,4 +1,4 @@
-//! Where a word of a schema stands, and the report of what is wrong there.
+//! Places in a schema, and reports of faults there.
 
 ghost use Rattle.std.specs.Prelude.{◌≤◌, length, IfOk};
 ghost use Rattle.planus_commands.specs.Outcomes.{IsPlaceAt, ReportsAt};
@@ -7,8 +7,7 @@ use crate::report::report;
 use planus_syntax::{SchemaError, place_from_end};
 use std::alloc::{AllocError, Global};
 
-/// Returns the byte of the word from which there are `left` tokens to the end of the text; 0 where
-/// the text has no tokens.
+/// 0 where the text has no tokens.
 pub(crate) fn place_of(alloc: Global, text: &[u8], left: usize) -> Result<usize, AllocError>
     ensures place { IfOk result (λ at. IsPlaceAt text.now left at) }
     ensures within { IfOk result (λ at. at ≤ length text.now) }
@@ -20,8 +19,7 @@ pub(crate) fn place_of(alloc: Global, text: &[u8], left: usize) -> Result<usize,
     }
 }
 
-/// Returns the report of a fault at the word from which there are `left` tokens to the end of the
-/// text.
+/// Returns the report of a fault at the word from which `left` tokens follow to the text's end.
 pub fn placed_report(
     alloc: Global,
     name: &str,

@@ -1,4 +1,4 @@
-//! The command `rattle`: the code of a schema, as the files of a crate.
+//! The command `rattle`: the code of a schema as a crate's files.
 
 ghost use Rattle.std.specs.Prelude.{◌≡◌};
 ghost use Rattle.std.specs.List.{list_all};
@@ -18,17 +18,15 @@ use std::fs;
 use std::io::{Read, Write};
 use std::rt::Files;
 
-/// A folder of a crate.
 #[derive(Clone, Copy)]
 struct Folder<'a> {
     path: &'a str,
     /// The crate's name.
     name: &'a str,
-    /// Whether its files are compared, and none is written.
+    /// Whether its files are compared and none is written.
     check: bool,
 }
 
-/// Returns the last word of a path.
 fn last_word(path: &str) -> &str {
     match path.rsplit_once('/') {
         Some((_, word)) => word,
@@ -54,7 +52,6 @@ fn are_in_name(bytes: &[u8]) -> bool
     bytes.iter().all(|b| is_in_name(*b))
 }
 
-/// Returns whether a crate can have this name.
 fn is_crate_name(word: &str) -> bool
     ensures { result ≡ is_crate_name_lem word.now }
 {
@@ -64,7 +61,6 @@ fn is_crate_name(word: &str) -> bool
     }
 }
 
-/// Returns whether a file has these bytes.
 fn holds<R: Files + AllocGlobal>(rt: &R, name: &str, bytes: &[u8]) -> bool {
     match fs::read(rt, name) {
         Ok(found) => found.as_slice() == bytes,
@@ -72,7 +68,6 @@ fn holds<R: Files + AllocGlobal>(rt: &R, name: &str, bytes: &[u8]) -> bool {
     }
 }
 
-/// Makes the folder of a file, and those that it lies in, where they aren't there.
 fn make_folder<R: Files>(rt: &R, name: &str) -> Result<(), RunError> {
     match name.rsplit_once('/') {
         Some((folder, _)) if fs::create_dir_all(rt, folder).is_err() => Err(RunError::Write),
@@ -80,7 +75,6 @@ fn make_folder<R: Files>(rt: &R, name: &str) -> Result<(), RunError> {
     }
 }
 
-/// Makes a file of these bytes, unless it is there.
 fn put_file<R: Files + AllocGlobal>(rt: &R, name: &str, bytes: &[u8]) -> Result<(), RunError> {
     if holds(rt, name, bytes) {
         return Ok(());
@@ -89,7 +83,6 @@ fn put_file<R: Files + AllocGlobal>(rt: &R, name: &str, bytes: &[u8]) -> Result<
     replace(rt, name, bytes)
 }
 
-/// Writes a file, or says that it can't be written.
 fn write_file<R: Files + AllocGlobal, X: Write>(
     rt: &R,
     name: &str,
@@ -103,7 +96,6 @@ fn write_file<R: Files + AllocGlobal, X: Write>(
     }
 }
 
-/// Says so where a file doesn't have these bytes.
 fn compare_file<R: Files + AllocGlobal, X: Write>(
     rt: &R,
     name: &str,
@@ -117,7 +109,6 @@ fn compare_file<R: Files + AllocGlobal, X: Write>(
     Ok(FAULTY)
 }
 
-/// Writes or compares a file of a crate.
 fn print_file<R: Files + AllocGlobal, X: Write>(
     rt: &R,
     folder: Folder<'_>,
@@ -133,7 +124,7 @@ fn print_file<R: Files + AllocGlobal, X: Write>(
     }
 }
 
-/// Compares the files of a crate, or writes them, up to the first that can't be written.
+/// Stops at the first file that can't be written.
 fn print_files<R: Files + AllocGlobal, X: Write>(
     rt: &R,
     folder: Folder<'_>,
@@ -151,7 +142,6 @@ fn print_files<R: Files + AllocGlobal, X: Write>(
     Ok(worst)
 }
 
-/// Says what isn't supported.
 fn say_unsupported<X: Write>(
     alloc: Global,
     what: &str,
@@ -164,7 +154,6 @@ fn say_unsupported<X: Write>(
     Ok(FAULTY)
 }
 
-/// Prints the code of a schema as a crate, or says what isn't supported.
 fn print_to<R: Files + AllocGlobal, X: Write>(
     rt: &R,
     schema: &Schema,
@@ -180,8 +169,6 @@ fn print_to<R: Files + AllocGlobal, X: Write>(
     }
 }
 
-/// Prints the code of the schema that the words name, as a crate in a folder, or compares the crate
-/// with it.
 fn print_schema<R: Files + AllocGlobal, S: Read, X: Write>(
     rt: &R,
     words: &Words<'_>,
@@ -198,8 +185,8 @@ fn print_schema<R: Files + AllocGlobal, S: Read, X: Write>(
     }
 }
 
-/// Prints the code of the schema that the words name, as a crate in the folder that they name, or
-/// compares the crate with it. Returns the exit status.
+/// Writes the code of a schema as a crate in a folder, both named by the words, or compares the
+/// crate with it. Returns the exit status.
 pub fn print_code<R: Files + AllocGlobal, S: Read, X: Write>(
     rt: &R,
     words: &Words<'_>,

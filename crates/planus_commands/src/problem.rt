@@ -1,4 +1,4 @@
-//! What faults of meaning are called.
+//! The messages of faults of meaning.
 
 ghost use Rattle.std.specs.Prelude.{◌≡◌, ◌++◌, Some, IfOk, OnOk};
 ghost use Rattle.std.specs.Option.{option_map};
@@ -12,7 +12,6 @@ use crate::near::nearest;
 use planus_schema::Problem;
 use std::alloc::{AllocError, Global};
 
-/// Returns what stands before the word at fault.
 fn before(problem: Problem) -> &'static str
     ensures { result.now ≡ before_lem problem }
 {
@@ -23,7 +22,6 @@ fn before(problem: Problem) -> &'static str
     }
 }
 
-/// Returns what follows the word at fault.
 fn after(problem: Problem) -> &'static str
     ensures { result.now ≡ after_lem problem }
 {
@@ -68,7 +66,6 @@ fn after(problem: Problem) -> &'static str
     }
 }
 
-/// Returns the message of a fault at this word.
 fn problem_text(alloc: Global, problem: Problem, word: &[u8]) -> Result<Vec<u8>, AllocError>
     ensures { IfOk result (λ text. text.items ≡ problem_text_lem problem word.now) }
 {
@@ -80,7 +77,6 @@ fn problem_text(alloc: Global, problem: Problem, word: &[u8]) -> Result<Vec<u8>,
     Ok(text)
 }
 
-/// Returns what says that this name may have been meant.
 fn hint(alloc: Global, name: &[u8]) -> Result<Vec<u8>, AllocError>
     ensures { IfOk result (λ text. text.items ≡ hint_of (Some name.now)) }
 {
@@ -90,7 +86,6 @@ fn hint(alloc: Global, name: &[u8]) -> Result<Vec<u8>, AllocError>
     Ok(text)
 }
 
-/// Appends a name that may have been meant.
 fn put_hint(alloc: Global, text: &mut Vec<u8>, name: Option<&[u8]>) -> Result<(), AllocError>
     ensures { OnOk result (text.new.items
         ≡ text.old.items ++ hint_of (option_map (λ w. w.now) name.entry)) }
@@ -105,7 +100,8 @@ fn put_hint(alloc: Global, text: &mut Vec<u8>, name: Option<&[u8]>) -> Result<()
     }
 }
 
-/// Returns the message of a fault at this word, with the nearest of these names for an unknown type.
+/// Returns the message of a fault at this word, with the nearest of these names for an unknown
+/// type.
 pub fn message_text(
     alloc: Global,
     names: &[Vec<u8>],

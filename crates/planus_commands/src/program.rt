@@ -1,4 +1,4 @@
-//! The program: its words, the files that they name, and what is written of them.
+//! The program.
 
 ghost use Rattle.std.specs.Prelude.{map, IfOk};
 ghost use Rattle.std.specs.String.{string_bytes};
@@ -30,7 +30,6 @@ fn check_file<R: Files + AllocGlobal, S: Read, X: Write>(
     }
 }
 
-/// Checks the schemas that the words name.
 fn check_files<R: Files + AllocGlobal, S: Read, X: Write>(
     rt: &R,
     words: &Words<'_>,
@@ -44,7 +43,6 @@ fn check_files<R: Files + AllocGlobal, S: Read, X: Write>(
     Ok(worst)
 }
 
-/// Formats the schemas that the words name.
 fn format_files<R: Files + AllocGlobal, S: Read, W: Write, X: Write>(
     rt: &R,
     words: &Words<'_>,
@@ -96,7 +94,8 @@ fn run_request<R: Files + AllocGlobal, S: Read, W: Write, X: Write>(
 
 /// Does what these words, after the program's name, ask for. Returns the exit status.
 ///
-/// [`RunError::OutOfMemory`] where memory was refused, [`RunError::Write`] where writing failed.
+/// Fails with [`RunError::OutOfMemory`] where memory was refused, with [`RunError::Write`] where
+/// writing failed.
 pub fn run_words<R: Files + AllocGlobal, S: Read, W: Write, X: Write>(
     rt: &R,
     words: &[String],
@@ -141,8 +140,8 @@ fn run<R: Env + Files + AllocGlobal, S: Read, W: Write, X: Write>(
 }
 
 /// Does what the words after the program's name ask for. Returns the exit status: 0 where all is
-/// well, 1 where a schema or a buffer has a fault or a file isn't what is printed, and 2 where the
-/// call is wrong, a file can't be read or written, or memory is refused.
+/// well, 1 where a schema or a buffer has a fault or a file isn't what is printed, 2 where the call
+/// is wrong, a file can't be read or written, or memory is refused.
 pub fn run_program<R: Env + Files + AllocGlobal, S: Read, W: Write, X: Write>(
     rt: &R,
     input: &mut S,

@@ -1,4 +1,4 @@
-//! The report of a fault: its place, its message, its line, and a mark below it.
+//! The report of a fault: its place, its message, its line, a mark.
 
 ghost use Rattle.std.specs.Prelude.{◌≡◌, ◌≤◌, ◌++◌, ◌+◌, ◌<◌, ◌^◌, count_by, length, map, codes};
 ghost use Rattle.std.specs.Prelude.{position, IfOk, OnOk};
@@ -15,7 +15,6 @@ fn is_feed(b: u8) -> bool
     b == b'\n'
 }
 
-/// Returns how many line feeds there are.
 fn feeds(bytes: &[u8]) -> usize
     ensures count { result ≡ count_by is_feed_lem bytes.now }
     ensures bound { result ≤ length bytes.now }
@@ -23,7 +22,6 @@ fn feeds(bytes: &[u8]) -> usize
     bytes.iter().filter(|b| is_feed(**b)).count()
 }
 
-/// Returns the bytes of the last line.
 fn last_line(bytes: &[u8]) -> &[u8]
     ensures line { result.now ≡ last_line_lem bytes.now }
     ensures bound { length result.now ≤ length bytes.now }
@@ -45,7 +43,6 @@ fn feed_at(bytes: &[u8]) -> Option<usize>
     bytes.iter().position(|b| is_feed(*b))
 }
 
-/// Returns the bytes of the first line.
 fn first_line(bytes: &[u8]) -> &[u8]
     ensures { result.now ≡ first_line_lem bytes.now }
 {
@@ -61,7 +58,6 @@ fn below(b: u8) -> u8
     if b == b'\t' { b'\t' } else { b' ' }
 }
 
-/// Appends what stands below these bytes.
 fn put_below(out: &mut Vec<u8>, bytes: &[u8]) -> Result<(), AllocError>
     ensures { OnOk result (out.new.items ≡ out.old.items ++ map below_lem bytes.now) }
 {
@@ -71,7 +67,6 @@ fn put_below(out: &mut Vec<u8>, bytes: &[u8]) -> Result<(), AllocError>
     Ok(())
 }
 
-/// Returns the place.
 fn head(alloc: Global, name: &str, before: &[u8]) -> Result<String, AllocError>
     ensures { IfOk result (λ text. string_bytes text ≡ place_text name.now before.now) }
 {
@@ -80,8 +75,6 @@ fn head(alloc: Global, name: &str, before: &[u8]) -> Result<String, AllocError>
     format!(in alloc; "{name}:{line}:{column}: ")
 }
 
-/// Appends a line, which `front` and the first line of `rest` are, and a mark below the end of
-/// `front`.
 fn put_marked(out: &mut Vec<u8>, front: &[u8], rest: &[u8]) -> Result<(), AllocError>
     ensures { OnOk result (out.new.items ≡ out.old.items ++ marked_text front.now rest.now) }
 {

@@ -1,4 +1,4 @@
-//! A schema in its canonical layout, on standard output or in place of its file.
+//! A schema in its canonical layout, printed or written in place.
 
 use crate::outcome::{Outcome, Printed};
 use crate::said::{CLEAN, FAILED, FAULTY, fail};
@@ -16,7 +16,7 @@ pub struct Formatting {
     pub drop_comments: bool,
 }
 
-/// Replaces a file by these bytes, once all of them are written beside it.
+/// The file is replaced once all bytes are written beside it.
 pub(crate) fn replace<R: Files + AllocGlobal>(
     rt: &R,
     name: &str,
@@ -32,7 +32,7 @@ pub(crate) fn replace<R: Files + AllocGlobal>(
     }
 }
 
-/// Writes the canonical text of a schema in place of its file, unless comments would be lost.
+/// Nothing is written where comments would be lost.
 fn write_back<R: Files + AllocGlobal, X: Write>(
     rt: &R,
     name: &str,

@@ -1,4 +1,4 @@
-//! What is written of a call that names no schema: help, the version, or why it is wrong.
+//! What is written of a call that names no schema.
 
 ghost use Rattle.std.specs.Prelude.{◌≡◌, IfOk, position};
 ghost use Rattle.std.specs.Option.{option_map};
@@ -55,7 +55,7 @@ pub const FAULTY: u8 = 1;
 /// The exit status where the call is wrong, or a file can't be read or written.
 pub const FAILED: u8 = 2;
 
-/// Says a line, as [`say_line`], and returns [`FAILED`].
+/// Writes a line, as [`say_line`], and returns [`FAILED`].
 pub fn fail<X: Write>(
     errors: &mut X,
     before: &str,
@@ -85,7 +85,6 @@ fn letter_place(bytes: &[u8]) -> Option<usize>
     bytes.iter().position(|b| is_letter(*b))
 }
 
-/// Returns the first letter of a word, after dashes.
 fn first_letter(word: &str) -> Option<u8>
     ensures { result ≡ first_letter_lem word.now }
 {
@@ -96,7 +95,7 @@ fn first_letter(word: &str) -> Option<u8>
     }
 }
 
-/// Returns which command may have been meant: one with the same first letter.
+/// The command with the same first letter.
 fn command_hint(word: &str) -> &'static str
     ensures { result.now ≡ command_hint_lem (first_letter_lem word.now) }
 {
@@ -110,7 +109,7 @@ fn command_hint(word: &str) -> &'static str
     }
 }
 
-/// Returns which option may have been meant: one with the same first letter.
+/// The option with the same first letter.
 fn option_hint(command: Command, word: &str) -> &'static str
     ensures { result.now ≡ option_hint_lem command (first_letter_lem word.now) }
 {
@@ -146,7 +145,6 @@ fn help_of(command: Command) -> &'static str
     }
 }
 
-/// Returns what is said where no word follows an option.
 fn no_value(choice: Choice) -> &'static str
     ensures { result.now ≡ no_value_text choice }
 {
@@ -220,10 +218,10 @@ pub fn said_of(alloc: Global, request: &Request<'_>) -> Result<Option<Said>, All
     }
 }
 
-/// Writes help and the version, and reports a wrong call. Returns the exit status, or `None` for
-/// a request that names schemas.
+/// Writes help and the version, and reports a wrong call. Returns the exit status, or `None` for a
+/// request that names schemas.
 ///
-/// [`RunError::Write`] where writing failed.
+/// Fails with [`RunError::Write`] where writing failed.
 pub fn say<W: Write, X: Write>(
     alloc: Global,
     request: &Request<'_>,

@@ -1,4 +1,4 @@
-//! The files of a schema: each is read once, after those that it includes.
+//! The files of a schema: each is read once, after its includes.
 
 ghost use Rattle.std.specs.Prelude.{◌≡◌, length, IfOk};
 
@@ -15,24 +15,22 @@ use std::fs;
 use std::io::{Read, Write};
 use std::rt::Files;
 
-/// No files include one another more deeply.
+/// How deep files may include one another.
 const GREATEST_DEPTH: usize = 64;
 
-/// A file that was read, with what it declares.
 #[derive(Drop)]
 struct Source {
     file: File,
     declarations: Vec<Declaration>,
 }
 
-/// The names of the files that were begun, and those that were read.
+/// The names of the files begun, and the files read.
 #[derive(Drop)]
 struct Sources {
     begun: Vec<Vec<u8>>,
     read: Vec<Source>,
 }
 
-/// Files and what each declares, in two lists of one length.
 #[derive(Drop)]
 struct Lists {
     files: Vec<File>,
@@ -40,7 +38,6 @@ struct Lists {
 }
 
 impl Sources {
-    /// Creates an empty list.
     fn new(alloc: Global) -> Sources {
         Sources {
             begun: Vec::new(alloc),
@@ -59,7 +56,6 @@ impl Sources {
     }
 }
 
-/// Returns the files that were read, and what each declares.
 fn lists_of(alloc: Global, read: Vec<Source>) -> Result<Lists, AllocError>
     ensures { IfOk result (λ d. length d.files.items ≡ length d.declarations.items) }
 {
@@ -90,7 +86,7 @@ pub fn read_text<R: Files + AllocGlobal, S: Read>(
     }
 }
 
-/// Returns the text of a file, or says why it can't be read.
+/// Returns the text of a file, or reports why it can't be read.
 pub fn text_of<R: Files + AllocGlobal, S: Read, X: Write>(
     rt: &R,
     name: &str,
@@ -116,8 +112,7 @@ fn exists<R: Files>(rt: &R, name: &str) -> bool {
     fs::open(rt, name).is_ok()
 }
 
-/// Returns the file that is included: beside the file that includes it, or in the first folder that
-/// has it.
+/// The file beside the including one comes first, then the first folder that has it.
 fn included<R: Files + AllocGlobal>(
     rt: &R,
     folders: &[&str],
@@ -137,8 +132,7 @@ fn included<R: Files + AllocGlobal>(
     Ok(None)
 }
 
-/// Reads a file and those that it includes, up to `left` files deep, and reports their first
-/// faults. Returns the exit status.
+/// Reads a file and its includes, up to `left` files deep. Returns the exit status.
 #[cycle(load)]
 fn load<R: Files + AllocGlobal, S: Read, X: Write>(
     rt: &R,
@@ -233,7 +227,6 @@ fn load_include<R: Files + AllocGlobal, S: Read, X: Write>(
     Ok(FAULTY)
 }
 
-/// Returns what files mean, or reports what is wrong with them and returns the exit status.
 fn meaning_of<X: Write>(
     alloc: Global,
     read: Vec<Source>,

@@ -9,10 +9,10 @@ ghost use Rattle.planus_commands.specs.Outcomes.{greatest_text, line_of};
 use std::alloc::{AllocError, Global};
 use std::io::{ErrorKind, Read, Write};
 
-/// No text is longer, in bytes.
+/// The greatest length of a text, in bytes.
 pub const GREATEST_TEXT: usize = 16777216;
 
-/// No more bytes are read at once.
+/// The most bytes read at once.
 const MOST_READ: usize = 8192;
 
 /// Why a text was not read, or a report not written.
@@ -24,7 +24,7 @@ pub enum RunError {
     Read,
     /// Writing failed.
     Write,
-    /// A schema isn't sound, so that no buffer is shown by it.
+    /// A schema isn't sound, so no buffer is shown by it.
     BadSchema,
 }
 
@@ -39,8 +39,7 @@ impl From<AllocError> for RunError {
     }
 }
 
-/// Reads some bytes, and returns how many: none at the reader's end. An interrupted read is made
-/// again, 2^64 - 1 times at most.
+/// An interrupted read is made again, at most 2^64 - 1 times.
 fn read_some<R: Read>(reader: &mut R, bytes: &mut [u8]) -> Result<usize, RunError>
     ensures bound { ReadsAtMost result bytes.new }
     ensures bytes { IfOk result (λ count. Consumes (R.remaining reader.old)
@@ -58,8 +57,8 @@ fn read_some<R: Read>(reader: &mut R, bytes: &mut [u8]) -> Result<usize, RunErro
     Err(RunError::Read)
 }
 
-/// Returns the bytes of a text, or the first bytes of one that is too long: one byte more than the
-/// longest has.
+/// Returns the bytes of a text. Of a longer one than [`GREATEST_TEXT`] it returns one byte more
+/// than that.
 pub fn read_all<R: Read>(alloc: Global, reader: &mut R) -> Result<Vec<u8>, RunError>
     ensures { IfOk result (λ text. IfSome (R.remaining reader.old)
         (λ bytes. text.items ≡ take (greatest_text + 1) bytes)) }
@@ -77,7 +76,7 @@ pub fn read_all<R: Read>(alloc: Global, reader: &mut R) -> Result<Vec<u8>, RunEr
     Ok(text)
 }
 
-/// Writes all bytes, and hands them on.
+/// Writes all bytes, and flushes.
 pub fn write_out<W: Write>(writer: &mut W, bytes: &[u8]) -> Result<(), RunError>
     ensures bytes { OnOk result (Appends (W.contents writer.old) (W.contents writer.new)
         bytes.now) }

@@ -19,7 +19,7 @@ use planus_syntax::{SchemaError, format_text};
 use std::alloc::{AllocError, Global};
 use std::io::Write;
 
-/// Returns the report of this error. Memory must not have been what was refused.
+/// The error must not be refused memory.
 pub(crate) fn error_report(
     alloc: Global,
     name: &str,
@@ -44,8 +44,8 @@ pub(crate) fn error_report(
     }
 }
 
-/// Returns the canonical text of the schema that a text spells, or the report of its first fault.
-/// `name` is what the report calls the text.
+/// Returns the canonical text of the schema that a text spells, or the report of its first fault,
+/// which calls the text `name`.
 pub fn outcome_of(alloc: Global, name: &str, text: &[u8]) -> Result<Outcome, AllocError>
     ensures outcome { IfOk result (λ outcome. IsOutcome name.now text.now outcome) }
     // A text that spells a schema is formatted.
@@ -71,14 +71,13 @@ fn is_ink(b: u8) -> bool
     !(b == b' ' || b == b'\n' || b == b'\t' || b == b'\r')
 }
 
-/// Returns how many bytes are no blank.
 fn ink(bytes: &[u8]) -> usize
     ensures { result ≡ ink_of bytes.now }
 {
     bytes.iter().filter(|b| is_ink(**b)).count()
 }
 
-/// Returns whether a text has comments that are no documentation. `out` is its canonical text,
+/// Returns whether a text has comments that aren't documentation. `out` is its canonical text,
 /// which lacks them.
 pub fn has_comments(text: &[u8], out: &[u8]) -> bool
     ensures { (parts : List Part) → AreParts parts → text.now ≡ spelled parts
@@ -90,7 +89,7 @@ pub fn has_comments(text: &[u8], out: &[u8]) -> bool
 /// Writes the canonical text of a schema, or reports the first fault of its text. Returns what was
 /// written.
 ///
-/// [`RunError::Write`] where writing failed.
+/// Fails with [`RunError::Write`] where writing failed.
 pub fn format<W: Write, X: Write>(
     alloc: Global,
     name: &str,

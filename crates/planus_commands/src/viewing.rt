@@ -14,7 +14,7 @@ use planus_dump::{DumpError, End, FirstLines, Schema, view};
 use std::alloc::{AllocError, Global};
 use std::io::Write;
 
-/// How much of a buffer is wanted.
+/// How much of a buffer is shown.
 #[derive(Clone, Copy, Debug)]
 pub struct Limits {
     /// The greatest number of lines.
@@ -54,7 +54,6 @@ fn view_text(alloc: Global, view: &FirstLines) -> Result<Vec<u8>, AllocError>
     Ok(text)
 }
 
-/// Returns whether a line states an error.
 fn is_fault_line(line: &[u8]) -> bool
     ensures { result ≡ is_fault_line_lem line.now }
 {
@@ -94,7 +93,6 @@ fn is_whole(end: End) -> bool
     matches!(end, End::Whole)
 }
 
-/// Returns whether all is shown and no line states an error.
 fn is_clean(view: &FirstLines) -> bool
     ensures { result ≡ is_clean_lem view.now }
 {
@@ -104,8 +102,8 @@ fn is_clean(view: &FirstLines) -> bool
 /// Writes the first lines of a buffer, and after them why more are left out. Returns whether all is
 /// shown and no line states an error.
 ///
-/// [`RunError::Write`] where writing failed, [`RunError::OutOfMemory`] where memory was refused,
-/// [`RunError::BadSchema`] for a schema that isn't good, as that of a sound one is.
+/// Fails with [`RunError::Write`] where writing failed, with [`RunError::OutOfMemory`] where memory
+/// was refused, with [`RunError::BadSchema`] for a schema that isn't good (a sound one's is).
 pub fn view_buffer<W: Write>(
     alloc: Global,
     schema: &Schema,

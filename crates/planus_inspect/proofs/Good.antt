@@ -33,8 +33,6 @@ use Rattle.planus_dump.specs.Schemas.{is_name, is_name_byte, kind_fits, field_fi
 use Rattle.planus_dump.specs.Shapes.{FieldShape, field_shape, TableShape, table_shape, StructFieldShape, struct_field_shape, StructShape, struct_shape}
 use Rattle.planus_inspect.specs.Shown.{shown_byte, after_dot, last_word, some_word, shown_name, scalar_fixed, scalar_kind, scalar_list, base_fixed, one_kind, list_kind, kind_of, field_shown, fields_shown, table_shown, member_shown, union_shown, field_in_struct, struct_fields_shown, struct_shown, Shows}
 
--- ---- lists
-
 both : (a b : Bool) → a ≡ true → b ≡ true → (a && b) ≡ true
 both true true e f = refl
 both true false e f = cc
@@ -45,7 +43,6 @@ both_true true true e = (refl, refl)
 both_true true false e = cc
 both_true false b e = cc
 
--- a test of each item, by what is known of its image
 all_of_map : {A C : Type 0} (f : A → C) (p : A → Bool) (Q : C → Type 0) → ((x : A) → Q (f x) → p x ≡ true) → (xs : List A) → AllByRecursion Q (map f xs) → list_all p xs ≡ true
 all_of_map f p Q holds [] h = refl
 all_of_map f p Q holds (x ∷ xs) h = both (p x) (list_all p xs) (holds x h.0) (all_of_map f p Q holds xs h.1)
@@ -53,8 +50,6 @@ all_of_map f p Q holds (x ∷ xs) h = both (p x) (list_all p xs) (holds x h.0) (
 all_mapped : {B C : Type 0} (g : B → C) (P : B → Type 0) (Q : C → Type 0) → ((d : B) → P d → Q (g d)) → (ds : List B) → AllByRecursion P ds → AllByRecursion Q (map g ds)
 all_mapped g P Q holds [] h = tt
 all_mapped g P Q holds (d ∷ ds) h = (holds d h.0, all_mapped g P Q holds ds h.1)
-
--- ---- names
 
 byte_is_named : (b : ℕ) → is_name_byte (shown_byte b) ≡ true
 byte_is_named b = by_test (is_name_byte b) refl
@@ -88,14 +83,11 @@ shown_is_name name = by_word (last_word name) (word_is_named name [] refl)
     by_word [] h = refl
     by_word (b ∷ bs) h = both (not (length (b ∷ bs) == 0)) (list_all is_name_byte (b ∷ bs)) (some_length (length bs)) h
 
--- ---- what a schema refers to
-
 below : {A : Type 0} (xs : List A) (i : ℕ) (x : A) → slice_get xs i ≡ Some x → i < length xs
 below [] i x e = cc
 below (y ∷ xs) zero x e = omega arith
 below (y ∷ xs) (suc i) x e = let h = below xs i x e in omega (arith, h)
 
--- an index of a declaration
 IsIndex : List Body → ℕ → Type 0
 IsIndex bs n = (i : ℕ) (b : Body) → slice_get bs i ≡ Some b → nat_lt i n ≡ true
 
@@ -103,7 +95,6 @@ is_index : (bs : List Body) (n : ℕ) → length bs ≡ n → IsIndex bs n
 unfolding IsIndex
 is_index bs n e i b there = lt-ltb i n (subst (λ k. i < k) e (below bs i b there))
 
--- the kinds of fields
 record KindFits (n : ℕ) (kind : Kind) : Type 0 where
   old : kind_fits n n kind ≡ true
   fixed : fixed_kind_fits n n kind ≡ true
@@ -174,7 +165,6 @@ kind_of_fits bs n index t None h nested = by_test t.vector
     by_test true = list_kind_fits bs n index t.base h
     by_test false = one_kind_fits bs n index t.base h
 
--- a value in a struct
 base_fixed_fits : (n j : ℕ) (b : Base) → j < n → IsBelow j b → fixed_fits n n (base_fixed b) ≡ true
 base_fixed_fits n j (base.Scalar s) inside h = scalar_fixed_fits n s
 base_fixed_fits n j base.Text inside h = absurd h
@@ -182,8 +172,6 @@ base_fixed_fits n j (base.Enum i) inside h = lt-ltb i n (omega (arith, inside, h
 base_fixed_fits n j (base.Struct i) inside h = lt-ltb i n (omega (arith, inside, h))
 base_fixed_fits n j (base.Table i) inside h = absurd h
 base_fixed_fits n j (base.Union i) inside h = absurd h
-
--- ---- declarations
 
 -- a declaration is sound, and refers to those before n
 record Refers1 (bs : List Body) (n : ℕ) (d : Declared) : Type 0 where
@@ -196,7 +184,6 @@ each_refers : (bs : List Body) (n k : ℕ) (ds : List Declared) → k + length d
 each_refers bs n k [] h s = tt
 each_refers bs n k (d ∷ ds) h s = (record { at = k; inside = omega (arith, h); sound = s.0; refers = s.1 }, each_refers bs n (k + 1) ds (omega (arith, h)) s.2)
 
--- what is known of a field
 record FieldFits (n : ℕ) (f : FieldShape) : Type 0 where
   name : is_name f.name ≡ true
   kind : KindFits n f.kind
@@ -220,7 +207,6 @@ fields_fit bs n index d h = by_body d.body h.refers
 table_is_fit : (bs : List Body) (n : ℕ) → IsIndex bs n → (d : Declared) → Refers1 bs n d → TableFits n (table_shown d)
 table_is_fit bs n index d h = record { name = shown_is_name d.name.items; fields = fields_fit bs n index d h }
 
--- a test of what has this shape
 field_passes : (n : ℕ) (f : FieldSchema) → FieldFits n (field_shape f) → field_fits n n f ≡ true
 field_passes n f h = both (is_name (string_bytes f.name)) (kind_fits n n f.kind) h.name h.kind.old
 
@@ -231,7 +217,6 @@ table_passes n t h =
 kinds_pass : (n : ℕ) (t : TableSchema) → TableFits n (table_shape t) → fixed_kinds_fit n n t ≡ true
 kinds_pass n t h = all_of_map field_shape (λ (f : FieldSchema). fixed_kind_fits n n f.kind) (FieldFits n) (λ f h. h.kind.fixed) t.fields.items h.fields
 
--- structs
 record StructFieldFits (n : ℕ) (f : StructFieldShape) : Type 0 where
   name : is_name f.name ≡ true
   value : fixed_fits n n f.fixed ≡ true
@@ -259,8 +244,6 @@ struct_passes : (n : ℕ) (s : StructSchema) → StructFits n (struct_shape s) �
 struct_passes n s h =
     both (is_name (string_bytes s.name)) (list_all (struct_field_fits n n) s.fields.items) h.name
     (all_of_map struct_field_shape (struct_field_fits n n) (StructFieldFits n) (struct_field_passes n) s.fields.items h.fields)
-
--- ---- unions
 
 other_tag : (t u : ℕ) → nat_eq t u ≡ false → (u == t) ≡ false
 other_tag t u h = grind (arith, nat_tests, h)
@@ -300,8 +283,6 @@ union_is_fit bs n index d h = by_body d.body h.sound h.refers
 
 union_passes : (n : ℕ) (v : Vec (ℕ × ℕ) Global) → variants_fit n v.items ≡ true → union_fits n v ≡ true
 union_passes n v h = h
-
--- ---- schemas
 
 same_length : {A B C : Type 0} (f : A → C) (g : B → C) (xs : List A) (ys : List B) → map f xs ≡ map g ys → length xs ≡ length ys
 same_length f g xs ys e = sym (length-map xs f) ∙ ap length e ∙ length-map ys g

@@ -30,9 +30,7 @@ use Rattle.planus_dump.specs.Schemas.{is_name_byte}
 use Rattle.planus_dump.specs.Shapes.{FieldShape, TableShape, EnumShape, StructFieldShape}
 use Rattle.planus_dump.specs.Shapes.{StructShape, HasShapes}
 
--- ---- names
-
--- a byte of a name; `_` stands for any other
+-- a byte of a name; `_` replaces any other
 abbrev pub shown_byte : ℕ → ℕ
 shown_byte b = if is_name_byte b then b else 95
 
@@ -47,11 +45,9 @@ abbrev pub some_word : List ℕ → List ℕ
 some_word [] = 95 ∷ []
 some_word (b ∷ bs) = b ∷ bs
 
--- the name in the lines of a dump: the last word, and `_` for one that is empty
+-- the name in a dump's lines: the last word, and `_` for an empty one
 abbrev pub shown_name : List ℕ → List ℕ
 shown_name name = some_word (last_word name)
-
--- ---- types
 
 -- the integer type of an enum
 abbrev pub scalar_number : Scalar → numbers.Number
@@ -74,7 +70,6 @@ scalar_fixed scalar.Float = fixed.F32
 scalar_fixed scalar.Double = fixed.F64
 scalar_fixed s = fixed.Number (scalar_number s)
 
--- a scalar field
 abbrev pub scalar_kind : Scalar → Kind
 scalar_kind scalar.Bool = kind.One item.Bool
 scalar_kind scalar.Byte = kind.I8
@@ -88,7 +83,6 @@ scalar_kind scalar.ULong = kind.One item.U64
 scalar_kind scalar.Float = kind.Fixed fixed.F32
 scalar_kind scalar.Double = kind.Fixed fixed.F64
 
--- a vector of scalars
 abbrev pub scalar_list : Scalar → Kind
 scalar_list scalar.Bool = kind.List item.Bool
 scalar_list scalar.Byte = kind.FixedList (fixed.Number number.I8)
@@ -102,7 +96,7 @@ scalar_list scalar.ULong = kind.List item.U64
 scalar_list scalar.Float = kind.FixedList fixed.F32
 scalar_list scalar.Double = kind.FixedList fixed.F64
 
--- a value in a struct, which is a scalar, an enum or a struct
+-- a value in a struct: a scalar, an enum or a struct
 abbrev pub base_fixed : Base → Fixed
 base_fixed (base.Scalar s) = scalar_fixed s
 base_fixed base.Text = fixed.Bool
@@ -132,9 +126,7 @@ abbrev pub kind_of : FieldType → Option ℕ → Kind
 kind_of t (Some i) = kind.Nested i
 kind_of t None = if t.vector then list_kind t.base else one_kind t.base
 
--- ---- declarations
-
--- the first slot of a field: that of the type of a union
+-- the first slot of a field, for a union that of its type
 abbrev pub first_slot : TableField → ℕ
 first_slot f = if is_union f.kind then f.slot - 1 else f.slot
 
@@ -152,7 +144,8 @@ fields_shown (body.Struct s) = []
 fields_shown (body.Enum e) = []
 fields_shown (body.Union u) = []
 
--- each declaration has a table, which has fields where it is one, and so with the others
+-- Each declaration has a table, whose fields are none where it isn't one; so have structs, enums
+-- and unions.
 abbrev pub table_shown : Declared → TableShape
 table_shown d = record { name = shown_name d.name.items; fields = fields_shown d.body }
 
@@ -224,9 +217,7 @@ struct_shown d = record {
   fields = struct_fields_shown d.body;
 }
 
--- ---- schemas
-
--- A dump reads with this what the schema means, from the table of this index on.
+-- With this a dump reads what the schema means, from the table of this index on.
 abbrev pub Shows : Schema → ℕ → dump.Schema → Type 0
 Shows schema root shown =
     HasShapes shown (map table_shown schema.declarations.items)

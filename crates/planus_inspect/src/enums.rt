@@ -11,7 +11,6 @@ use planus_dump::{EnumSchema, Number as NumberType};
 use planus_layout::{Body, Declared, EnumValue, Number, Scalar};
 use std::alloc::{AllocError, Global};
 
-/// Returns the last bytes of a number.
 fn low_bytes(size: usize, number: u64) -> u64
     ensures { result ≡ low_bytes_lem size number }
 {
@@ -26,7 +25,6 @@ fn low_bytes(size: usize, number: u64) -> u64
     }
 }
 
-/// Returns the bits of a number in two's complement.
 fn bits_of(size: usize, number: Number) -> u64
     ensures { result ≡ bits_lem size number }
 {
@@ -53,7 +51,7 @@ fn values_of(
     Ok(shown)
 }
 
-/// Returns an enum, and one with no values for what is no enum.
+/// An enum with no values for any other declaration.
 pub(crate) fn enum_schema(alloc: Global, declared: &Declared) -> Result<EnumSchema, AllocError>
     ensures { IfOk result (λ shown. enum_shape shown ≡ enum_shown declared.now) }
 {

@@ -10,7 +10,6 @@ ghost use Rattle.planus_inspect.specs.Shown.{one_kind as one_kind_lem, list_kind
 use planus_dump::{Fixed, Item, Kind, Number};
 use planus_layout::{Base, FieldType, Scalar};
 
-/// Returns the integer type of an enum.
 pub(crate) fn scalar_number(scalar: Scalar) -> Number
     ensures { result ≡ scalar_number_lem scalar }
 {
@@ -73,7 +72,6 @@ fn scalar_list(scalar: Scalar) -> Kind
     }
 }
 
-/// Returns how a value in a struct is read: a scalar, an enum or a struct.
 pub(crate) fn base_fixed(base: Base) -> Fixed
     ensures { result ≡ base_fixed_lem base }
 {
@@ -111,7 +109,7 @@ fn list_kind(base: Base) -> Kind
     }
 }
 
-/// Returns how a field is read. `nested` is the index of its root's table, if it is a buffer.
+/// `nested` is the index of the root's table, for a field that is a buffer.
 pub(crate) fn kind_of(kind: FieldType, nested: Option<usize>) -> Kind
     ensures { result ≡ kind_lem kind nested }
 {

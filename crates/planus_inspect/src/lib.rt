@@ -1,4 +1,4 @@
-//! Buffers looked into by a schema: from what a schema means to what a dump reads.
+//! From what a schema means to what a dump reads: see [`dump_schema`](schemas::dump_schema).
 #![tactic(auto)]
 
 mod enums;

@@ -1,4 +1,4 @@
-//! Names as the lines of a dump have them.
+//! Names in the lines of a dump.
 ghost use Rattle.std.specs.Prelude.{◌≡◌, IfOk, OnOk};
 ghost use Rattle.std.specs.String.{string_bytes};
 ghost use Rattle.planus_dump.specs.Schemas.{is_name_byte as is_name_byte_lem};
@@ -13,7 +13,6 @@ fn is_name_byte(byte: u8) -> bool
     matches!(byte, b'A'..=b'Z' | b'a'..=b'z' | b'0'..=b'9' | b'_')
 }
 
-/// Takes the next byte of a name, of which the word after the last dot is kept.
 fn take_byte(word: &mut String, byte: u8) -> Result<(), AllocError>
     ensures { OnOk result (string_bytes word.new ≡ after_dot (string_bytes word.old) byte) }
 {
@@ -27,7 +26,6 @@ fn take_byte(word: &mut String, byte: u8) -> Result<(), AllocError>
     }
 }
 
-/// Returns the word after the last dot of a name.
 fn last_word(alloc: Global, name: &[u8]) -> Result<String, AllocError>
     ensures { IfOk result (λ word. string_bytes word ≡ last_word_lem name.now) }
 {
@@ -38,8 +36,7 @@ fn last_word(alloc: Global, name: &[u8]) -> Result<String, AllocError>
     Ok(word)
 }
 
-/// Returns the name that the lines of a dump have: the word after the last dot, and `_` for an
-/// empty one.
+/// The word after the last dot, and `_` for an empty one.
 pub(crate) fn shown_name(alloc: Global, name: &[u8]) -> Result<String, AllocError>
     ensures { IfOk result (λ word. string_bytes word ≡ shown_name_lem name.now) }
 {

@@ -15,16 +15,15 @@ use std::alloc::{AllocError, Global};
 /// Returns what a dump needs to read a buffer by a schema, whose root is the table of this index
 /// among the declarations.
 ///
-/// A dump's tables, unions, enums and structs are one for each declaration, so their indices are
-/// those of the declarations. For a sound schema and an index of one of its tables the result is
-/// a good schema.
+/// A dump's tables, unions, enums and structs are one for each declaration, with its index. For a
+/// sound schema and an index of one of its tables the result is a good schema.
 pub fn dump_schema(
     alloc: Global,
     schema: &Schema,
     root: usize,
 ) -> Result<planus_dump::Schema, AllocError>
     ensures shows { IfOk result (λ shown. Shows schema.now root shown) }
-    // So a dump never refuses it.
+    // So a dump never fails with a bad schema.
     ensures good { IsSound schema.now → IsTableAt (map body_in schema.now.declarations.items) root
         → IfOk result (λ shown. is_good shown ≡ true) }
 {

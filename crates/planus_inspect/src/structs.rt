@@ -34,7 +34,6 @@ fn field_schemas(
     Ok(shown)
 }
 
-/// Returns the fields of a struct, and none for what is no struct.
 fn fields_of(alloc: Global, body: &Body) -> Result<Vec<StructFieldSchema>, AllocError>
     ensures { IfOk result (λ shown. map struct_field_shape shown.items
         ≡ struct_fields_shown body.now) }
@@ -54,7 +53,7 @@ fn size_of(body: &Body) -> usize
     }
 }
 
-/// Returns a struct, which has no fields for what is no struct.
+/// A struct with no fields for any other declaration.
 pub(crate) fn struct_schema(alloc: Global, declared: &Declared) -> Result<StructSchema, AllocError>
     ensures { IfOk result (λ shown. struct_shape shown ≡ struct_shown declared.now) }
 {

@@ -10,7 +10,6 @@ use planus_dump::{FieldSchema, TableSchema};
 use planus_layout::{Body, Declared, TableField, is_union};
 use std::alloc::{AllocError, Global};
 
-/// Returns the first slot of a field: that of the type of a union.
 fn first_slot(field: &TableField) -> usize
     ensures { result ≡ first_slot_lem field.now }
 {
@@ -42,7 +41,6 @@ fn field_schemas(alloc: Global, fields: &[TableField]) -> Result<Vec<FieldSchema
     Ok(shown)
 }
 
-/// Returns the fields of a table, and none for what is no table.
 fn fields_of(alloc: Global, body: &Body) -> Result<Vec<FieldSchema>, AllocError>
     ensures { IfOk result (λ shown. map field_shape shown.items ≡ fields_shown body.now) }
 {
@@ -52,7 +50,7 @@ fn fields_of(alloc: Global, body: &Body) -> Result<Vec<FieldSchema>, AllocError>
     }
 }
 
-/// Returns a table, which has no fields for what is no table.
+/// A table with no fields for any other declaration.
 pub(crate) fn table_schema(alloc: Global, declared: &Declared) -> Result<TableSchema, AllocError>
     ensures { IfOk result (λ shown. table_shape shown ≡ table_shown declared.now) }
 {

@@ -15,7 +15,7 @@ fn members_of(alloc: Global, members: &[UnionMember]) -> Result<Vec<(u8, usize)>
     Ok(shown)
 }
 
-/// Returns the tags and the tables of a union, and none for what is no union.
+/// No tags and no tables for any other declaration.
 pub(crate) fn union_schema(
     alloc: Global,
     declared: &Declared,

@@ -1,6 +1,5 @@
 use Rattle.std.proofs.Common.{length}
 use Rattle.planus_commands.proofs.buffers.view_sized.Given as goal
 
--- what follows a buffer is shorter
 abbrev pub decreases-loop-rest : goal.decreases-loop-rest
 decreases-loop-rest g l = length l.rest

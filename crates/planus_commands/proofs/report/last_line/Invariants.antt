@@ -2,7 +2,6 @@ use Rattle.std.proofs.Common.{◌≡◌, ◌≤◌, length}
 use Rattle.planus_commands.specs.Reports.{after_last_feed, last_line}
 use Rattle.planus_commands.proofs.report.last_line.Given as goal
 
--- what is left says the same, and neither part is longer than the bytes
 abbrev pub invariant-bytes : goal.invariant-bytes
 invariant-bytes l = record {
   line : after_last_feed l.front l.rest ≡ last_line l.bytes;

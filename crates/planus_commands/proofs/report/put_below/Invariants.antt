@@ -2,6 +2,5 @@ use Rattle.std.proofs.Common.{◌≡◌, ◌++◌, map, take}
 use Rattle.planus_commands.specs.Reports.{below}
 use Rattle.planus_commands.proofs.report.put_below.Given as goal
 
--- what stands below the bytes so far
 abbrev pub invariant-loop-b : goal.invariant-loop-b
 invariant-loop-b l = l.out.items ≡ l.fn.out.items ++ map below (take l.b-index l.bytes)

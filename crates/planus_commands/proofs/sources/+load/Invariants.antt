@@ -1,7 +1,7 @@
 use Rattle.std.proofs.Common.{◌+◌, ◌*◌}
 use Rattle.planus_commands.proofs.sources.+load.Given as goal
 
--- one file less from an include to what it names; in between the calls lead on
+-- An include leads to one file less; the calls in between lead to the next.
 abbrev pub decreases-load : goal.decreases-load
 decreases-load g l = 3 * l.left + 2
 

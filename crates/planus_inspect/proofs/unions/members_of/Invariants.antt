@@ -2,6 +2,5 @@ use Rattle.std.proofs.Common.{◌≡◌, map, take}
 use Rattle.planus_inspect.specs.Shown.{member_shown}
 use Rattle.planus_inspect.proofs.unions.members_of.Given as goal
 
--- the members so far
 abbrev pub invariant-loop-member : goal.invariant-loop-member
 invariant-loop-member l = l.shown.items ≡ map member_shown (take l.member-index l.members)
