@@ -19,7 +19,6 @@ use Rattle.planus_commands.specs.declared.arguments.Words.{Words}
 use Rattle.planus_commands.specs.declared.arguments.Request.{Request}
 use Rattle.planus_commands.specs.declared.arguments.Request.TheVariants as code
 
--- the words after a command
 pub record WordsV : Type 0 where
   pub files : List (List ℕ)
   pub folders : List (List ℕ)
@@ -125,7 +124,6 @@ with_value ws SizePrefixed w = ws
 with_value ws CheckChoice w = ws
 with_value ws HelpChoice w = ws
 
--- the next word: the value of an option, a file or an option
 abbrev pub with_word : Command → WordsV → List ℕ → WordsV
 with_word command ws w = by_want ws.wants
   where
@@ -145,7 +143,7 @@ abbrev pub is_none : Option ℕ → Bool
 is_none None = true
 is_none (Some n) = false
 
--- the word is present and isn't a number
+-- present, and no number
 abbrev pub is_no_number : Option (List ℕ) → Bool
 is_no_number None = false
 is_no_number (Some w) = is_none (number_of w)

@@ -1,4 +1,4 @@
--- The root and the identifier by which a buffer is viewed, and the messages about them.
+-- The root and the identifier of a viewed buffer.
 use Rattle.std.specs.Prelude.{◌≡◌, ℕ, Bool, true, false, ◌&&◌, not, nat_lt, List, ◌++◌, codes}
 use Rattle.std.specs.Prelude.{position, take, drop, length, Option, Some, None}
 use Rattle.std.specs.Str.{bytes_eq}
@@ -17,7 +17,7 @@ is_table (body.Union u) = false
 abbrev pub is_table_named : List ℕ → Declared → Bool
 is_table_named name d = is_table d.body && bytes_eq d.name.items name
 
--- the index of the root's table: the named one, or else the schema's
+-- the index of the named table, or else of the schema's root
 abbrev pub root_of : Schema → Option (List ℕ) → Option ℕ
 root_of schema (Some name) = position (is_table_named name) schema.declarations.items
 root_of schema None = schema.statements.root
@@ -46,7 +46,7 @@ SaysOther (Some identifier) name true unsaid said = Keeps unsaid said
 SaysOther (Some identifier) name false unsaid said =
     Appends unsaid said (other_identifier_text name identifier)
 
--- Whether a buffer has the schema's identifier; if not, a message is written.
+-- `known`: a buffer has the schema's identifier; else a message is written.
 pub record ChecksIdentifier (identifier : Option (List ℕ)) (name bytes : List ℕ) (known : Bool)
     (unsaid said : Option (List ℕ)) : Type 0 where
   pub known_is : known ≡ has_identifier_of identifier bytes

@@ -36,7 +36,7 @@ unquoted (b ∷ bs) = if b == 34 then bs else b ∷ bs
 abbrev pub word_of : List ℕ → List ℕ
 word_of bytes = take (position_or_len ends_word bytes) bytes
 
--- the report of a fault at its word; `names` are declared
+-- the report of a fault at its word
 abbrev pub IsReport : List Name → File → Fault → List ℕ → Type 0
 IsReport names file fault report = (at : ℕ) × IsPlaceAt file.text.items fault.left at
     × (report ≡ report_text (string_bytes file.name) file.text.items at
@@ -75,8 +75,7 @@ pub record AreTold (declarations : List (Vec Declaration)) (faults : List Fault)
   pub exact : AreInOrder (faults_found declarations) faults
   pub some : AreFaults faults
 
--- Without faults: the sound schema that the files mean, and no report. Else all faults are reported
--- in order.
+-- The sound schema that the files mean and no report, or all faults in order.
 abbrev pub ResolvesFiles : List File → List (Vec Declaration) → Option Schema
     → Option (List ℕ) → Option (List ℕ) → Type 0
 ResolvesFiles files declarations (Some s) before after = (faults_found declarations ≡ [])
@@ -86,7 +85,7 @@ ResolvesFiles files declarations None before after = (faults : List Fault)
     × ((out : List ℕ) × AreReports (names_of_files (schemas_of declarations)) files faults out
     × Appends before after out)
 
--- Memory was refused before anything was written, or there are faults and writing failed.
+-- Memory was refused before anything was written, or writing a report failed.
 abbrev pub FailsResolving : List (Vec Declaration) → RunError → Option (List ℕ)
     → Option (List ℕ) → Type 0
 FailsResolving declarations OutOfMemory before after = Keeps before after

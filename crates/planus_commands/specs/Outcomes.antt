@@ -26,7 +26,6 @@ use Rattle.planus_syntax.specs.Values.{AreWhole, schema_of}
 use Rattle.planus_commands.specs.declared.outcome.Printed.TheVariants.{Text, Report}
 use Rattle.planus_commands.specs.Reports.{report_text, lex_message, parse_message}
 
--- the report of this fault
 abbrev pub ReportsError : List ℕ → List ℕ → SchemaError → List ℕ → Type 0
 ReportsError name text errors.OutOfMemory report = ⊥
 ReportsError name text (errors.Token fault at) report =
@@ -46,12 +45,12 @@ Reports name text report =
     ⊎ (IsUtf8 text × ((error : SchemaError) × IsFaultOf text error
     × ReportsError name text error report))
 
--- The text is UTF-8 and spells a schema whose canonical text is the second.
+-- The first spells a schema, in UTF-8, whose canonical text is the second.
 abbrev pub Formats : List ℕ → List ℕ → Type 0
 Formats text out =
     IsUtf8 text × ((schema : List DeclarationV) × Spells text schema × (out ≡ text_of schema))
 
--- the declarations that the text spells, or the report of its first fault
+-- the text's declarations, or the report of its first fault
 abbrev pub IsParsed : List ℕ → List ℕ → Parsed → Type 0
 IsParsed name text (parsed.Declarations ds) =
     IsUtf8 text × Spells text (schema_of ds.items) × AreWhole (schema_of ds.items)
@@ -76,7 +75,6 @@ abbrev pub IsTextOf : List DeclarationV → Outcome → Type 0
 IsTextOf schema (Formatted out) = out.items ≡ text_of schema
 IsTextOf schema (Faulty report) = ⊥
 
--- not blank
 abbrev pub is_ink : ℕ → Bool
 is_ink b = not (is_blank b)
 
@@ -84,7 +82,7 @@ is_ink b = not (is_blank b)
 abbrev pub ink_of : List ℕ → ℕ
 ink_of bytes = count_by is_ink bytes
 
--- one of these parts is a comment that isn't documentation
+-- a comment that isn't documentation
 abbrev pub has_comment : List Part → Bool
 has_comment [] = false
 has_comment (token p ∷ ps) = has_comment ps
@@ -101,7 +99,6 @@ abbrev pub SaysComments : List ℕ → List ℕ → Bool → Type 0
 SaysComments text out comments = (parts : List Part) → AreParts parts → text ≡ spelled parts
     → out ≡ printed (tokens_in parts) → comments ≡ has_comment parts
 
--- the line of a message
 abbrev pub line_of : List ℕ → List ℕ → List ℕ → List ℕ
 line_of before name after = codes "planus: " ++ (before ++ (name ++ (after ++ codes "\n")))
 

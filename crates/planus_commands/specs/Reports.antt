@@ -1,4 +1,4 @@
--- The report of a fault: its place, its message, its line, and a mark below it.
+-- The report of a fault: place, message, line, mark.
 use Rattle.std.specs.Prelude.{ℕ, ◌+◌, ◌==◌, Bool, List, [], ◌∷◌, ◌++◌, length, map, take, drop}
 use Rattle.std.specs.Prelude.{count_by, codes, if◌then◌else◌}
 use Rattle.std.specs.List.{position_or_len}

@@ -14,7 +14,6 @@ use Rattle.planus_commands.specs.Arguments.{no_command, unknown_command, unknown
 use Rattle.planus_commands.specs.Arguments.{no_value, no_schema, no_buffer, no_number}
 use Rattle.planus_commands.specs.Arguments.{several_schemas, no_output}
 
--- the text, and whether it says that the call is wrong
 pub record SaidV : Type 0 where
   pub wrong : Bool
   pub text : List ℕ
@@ -112,7 +111,7 @@ said_of (no_number w) = on_errors (codes "planus: `" ++ (w ++ codes "` is no num
 said_of several_schemas = on_errors (codes "planus: rattle has one schema\n")
 said_of no_output = on_errors (codes "planus: no folder is given: -o FOLDER\n")
 
--- The text was written on standard error with status 2, or on standard output with status 0.
+-- The text was written, on standard error with status 2 or on standard output with 0.
 abbrev pub SaysBy : Bool → List ℕ → Option ℕ → Option (List ℕ) → Option (List ℕ)
     → Option (List ℕ) → Option (List ℕ) → Type 0
 SaysBy true text status before after unsaid said =

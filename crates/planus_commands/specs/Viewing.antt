@@ -17,7 +17,6 @@ use Rattle.planus_dump.specs.declared.views.End.TheVariants.{Whole, TooDeep, Too
 use Rattle.planus_dump.specs.declared.views.End.TheVariants.{TooManyBytes}
 use Rattle.planus_dump.specs.declared.views.FirstLines.{FirstLines}
 
--- the message after a view's lines
 abbrev pub end_text : End → List ℕ
 end_text Whole = []
 end_text TooDeep = codes ".. what follows is nested too deep\n"
@@ -27,7 +26,6 @@ end_text TooManyBytes = codes ".. more bytes follow; see --bytes\n"
 abbrev pub lines_of : FirstLines → List (List ℕ)
 lines_of view = map string_bytes view.lines.items
 
--- each line, and a line feed after it
 abbrev pub lines_text : List (List ℕ) → List ℕ
 lines_text lines = flat_map (λ line. line ++ 10 ∷ []) lines
 
@@ -52,7 +50,7 @@ pub record WritesView (schema : Schema) (bytes : List ℕ) (most size : ℕ) (cl
   pub clean_is : clean ≡ is_clean view
   pub written : Appends before after (view_text view)
 
--- Memory was refused or the schema is bad, and nothing was written; or writing failed.
+-- Nothing was written, for refused memory or a bad schema; or writing failed.
 abbrev pub FailsViewing : Schema → RunError → Option (List ℕ) → Option (List ℕ) → Type 0
 FailsViewing schema OutOfMemory before after = Keeps before after
 FailsViewing schema Read before after = ⊥

@@ -26,7 +26,7 @@ const LINES: usize = 1000;
 /// The default of `--bytes`.
 const BYTES: usize = 1048576;
 
-/// Where in a buffer its identifier begins, in bytes.
+/// Where the identifier begins, in bytes.
 const IDENTIFIER: usize = 4;
 
 fn limit(word: Option<&str>, otherwise: usize) -> usize {
@@ -130,7 +130,6 @@ fn split_sized(bytes: &[u8]) -> Option<(&[u8], &[u8])>
 #[derive(Clone, Copy)]
 struct View<'a> {
     schema: &'a Schema,
-    /// The schema as a dump reads it.
     shown: &'a planus_dump::Schema,
     limits: Limits,
     /// What messages call the file.
@@ -175,15 +174,14 @@ fn view_sized<W: Write, X: Write>(
 pub struct Viewing {
     /// The index of the root's table among the declarations.
     pub root: usize,
-    /// Whether the file is any number of buffers, each after its size.
+    /// Whether the file holds buffers, each after its size.
     pub size_prefixed: bool,
     /// How much of each is shown.
     pub limits: Limits,
 }
 
-/// Writes what the bytes of a file hold by a schema, and reports on standard error another
-/// identifier or an early end. Returns the exit status: 0 where all is shown and nothing is wrong,
-/// else 1.
+/// Writes what the bytes of a file hold by a schema; reports another identifier or an early end.
+/// Returns the exit status: 0 where all is shown and nothing is wrong, else 1.
 pub fn view_bytes<W: Write, X: Write>(
     alloc: Global,
     schema: &Schema,
@@ -231,7 +229,7 @@ fn view_by<R: Files + AllocGlobal, S: Read, W: Write, X: Write>(
     view_bytes(rt.alloc(), schema, how, name, &bytes, writer, errors)
 }
 
-/// Writes what a buffer holds by a schema, both named by the words. Returns the exit status.
+/// Writes what a buffer holds by a schema. Returns the exit status.
 pub fn view_file<R: Files + AllocGlobal, S: Read, W: Write, X: Write>(
     rt: &R,
     words: &Words<'_>,

@@ -102,11 +102,10 @@ fn reports(
     Ok(out)
 }
 
-/// Returns what these files mean, or reports what is wrong with them. `declarations` are in the
-/// order of `files`.
+/// Returns what these files mean, or reports their faults. `declarations` are in the order of
+/// `files`.
 ///
-/// Fails with [`RunError::Write`] where writing failed, with [`RunError::OutOfMemory`] where memory
-/// was refused.
+/// Fails where memory is refused or writing fails.
 pub fn resolve_or_report<X: Write>(
     alloc: Global,
     files: &[File],

@@ -1,5 +1,5 @@
-//! What the program `planus` does: it checks, formats and views by schemas of flatbuffers, and
-//! prints their code. Start at `program`.
+//! What the program `planus` does: it checks and formats schemas, views buffers by them and prints
+//! their code. Start at `program`.
 #![tactic(auto)]
 
 mod arguments;

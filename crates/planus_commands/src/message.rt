@@ -35,7 +35,7 @@ fn mark_message(mark: u8) -> &'static str
     }
 }
 
-/// Returns the message of a fault in the tokens of a text.
+/// Returns the message of a fault of tokens.
 pub fn parse_message(fault: ParseFault) -> &'static str
     ensures { result.now ≡ parse_message_lem fault }
 {

@@ -1,6 +1,6 @@
-//! What becomes of a text.
+//! Outcomes of a text.
 
-/// What becomes of the text of a schema.
+/// What becomes of a text.
 #[derive(Drop)]
 pub enum Outcome {
     /// Its canonical text.
@@ -12,7 +12,7 @@ pub enum Outcome {
 /// What was written of a text.
 #[derive(Clone, Copy, Debug, PartialEq, Eq)]
 pub enum Printed {
-    /// Its canonical text, and whether it lacks comments of the text.
+    /// Its canonical text, and whether that lacks comments.
     Text { comments: bool },
     /// The report of its first fault.
     Report,

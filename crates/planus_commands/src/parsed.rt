@@ -11,14 +11,12 @@ use std::alloc::{AllocError, Global};
 /// What a text is.
 #[derive(Drop)]
 pub enum Parsed {
-    /// The declarations that it spells.
     Declarations(Vec<Declaration>),
     /// The report of its first fault.
     Faulty(Vec<u8>),
 }
 
-/// Returns the declarations that a text spells, or the report of its first fault, which calls the
-/// text `name`.
+/// Returns the declarations of a text that reports call `name`.
 pub fn parse_or_report(alloc: Global, name: &str, text: &[u8]) -> Result<Parsed, AllocError>
     ensures { IfOk result (λ parsed. IsParsed name.now text.now parsed) }
 {

@@ -19,7 +19,7 @@ pub(crate) fn place_of(alloc: Global, text: &[u8], left: usize) -> Result<usize,
     }
 }
 
-/// Returns the report of a fault at the word from which `left` tokens follow to the text's end.
+/// Returns the report of a fault at the word `left` tokens before the text's end.
 pub fn placed_report(
     alloc: Global,
     name: &str,

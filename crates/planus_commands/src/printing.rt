@@ -185,8 +185,7 @@ fn print_schema<R: Files + AllocGlobal, S: Read, X: Write>(
     }
 }
 
-/// Writes the code of a schema as a crate in a folder, both named by the words, or compares the
-/// crate with it. Returns the exit status.
+/// Writes the code of a schema as a crate, or compares the crate with it. Returns the exit status.
 pub fn print_code<R: Files + AllocGlobal, S: Read, X: Write>(
     rt: &R,
     words: &Words<'_>,

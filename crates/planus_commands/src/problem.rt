@@ -100,8 +100,7 @@ fn put_hint(alloc: Global, text: &mut Vec<u8>, name: Option<&[u8]>) -> Result<()
     }
 }
 
-/// Returns the message of a fault at this word, with the nearest of these names for an unknown
-/// type.
+/// Returns the message of a fault, for an unknown type with the nearest of these names.
 pub fn message_text(
     alloc: Global,
     names: &[Vec<u8>],

@@ -1,4 +1,4 @@
-//! The program.
+//! The program `planus`: start here.
 
 ghost use Rattle.std.specs.Prelude.{map, IfOk};
 ghost use Rattle.std.specs.String.{string_bytes};
@@ -92,10 +92,9 @@ fn run_request<R: Files + AllocGlobal, S: Read, W: Write, X: Write>(
     }
 }
 
-/// Does what these words, after the program's name, ask for. Returns the exit status.
+/// Runs the program with these words after its name. Returns the exit status.
 ///
-/// Fails with [`RunError::OutOfMemory`] where memory was refused, with [`RunError::Write`] where
-/// writing failed.
+/// Fails where memory is refused or writing fails.
 pub fn run_words<R: Files + AllocGlobal, S: Read, W: Write, X: Write>(
     rt: &R,
     words: &[String],
@@ -139,9 +138,9 @@ fn run<R: Env + Files + AllocGlobal, S: Read, W: Write, X: Write>(
     run_words(rt, &words, input, writer, errors)
 }
 
-/// Does what the words after the program's name ask for. Returns the exit status: 0 where all is
-/// well, 1 where a schema or a buffer has a fault or a file isn't what is printed, 2 where the call
-/// is wrong, a file can't be read or written, or memory is refused.
+/// Runs the program. Returns the exit status: 0 where all is well, 1 where a schema or a buffer has
+/// a fault or a file isn't what is printed, 2 where the call is wrong, a file can't be read or
+/// written, or memory is refused.
 pub fn run_program<R: Env + Files + AllocGlobal, S: Read, W: Write, X: Write>(
     rt: &R,
     input: &mut S,

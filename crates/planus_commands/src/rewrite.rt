@@ -16,7 +16,7 @@ pub struct Formatting {
     pub drop_comments: bool,
 }
 
-/// The file is replaced once all bytes are written beside it.
+/// Replaces the file only once all bytes are written beside it.
 pub(crate) fn replace<R: Files + AllocGlobal>(
     rt: &R,
     name: &str,
@@ -100,8 +100,7 @@ fn print<R: AllocGlobal, W: Write, X: Write>(
     }
 }
 
-/// Prints the canonical text of a schema, or writes it in place of its file. Returns the exit
-/// status.
+/// Prints a canonical text, or writes it in place of its file. Returns the exit status.
 pub fn format_file<R: Files + AllocGlobal, S: Read, W: Write, X: Write>(
     rt: &R,
     how: Formatting,

@@ -52,7 +52,7 @@ pub const CLEAN: u8 = 0;
 /// The exit status where a schema has a fault.
 pub const FAULTY: u8 = 1;
 
-/// The exit status where the call is wrong, or a file can't be read or written.
+/// The exit status where a call is wrong or a file unavailable.
 pub const FAILED: u8 = 2;
 
 /// Writes a line, as [`say_line`], and returns [`FAILED`].
@@ -95,7 +95,6 @@ fn first_letter(word: &str) -> Option<u8>
     }
 }
 
-/// The command with the same first letter.
 fn command_hint(word: &str) -> &'static str
     ensures { result.now ≡ command_hint_lem (first_letter_lem word.now) }
 {
@@ -109,7 +108,6 @@ fn command_hint(word: &str) -> &'static str
     }
 }
 
-/// The option with the same first letter.
 fn option_hint(command: Command, word: &str) -> &'static str
     ensures { result.now ≡ option_hint_lem command (first_letter_lem word.now) }
 {
@@ -218,10 +216,10 @@ pub fn said_of(alloc: Global, request: &Request<'_>) -> Result<Option<Said>, All
     }
 }
 
-/// Writes help and the version, and reports a wrong call. Returns the exit status, or `None` for a
-/// request that names schemas.
+/// Writes help or the version, or reports a wrong call. Returns the exit status, or `None` for a
+/// command.
 ///
-/// Fails with [`RunError::Write`] where writing failed.
+/// Fails where writing fails.
 pub fn say<W: Write, X: Write>(
     alloc: Global,
     request: &Request<'_>,

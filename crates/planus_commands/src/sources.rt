@@ -24,7 +24,6 @@ struct Source {
     declarations: Vec<Declaration>,
 }
 
-/// The names of the files begun, and the files read.
 #[derive(Drop)]
 struct Sources {
     begun: Vec<Vec<u8>>,
@@ -112,7 +111,7 @@ fn exists<R: Files>(rt: &R, name: &str) -> bool {
     fs::open(rt, name).is_ok()
 }
 
-/// The file beside the including one comes first, then the first folder that has it.
+/// The folder of the including file comes first.
 fn included<R: Files + AllocGlobal>(
     rt: &R,
     folders: &[&str],
@@ -132,7 +131,7 @@ fn included<R: Files + AllocGlobal>(
     Ok(None)
 }
 
-/// Reads a file and its includes, up to `left` files deep. Returns the exit status.
+/// Reads at most `left` files deep. Returns the exit status.
 #[cycle(load)]
 fn load<R: Files + AllocGlobal, S: Read, X: Write>(
     rt: &R,
@@ -237,8 +236,8 @@ fn meaning_of<X: Write>(
     Ok(schema.ok_or(FAULTY))
 }
 
-/// Reads a file and all that it includes, and reports what is wrong with them. Returns what they
-/// mean, or the exit status.
+/// Reads a file and all that it includes. Returns what they mean, or reports their faults and
+/// returns the exit status.
 pub fn schema_of<R: Files + AllocGlobal, S: Read, X: Write>(
     rt: &R,
     folders: &[&str],

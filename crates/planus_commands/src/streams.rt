@@ -57,8 +57,7 @@ fn read_some<R: Read>(reader: &mut R, bytes: &mut [u8]) -> Result<usize, RunErro
     Err(RunError::Read)
 }
 
-/// Returns the bytes of a text. Of a longer one than [`GREATEST_TEXT`] it returns one byte more
-/// than that.
+/// Returns the bytes of a text, at most one more than [`GREATEST_TEXT`].
 pub fn read_all<R: Read>(alloc: Global, reader: &mut R) -> Result<Vec<u8>, RunError>
     ensures { IfOk result (λ text. IfSome (R.remaining reader.old)
         (λ bytes. text.items ≡ take (greatest_text + 1) bytes)) }

@@ -44,8 +44,7 @@ pub(crate) fn error_report(
     }
 }
 
-/// Returns the canonical text of the schema that a text spells, or the report of its first fault,
-/// which calls the text `name`.
+/// Returns the canonical text, or the report of the first fault.
 pub fn outcome_of(alloc: Global, name: &str, text: &[u8]) -> Result<Outcome, AllocError>
     ensures outcome { IfOk result (λ outcome. IsOutcome name.now text.now outcome) }
     // A text that spells a schema is formatted.
@@ -77,8 +76,7 @@ fn ink(bytes: &[u8]) -> usize
     bytes.iter().filter(|b| is_ink(**b)).count()
 }
 
-/// Returns whether a text has comments that aren't documentation. `out` is its canonical text,
-/// which lacks them.
+/// Returns whether a text has comments that `out`, its canonical text, lacks.
 pub fn has_comments(text: &[u8], out: &[u8]) -> bool
     ensures { (parts : List Part) → AreParts parts → text.now ≡ spelled parts
         → out.now ≡ printed (tokens_in parts) → result ≡ has_comment parts }
@@ -86,10 +84,9 @@ pub fn has_comments(text: &[u8], out: &[u8]) -> bool
     ink(out) < ink(text)
 }
 
-/// Writes the canonical text of a schema, or reports the first fault of its text. Returns what was
-/// written.
+/// Writes the canonical text, or reports the first fault. Returns what was written.
 ///
-/// Fails with [`RunError::Write`] where writing failed.
+/// Fails where memory is refused or writing fails.
 pub fn format<W: Write, X: Write>(
     alloc: Global,
     name: &str,

@@ -99,11 +99,11 @@ fn is_clean(view: &FirstLines) -> bool
     is_whole(view.end) && !has_fault(&view.lines)
 }
 
-/// Writes the first lines of a buffer, and after them why more are left out. Returns whether all is
-/// shown and no line states an error.
+/// Writes the first lines of a buffer, and why more are left out. Returns whether all is shown and
+/// no line states an error.
 ///
-/// Fails with [`RunError::Write`] where writing failed, with [`RunError::OutOfMemory`] where memory
-/// was refused, with [`RunError::BadSchema`] for a schema that isn't good (a sound one's is).
+/// Fails where memory is refused or writing fails, and with [`RunError::BadSchema`] for a schema
+/// that isn't good (a sound one's is).
 pub fn view_buffer<W: Write>(
     alloc: Global,
     schema: &Schema,

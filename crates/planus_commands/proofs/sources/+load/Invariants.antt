@@ -1,7 +1,7 @@
 use Rattle.std.proofs.Common.{◌+◌, ◌*◌}
 use Rattle.planus_commands.proofs.sources.+load.Given as goal
 
--- An include leads to one file less; the calls in between lead to the next.
+-- fewer files are left at each include, and calls within one go forward
 abbrev pub decreases-load : goal.decreases-load
 decreases-load g l = 3 * l.left + 2
 
