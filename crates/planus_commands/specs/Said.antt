@@ -1,6 +1,6 @@
 -- What is written of a call that names no schema.
-use Rattle.std.specs.Prelude.{◌≡◌, ℕ, ⊤, Bool, true, false, not, ◌==◌, List, ◌++◌, codes}
-use Rattle.std.specs.Prelude.{position, slice_index, Option, Some, None, if◌then◌else◌}
+use Rattle.std.specs.Prelude.{◌≡◌, ℕ, ⊤, Bool, true, false, ◌==◌, List, [], ◌∷◌, ◌++◌, codes}
+use Rattle.std.specs.Prelude.{Option, Some, None, if◌then◌else◌}
 use Rattle.std.specs.String.{string_bytes}
 use Rattle.std.specs.Io.KnownBytes.{Appends, Keeps}
 use Rattle.planus_commands.specs.declared.arguments.Command.{Command}
@@ -21,16 +21,10 @@ pub record SaidV : Type 0 where
 abbrev pub said_view : Said → SaidV
 said_view said = record { wrong = said.wrong; text = string_bytes said.text }
 
-abbrev pub is_letter : ℕ → Bool
-is_letter b = not (b == 45)
-
-abbrev pub letter_at : List ℕ → Option ℕ → Option ℕ
-letter_at w None = None
-letter_at w (Some i) = Some (slice_index w i)
-
 -- the first letter of a word, after dashes
 abbrev pub first_letter : List ℕ → Option ℕ
-first_letter w = letter_at w (position is_letter w)
+first_letter [] = None
+first_letter (b ∷ bs) = if b == 45 then first_letter bs else Some b
 
 abbrev pub command_hint : Option ℕ → List ℕ
 command_hint None = codes "see planus help"
@@ -87,11 +81,14 @@ no_value_text Bytes = codes "planus: no number follows --bytes\n"
 no_value_text Output = codes "planus: no folder follows -o\n"
 no_value_text choice = codes "planus: no folder follows -I\n"
 
+abbrev pub said_text : Bool → List ℕ → Option SaidV
+said_text wrong text = Some (record { wrong = wrong; text = text })
+
 abbrev pub on_output : List ℕ → Option SaidV
-on_output text = Some (record { wrong = false; text = text })
+on_output text = said_text false text
 
 abbrev pub on_errors : List ℕ → Option SaidV
-on_errors text = Some (record { wrong = true; text = text })
+on_errors text = said_text true text
 
 -- none where schemas are named
 abbrev pub said_of : Asked → Option SaidV

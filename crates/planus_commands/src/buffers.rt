@@ -36,13 +36,6 @@ fn limit(word: Option<&str>, otherwise: usize) -> usize {
     }
 }
 
-fn limits_of(words: &Words<'_>) -> Limits {
-    Limits {
-        lines: limit(words.lines, LINES),
-        bytes: limit(words.bytes, BYTES),
-    }
-}
-
 fn is_table_named(declared: &Declared, name: &str) -> bool
     ensures { result ≡ is_table_named_lem name.now declared.now }
 {
@@ -52,9 +45,11 @@ fn is_table_named(declared: &Declared, name: &str) -> bool
 fn table_named(declared: &[Declared], name: &str) -> Option<usize>
     ensures { result ≡ position (is_table_named_lem name.now) declared.now }
 {
-    declared
-        .iter()
-        .position(|declared| is_table_named(declared, name))
+    let mut n = 0;
+    'declared: while n < declared.len() && !is_table_named(&declared[n], name) {
+        n += 1;
+    }
+    if n < declared.len() { Some(n) } else { None }
 }
 
 fn root_of(schema: &Schema, root: Option<&str>) -> Option<usize>
@@ -170,7 +165,7 @@ fn view_sized<W: Write, X: Write>(
 }
 
 /// How a buffer is viewed.
-#[derive(Clone, Copy, Debug)]
+#[derive(Clone, Copy)]
 pub struct Viewing {
     /// The index of the root's table among the declarations.
     pub root: usize,
@@ -224,7 +219,10 @@ fn view_by<R: Files + AllocGlobal, S: Read, W: Write, X: Write>(
     let how = Viewing {
         root,
         size_prefixed: words.size_prefixed,
-        limits: limits_of(words),
+        limits: Limits {
+            lines: limit(words.lines, LINES),
+            bytes: limit(words.bytes, BYTES),
+        },
     };
     view_bytes(rt.alloc(), schema, how, name, &bytes, writer, errors)
 }

@@ -1,6 +1,6 @@
 //! Whether the files of a schema mean something.
 
-ghost use Rattle.std.specs.Prelude.{◌≡◌, ◌<◌, length, position, IfOk, IfErr, OnOk};
+ghost use Rattle.std.specs.Prelude.{◌≡◌, ◌<◌, length, IfOk, IfErr, OnOk};
 ghost use Rattle.std.specs.List.{All};
 ghost use Rattle.planus_syntax.specs.Values.{names_of};
 ghost use Rattle.planus_commands.specs.Checks.{AreReports, ResolvesFiles, FailsResolving, IsReport};
@@ -32,12 +32,6 @@ fn ends_word(b: u8) -> bool
     !matches!(b, b'A'..=b'Z' | b'a'..=b'z' | b'0'..=b'9' | b'_' | b'.')
 }
 
-fn word_end(bytes: &[u8]) -> Option<usize>
-    ensures { result ≡ position ends_word_lem bytes.now }
-{
-    bytes.iter().position(|b| ends_word(*b))
-}
-
 fn unquoted(bytes: &[u8]) -> &[u8]
     ensures { result.now ≡ unquoted_lem bytes.now }
 {
@@ -50,10 +44,11 @@ fn unquoted(bytes: &[u8]) -> &[u8]
 fn word_of(bytes: &[u8]) -> &[u8]
     ensures { result.now ≡ word_lem bytes.now }
 {
-    match word_end(bytes) {
-        Some(n) => bytes.split_at(n).0,
-        None => bytes,
+    let mut n = 0;
+    'bytes: while n < bytes.len() && !ends_word(bytes[n]) {
+        n += 1;
     }
+    &bytes[..n]
 }
 
 fn fault_report(

@@ -6,25 +6,17 @@ use std::alloc::{AllocError, Global};
 fn normal(alloc: Global, path: &str) -> Result<String, AllocError> {
     let mut segments: Vec<&str> = Vec::new(alloc);
     for segment in path.split('/') {
-        let leaves = segment == ".." && segments.last().is_some_and(|last| *last != "..");
+        let leaves = match segments.last() {
+            Some(last) => segment == ".." && *last != "..",
+            None => false,
+        };
         if leaves {
             segments.pop();
         } else if segment != "." {
             segments.push(segment)?;
         }
     }
-    joined(alloc, &segments)
-}
-
-fn joined(alloc: Global, segments: &[&str]) -> Result<String, AllocError> {
-    let mut path = String::new(alloc);
-    for (i, segment) in segments.iter().enumerate() {
-        if i > 0 {
-            path.push('/')?;
-        }
-        path.push_str(*segment)?;
-    }
-    Ok(path)
+    segments.join(alloc, "/")
 }
 
 /// Returns the name of a file in a folder.
@@ -35,8 +27,8 @@ pub fn file_in(alloc: Global, folder: &str, path: &str) -> Result<String, AllocE
 
 /// Returns the name of a file beside another one.
 pub fn file_beside(alloc: Global, name: &str, path: &str) -> Result<String, AllocError> {
-    match name.rfind('/') {
-        Some(end) => file_in(alloc, &name[..end], path),
+    match name.rsplit_once('/') {
+        Some((folder, _)) => file_in(alloc, folder, path),
         None => normal(alloc, path),
     }
 }

@@ -10,7 +10,7 @@ pub enum Outcome {
 }
 
 /// What was written of a text.
-#[derive(Clone, Copy, Debug, PartialEq, Eq)]
+#[derive(Clone, Copy)]
 pub enum Printed {
     /// Its canonical text, and whether that lacks comments.
     Text { comments: bool },

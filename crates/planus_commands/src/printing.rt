@@ -1,7 +1,6 @@
 //! The command `rattle`: the code of a schema as a crate's files.
 
 ghost use Rattle.std.specs.Prelude.{◌≡◌};
-ghost use Rattle.std.specs.List.{list_all};
 ghost use Rattle.planus_commands.specs.Printing.{is_small_letter as is_small_letter_lem};
 ghost use Rattle.planus_commands.specs.Printing.{is_in_name as is_in_name_lem};
 ghost use Rattle.planus_commands.specs.Printing.{is_crate_name as is_crate_name_lem};
@@ -46,19 +45,18 @@ fn is_in_name(b: u8) -> bool
     matches!(b, b'a'..=b'z' | b'0'..=b'9' | b'_')
 }
 
-fn are_in_name(bytes: &[u8]) -> bool
-    ensures { result ≡ list_all is_in_name_lem bytes.now }
-{
-    bytes.iter().all(|b| is_in_name(*b))
-}
-
 fn is_crate_name(word: &str) -> bool
     ensures { result ≡ is_crate_name_lem word.now }
 {
-    match word.as_bytes().split_first() {
-        Some((first, rest)) => is_small_letter(*first) && are_in_name(rest),
-        None => false,
+    let Some((first, rest)) = word.as_bytes().split_first() else {
+        return false;
+    };
+    'rest: for b in rest {
+        if !is_in_name(*b) {
+            return false;
+        }
     }
+    is_small_letter(*first)
 }
 
 fn holds<R: Files + AllocGlobal>(rt: &R, name: &str, bytes: &[u8]) -> bool {
@@ -68,18 +66,15 @@ fn holds<R: Files + AllocGlobal>(rt: &R, name: &str, bytes: &[u8]) -> bool {
     }
 }
 
-fn make_folder<R: Files>(rt: &R, name: &str) -> Result<(), RunError> {
-    match name.rsplit_once('/') {
-        Some((folder, _)) if fs::create_dir_all(rt, folder).is_err() => Err(RunError::Write),
-        _ => Ok(()),
-    }
-}
-
 fn put_file<R: Files + AllocGlobal>(rt: &R, name: &str, bytes: &[u8]) -> Result<(), RunError> {
     if holds(rt, name, bytes) {
         return Ok(());
     }
-    make_folder(rt, name)?;
+    if let Some((folder, _)) = name.rsplit_once('/') {
+        if fs::create_dir_all(rt, folder).is_err() {
+            return Err(RunError::Write);
+        }
+    }
     replace(rt, name, bytes)
 }
 
@@ -169,22 +164,6 @@ fn print_to<R: Files + AllocGlobal, X: Write>(
     }
 }
 
-fn print_schema<R: Files + AllocGlobal, S: Read, X: Write>(
-    rt: &R,
-    words: &Words<'_>,
-    folder: Folder<'_>,
-    input: &mut S,
-    errors: &mut X,
-) -> Result<u8, RunError> {
-    let Some(name) = words.files.first() else {
-        return Ok(FAILED);
-    };
-    match schema_of(rt, &words.folders, *name, input, errors)? {
-        Ok(schema) => print_to(rt, &schema, folder, errors),
-        Err(status) => Ok(status),
-    }
-}
-
 /// Writes the code of a schema as a crate, or compares the crate with it. Returns the exit status.
 pub fn print_code<R: Files + AllocGlobal, S: Read, X: Write>(
     rt: &R,
@@ -202,5 +181,11 @@ pub fn print_code<R: Files + AllocGlobal, S: Read, X: Write>(
         name,
         check: words.check,
     };
-    print_schema(rt, words, folder, input, errors)
+    let Some(schema) = words.files.first() else {
+        return Ok(FAILED);
+    };
+    match schema_of(rt, &words.folders, *schema, input, errors)? {
+        Ok(schema) => print_to(rt, &schema, folder, errors),
+        Err(status) => Ok(status),
+    }
 }

@@ -17,19 +17,6 @@ use std::env::Env;
 use std::io::{Read, Write};
 use std::rt::Files;
 
-fn check_file<R: Files + AllocGlobal, S: Read, X: Write>(
-    rt: &R,
-    folders: &[&str],
-    name: &str,
-    input: &mut S,
-    errors: &mut X,
-) -> Result<u8, RunError> {
-    match schema_of(rt, folders, name, input, errors)? {
-        Ok(_) => Ok(CLEAN),
-        Err(status) => Ok(status),
-    }
-}
-
 fn check_files<R: Files + AllocGlobal, S: Read, X: Write>(
     rt: &R,
     words: &Words<'_>,
@@ -38,7 +25,9 @@ fn check_files<R: Files + AllocGlobal, S: Read, X: Write>(
 ) -> Result<u8, RunError> {
     let mut worst = CLEAN;
     for name in &words.files {
-        worst = worst.max(check_file(rt, &words.folders, *name, input, errors)?);
+        if let Err(status) = schema_of(rt, &words.folders, *name, input, errors)? {
+            worst = worst.max(status);
+        }
     }
     Ok(worst)
 }
@@ -61,22 +50,6 @@ fn format_files<R: Files + AllocGlobal, S: Read, W: Write, X: Write>(
     Ok(worst)
 }
 
-fn run_command<R: Files + AllocGlobal, S: Read, W: Write, X: Write>(
-    rt: &R,
-    command: Command,
-    words: &Words<'_>,
-    input: &mut S,
-    writer: &mut W,
-    errors: &mut X,
-) -> Result<u8, RunError> {
-    match command {
-        Command::Check => check_files(rt, words, input, errors),
-        Command::Format => format_files(rt, words, input, writer, errors),
-        Command::View => view_file(rt, words, input, writer, errors),
-        Command::Rattle => print_code(rt, words, input, errors),
-    }
-}
-
 fn run_request<R: Files + AllocGlobal, S: Read, W: Write, X: Write>(
     rt: &R,
     request: &Request<'_>,
@@ -84,11 +57,14 @@ fn run_request<R: Files + AllocGlobal, S: Read, W: Write, X: Write>(
     writer: &mut W,
     errors: &mut X,
 ) -> Result<u8, RunError> {
-    match request {
-        Request::Run { command, words } => {
-            run_command(rt, *command, words, input, writer, errors)
-        }
-        _ => Ok(FAILED),
+    let Request::Run { command, words } = request else {
+        return Ok(FAILED);
+    };
+    match command {
+        Command::Check => check_files(rt, words, input, errors),
+        Command::Format => format_files(rt, words, input, writer, errors),
+        Command::View => view_file(rt, words, input, writer, errors),
+        Command::Rattle => print_code(rt, words, input, errors),
     }
 }
 

@@ -1,7 +1,7 @@
 //! The report of a fault: its place, its message, its line, a mark.
 
 ghost use Rattle.std.specs.Prelude.{◌≡◌, ◌≤◌, ◌++◌, ◌+◌, ◌<◌, ◌^◌, count_by, length, map, codes};
-ghost use Rattle.std.specs.Prelude.{position, IfOk, OnOk};
+ghost use Rattle.std.specs.Prelude.{IfOk, OnOk};
 ghost use Rattle.std.specs.String.{string_bytes};
 ghost use Rattle.planus_commands.specs.Reports.{below as below_lem, first_line as first_line_lem};
 ghost use Rattle.planus_commands.specs.Reports.{marked_text, place_text, is_feed as is_feed_lem};
@@ -15,41 +15,34 @@ fn is_feed(b: u8) -> bool
     b == b'\n'
 }
 
-fn feeds(bytes: &[u8]) -> usize
-    ensures count { result ≡ count_by is_feed_lem bytes.now }
-    ensures bound { result ≤ length bytes.now }
+/// Returns the number of line feeds, and the last line.
+fn last_line(bytes: &[u8]) -> (usize, &[u8])
+    ensures feeds { result.0 ≡ count_by is_feed_lem bytes.now }
+    ensures line { result.1.now ≡ last_line_lem bytes.now }
+    ensures bound { result.0 ≤ length bytes.now }
+    ensures within { length result.1.now ≤ length bytes.now }
 {
-    bytes.iter().filter(|b| is_feed(**b)).count()
-}
-
-fn last_line(bytes: &[u8]) -> &[u8]
-    ensures line { result.now ≡ last_line_lem bytes.now }
-    ensures bound { length result.now ≤ length bytes.now }
-{
+    let mut feeds = 0;
     let mut front = bytes;
     let mut rest = bytes;
     'bytes: while let Some((first, after)) = rest.split_first() {
         if is_feed(*first) {
+            feeds += 1;
             front = after;
         }
         rest = after;
     }
-    front
-}
-
-fn feed_at(bytes: &[u8]) -> Option<usize>
-    ensures { result ≡ position is_feed_lem bytes.now }
-{
-    bytes.iter().position(|b| is_feed(*b))
+    (feeds, front)
 }
 
 fn first_line(bytes: &[u8]) -> &[u8]
     ensures { result.now ≡ first_line_lem bytes.now }
 {
-    match feed_at(bytes) {
-        Some(n) => bytes.split_at(n).0,
-        None => bytes,
+    let mut n = 0;
+    'bytes: while n < bytes.len() && !is_feed(bytes[n]) {
+        n += 1;
     }
+    &bytes[..n]
 }
 
 fn below(b: u8) -> u8
@@ -70,8 +63,9 @@ fn put_below(out: &mut Vec<u8>, bytes: &[u8]) -> Result<(), AllocError>
 fn head(alloc: Global, name: &str, before: &[u8]) -> Result<String, AllocError>
     ensures { IfOk result (λ text. string_bytes text ≡ place_text name.now before.now) }
 {
-    let line = feeds(before) + 1;
-    let column = last_line(before).len() + 1;
+    let (feeds, front) = last_line(before);
+    let line = feeds + 1;
+    let column = front.len() + 1;
     format!(in alloc; "{name}:{line}:{column}: ")
 }
 
@@ -103,6 +97,6 @@ pub fn report(
     let mut out = Vec::from_slice(alloc, head.as_bytes())?;
     out.extend_from_slice(message)?;
     out.push(b'\n')?;
-    put_marked(&mut out, last_line(before), rest)?;
+    put_marked(&mut out, last_line(before).1, rest)?;
     Ok(out)
 }

@@ -1,18 +1,16 @@
 //! What is written of a call that names no schema.
 
-ghost use Rattle.std.specs.Prelude.{◌≡◌, IfOk, position};
+ghost use Rattle.std.specs.Prelude.{◌≡◌, IfOk};
 ghost use Rattle.std.specs.Option.{option_map};
 ghost use Rattle.planus_commands.specs.Arguments.{asked};
 ghost use Rattle.planus_commands.specs.Arguments.{unknown_command as unknown_command_asked};
 ghost use Rattle.planus_commands.specs.Arguments.{unknown_option as unknown_option_asked};
 ghost use Rattle.planus_commands.specs.Arguments.{no_number as no_number_asked};
 ghost use Rattle.planus_commands.specs.Said.{first_letter as first_letter_lem};
-ghost use Rattle.planus_commands.specs.Said.{is_letter as is_letter_lem};
 ghost use Rattle.planus_commands.specs.Said.{command_hint as command_hint_lem};
 ghost use Rattle.planus_commands.specs.Said.{option_hint as option_hint_lem};
 ghost use Rattle.planus_commands.specs.Said.{help_of as help_of_lem, help_text, no_value_text};
-ghost use Rattle.planus_commands.specs.Said.{on_output as on_output_lem};
-ghost use Rattle.planus_commands.specs.Said.{on_errors as on_errors_lem};
+ghost use Rattle.planus_commands.specs.Said.{said_text as said_text_lem};
 ghost use Rattle.planus_commands.specs.Said.{said_of as said_of_lem, said_view, Says};
 ghost use Rattle.std.specs.Io.KnownBytes.{Appends, Keeps};
 
@@ -73,26 +71,16 @@ pub struct Said {
     pub text: String,
 }
 
-fn is_letter(b: u8) -> bool
-    ensures { result ≡ is_letter_lem b }
-{
-    b != b'-'
-}
-
-fn letter_place(bytes: &[u8]) -> Option<usize>
-    ensures { result ≡ position is_letter_lem bytes.now }
-{
-    bytes.iter().position(|b| is_letter(*b))
-}
-
 fn first_letter(word: &str) -> Option<u8>
     ensures { result ≡ first_letter_lem word.now }
 {
     let bytes = word.as_bytes();
-    match letter_place(bytes) {
-        Some(i) => Some(bytes[i]),
-        None => None,
+    'bytes: for b in bytes {
+        if *b != b'-' {
+            return Some(*b);
+        }
     }
+    None
 }
 
 fn command_hint(word: &str) -> &'static str
@@ -155,18 +143,11 @@ fn no_value(choice: Choice) -> &'static str
     }
 }
 
-fn on_output(alloc: Global, text: &str) -> Result<Option<Said>, AllocError>
-    ensures { IfOk result (λ said. option_map said_view said ≡ on_output_lem text.now) }
+fn said_text(alloc: Global, wrong: bool, text: &str) -> Result<Option<Said>, AllocError>
+    ensures { IfOk result (λ said. option_map said_view said ≡ said_text_lem wrong text.now) }
 {
     let text = String::from_str(alloc, text)?;
-    Ok(Some(Said { wrong: false, text }))
-}
-
-fn on_errors(alloc: Global, text: &str) -> Result<Option<Said>, AllocError>
-    ensures { IfOk result (λ said. option_map said_view said ≡ on_errors_lem text.now) }
-{
-    let text = String::from_str(alloc, text)?;
-    Ok(Some(Said { wrong: true, text }))
+    Ok(Some(Said { wrong, text }))
 }
 
 fn unknown_command(alloc: Global, word: &str) -> Result<Option<Said>, AllocError>
@@ -201,18 +182,18 @@ pub fn said_of(alloc: Global, request: &Request<'_>) -> Result<Option<Said>, All
 {
     match request {
         Request::Run { .. } => Ok(None),
-        Request::Help => on_output(alloc, help()),
-        Request::HelpOf(command) => on_output(alloc, help_of(*command)),
-        Request::Version => on_output(alloc, VERSION),
-        Request::NoCommand => on_errors(alloc, help()),
+        Request::Help => said_text(alloc, false, help()),
+        Request::HelpOf(command) => said_text(alloc, false, help_of(*command)),
+        Request::Version => said_text(alloc, false, VERSION),
+        Request::NoCommand => said_text(alloc, true, help()),
         Request::UnknownCommand(word) => unknown_command(alloc, *word),
         Request::UnknownOption(command, word) => unknown_option(alloc, *command, *word),
-        Request::NoValue(choice) => on_errors(alloc, no_value(*choice)),
-        Request::NoSchema => on_errors(alloc, NO_SCHEMA),
-        Request::NoBuffer => on_errors(alloc, NO_BUFFER),
+        Request::NoValue(choice) => said_text(alloc, true, no_value(*choice)),
+        Request::NoSchema => said_text(alloc, true, NO_SCHEMA),
+        Request::NoBuffer => said_text(alloc, true, NO_BUFFER),
         Request::NoNumber(word) => no_number(alloc, *word),
-        Request::SeveralSchemas => on_errors(alloc, SEVERAL_SCHEMAS),
-        Request::NoOutput => on_errors(alloc, NO_OUTPUT),
+        Request::SeveralSchemas => said_text(alloc, true, SEVERAL_SCHEMAS),
+        Request::NoOutput => said_text(alloc, true, NO_OUTPUT),
     }
 }
 

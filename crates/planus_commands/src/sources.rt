@@ -37,13 +37,6 @@ struct Lists {
 }
 
 impl Sources {
-    fn new(alloc: Global) -> Sources {
-        Sources {
-            begun: Vec::new(alloc),
-            read: Vec::new(alloc),
-        }
-    }
-
     fn begin(&mut self, alloc: Global, name: &str) -> Result<(), AllocError> {
         self.begun.push(Vec::from_slice(alloc, name.as_bytes())?)?;
         Ok(())
@@ -71,7 +64,7 @@ fn lists_of(alloc: Global, read: Vec<Source>) -> Result<Lists, AllocError>
 }
 
 /// Returns the bytes of a file, or of standard input for `-`.
-pub fn read_text<R: Files + AllocGlobal, S: Read>(
+fn read_text<R: Files + AllocGlobal, S: Read>(
     rt: &R,
     name: &str,
     input: &mut S,
@@ -107,10 +100,6 @@ pub fn text_of<R: Files + AllocGlobal, S: Read, X: Write>(
     Ok(Some(text))
 }
 
-fn exists<R: Files>(rt: &R, name: &str) -> bool {
-    fs::open(rt, name).is_ok()
-}
-
 /// The folder of the including file comes first.
 fn included<R: Files + AllocGlobal>(
     rt: &R,
@@ -119,12 +108,12 @@ fn included<R: Files + AllocGlobal>(
     path: &str,
 ) -> Result<Option<String>, AllocError> {
     let beside = file_beside(rt.alloc(), name, path)?;
-    if exists(rt, beside.as_str()) {
+    if fs::open(rt, beside.as_str()).is_ok() {
         return Ok(Some(beside));
     }
     for folder in folders {
         let found = file_in(rt.alloc(), *folder, path)?;
-        if exists(rt, found.as_str()) {
+        if fs::open(rt, found.as_str()).is_ok() {
             return Ok(Some(found));
         }
     }
@@ -246,7 +235,10 @@ pub fn schema_of<R: Files + AllocGlobal, S: Read, X: Write>(
     errors: &mut X,
 ) -> Result<Result<Schema, u8>, RunError> {
     let alloc = rt.alloc();
-    let mut sources = Sources::new(alloc);
+    let mut sources = Sources {
+        begun: Vec::new(alloc),
+        read: Vec::new(alloc),
+    };
     let status = load(
         rt,
         folders,

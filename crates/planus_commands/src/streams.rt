@@ -16,7 +16,7 @@ pub const GREATEST_TEXT: usize = 16777216;
 const MOST_READ: usize = 8192;
 
 /// Why a text was not read, or a report not written.
-#[derive(Clone, Copy, Debug, PartialEq, Eq)]
+#[derive(Clone, Copy)]
 pub enum RunError {
     /// Memory was refused.
     OutOfMemory,

@@ -73,7 +73,15 @@ fn is_ink(b: u8) -> bool
 fn ink(bytes: &[u8]) -> usize
     ensures { result ≡ ink_of bytes.now }
 {
-    bytes.iter().filter(|b| is_ink(**b)).count()
+    let mut n = 0;
+    let mut rest = bytes;
+    'bytes: while let Some((first, after)) = rest.split_first() {
+        if is_ink(*first) {
+            n += 1;
+        }
+        rest = after;
+    }
+    n
 }
 
 /// Returns whether a text has comments that `out`, its canonical text, lacks.
