@@ -19,7 +19,7 @@ use planus_syntax::Declaration;
 use std::alloc::{AllocError, Global};
 use std::io::Write;
 
-/// A file: what reports call it, and its text.
+/// A file, as reports call it.
 #[derive(Drop)]
 pub struct File {
     pub name: String,

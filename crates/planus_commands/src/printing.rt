@@ -20,7 +20,6 @@ use std::rt::Files;
 #[derive(Clone, Copy)]
 struct Folder<'a> {
     path: &'a str,
-    /// The crate's name.
     name: &'a str,
     /// Whether its files are compared and none is written.
     check: bool,

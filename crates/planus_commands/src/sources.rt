@@ -120,7 +120,7 @@ fn included<R: Files + AllocGlobal>(
     Ok(None)
 }
 
-/// Reads at most `left` files deep. Returns the exit status.
+/// Reads at most `left` files deep.
 #[cycle(load)]
 fn load<R: Files + AllocGlobal, S: Read, X: Write>(
     rt: &R,

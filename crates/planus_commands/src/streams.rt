@@ -12,7 +12,7 @@ use std::io::{ErrorKind, Read, Write};
 /// The greatest length of a text, in bytes.
 pub const GREATEST_TEXT: usize = 16777216;
 
-/// The most bytes read at once.
+/// Bytes read at once.
 const MOST_READ: usize = 8192;
 
 /// Why a text was not read, or a report not written.
