@@ -1,7 +1,8 @@
 //! Tables `Company`.
 
-ghost use Rattle.planus_laws.specs.Printed.{◌∷◌, [], codes, IsTextField, IsBytesField, text_kind};
-ghost use Rattle.planus_laws.specs.Printed.{bytes_kind, optional};
+ghost use Rattle.std.specs.Prelude.{◌∷◌, [], codes};
+ghost use Rattle.planus_laws.specs.Printed.{IsTextField, IsBytesField, text_kind, bytes_kind};
+ghost use Rattle.planus_laws.specs.Printed.{optional};
 
 use planus::table_reader::Table;
 use planus::{

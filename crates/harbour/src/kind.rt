@@ -1,6 +1,6 @@
 //! Enum `Kind`.
 
-ghost use Rattle.planus_laws.specs.Printed.{◌≡◌};
+ghost use Rattle.std.specs.Prelude.{◌≡◌};
 ghost use Rattle.harbour.specs.Kind.{kind_is};
 ghost use Rattle.harbour.specs.Kind.{kind_shape};
 

@@ -1,6 +1,6 @@
 //! Enum `Level`.
 
-ghost use Rattle.planus_laws.specs.Printed.{◌≡◌};
+ghost use Rattle.std.specs.Prelude.{◌≡◌};
 ghost use Rattle.harbour.specs.Level.{level_is};
 ghost use Rattle.harbour.specs.Level.{level_shape};
 

@@ -1,6 +1,6 @@
 //! Flags `Needs`.
 
-ghost use Rattle.planus_laws.specs.Printed.{◌≡◌, ◌==◌, bit_and, bit_or};
+ghost use Rattle.std.specs.Prelude.{◌≡◌, ◌==◌, bit_and, bit_or};
 ghost use Rattle.harbour.specs.Needs.{needs_shape};
 
 use planus::errors::ErrorKind;

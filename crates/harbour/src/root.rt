@@ -1,9 +1,10 @@
 //! The root of a buffer.
 
-ghost use Rattle.planus_laws.specs.Printed.{◌↔◌, codes, IfOk, IsTrue, Some, sem, BytesStand};
-ghost use Rattle.planus_laws.specs.Printed.{IsPrefixed, FinishGives, SizedFinishGives, EndsAs};
-ghost use Rattle.planus_laws.specs.Printed.{FinishLeaves, SizedFinishLeaves, IsIn, IsPrepared};
-ghost use Rattle.planus_laws.specs.Printed.{IsRoot, IsSizedRoot};
+ghost use Rattle.std.specs.Prelude.{◌↔◌, codes, IfOk, IsTrue, Some};
+ghost use Rattle.std.specs.Borrow.{sem};
+ghost use Rattle.planus_laws.specs.Printed.{BytesStand, IsPrefixed, FinishGives, SizedFinishGives};
+ghost use Rattle.planus_laws.specs.Printed.{EndsAs, FinishLeaves, SizedFinishLeaves, IsIn};
+ghost use Rattle.planus_laws.specs.Printed.{IsPrepared, IsRoot, IsSizedRoot};
 ghost use Rattle.harbour.specs.declared.ship.Ship.{Ship};
 
 use crate::FILE_IDENTIFIER;

@@ -2,11 +2,21 @@ use crate::at::At;
 use crate::printer::Printer;
 use crate::words::Words;
 
-/// The module that passes on the words of clauses and definitions, and these words.
-const PASSED_ON: &str = "planus_laws.specs.Printed";
-
-const WORDS: &str =
-    "◌≡◌ ◌≤◌ ◌==◌ ◌↔◌ ◌∷◌ [] ℕ ℤ Bool List Option length codes pos negsuc nat_eq true false bit_and bit_or IfOk IsOkAnd IsTrue MatchOption ⊤ Some None sem w8 w16 w32 w64 int_eq Table BytesStand Numbered u8_enum u16_enum u32_enum u64_enum i8_enum i16_enum i32_enum i64_enum Shape u8_shape u16_shape u32_shape u64_shape i8_shape i16_shape i32_shape i64_shape bool_shape f32_shape f64_shape IsPrefixed field force_align no_more struct_layout struct_shape FinishGives SizedFinishGives EndsAs FinishLeaves SizedFinishLeaves IsIn AllIn AllUnionsIn IsPrepared IsPlainVector IsPlainVectorRequired IsPlainRequired IsTextField IsTextRequired IsBytesField IsBytesRequired IsTextVector IsTextVectorRequired IsTableField IsTableRequired IsTableVector IsTableVectorRequired plain_kind text_kind bytes_kind table_kind IsPlainField IsPlainFieldOr IsRoot IsUnionField IsUnionRequired IsUnionVector IsUnionVectorRequired ReadsVariants UnionVariant table_variant plains judged texts tables optional required plain_if plain_or number_or signed_or union union_required unions unions_required IsSizedRoot";
+/// The words that clauses and definitions may need, by their modules: of the library those that
+/// `Printed` passes on.
+const WORDS: [(&str, &str); 5] = [
+    (
+        "std.specs.Prelude",
+        "◌≡◌ ◌≤◌ ◌==◌ ◌↔◌ ◌∷◌ [] ℕ ℤ Bool List Option length codes pos negsuc nat_eq true false bit_and bit_or IfOk IsOkAnd IsTrue MatchOption ⊤ Some None",
+    ),
+    ("std.specs.Borrow", "sem"),
+    ("std.specs.Int", "w8 w16 w32 w64"),
+    ("std.specs.Ordering", "int_eq"),
+    (
+        "planus_laws.specs.Printed",
+        "Table BytesStand Numbered u8_enum u16_enum u32_enum u64_enum i8_enum i16_enum i32_enum i64_enum Shape u8_shape u16_shape u32_shape u64_shape i8_shape i16_shape i32_shape i64_shape bool_shape f32_shape f64_shape IsPrefixed field force_align no_more struct_layout struct_shape FinishGives SizedFinishGives EndsAs FinishLeaves SizedFinishLeaves IsIn AllIn AllUnionsIn IsPrepared IsPlainVector IsPlainVectorRequired IsPlainRequired IsTextField IsTextRequired IsBytesField IsBytesRequired IsTextVector IsTextVectorRequired IsTableField IsTableRequired IsTableVector IsTableVectorRequired plain_kind text_kind bytes_kind table_kind IsPlainField IsPlainFieldOr IsRoot IsUnionField IsUnionRequired IsUnionVector IsUnionVectorRequired ReadsVariants UnionVariant table_variant plains judged texts tables optional required plain_if plain_or number_or signed_or union union_required unions unions_required IsSizedRoot",
+    ),
+];
 
 /// The module of words of proofs.
 const OF_PROOFS: &str = "std.proofs.Common";
@@ -84,6 +94,12 @@ impl<'a> Printer<'a> {
         }
     }
 
+    fn put_words(&mut self, imports: Imports<'_>) {
+        for (path, names) in WORDS {
+            self.put_row(imports, path, names);
+        }
+    }
+
     fn put_own(&mut self, imports: Imports<'_>, template: &str, at: At, wanted: bool) {
         if wanted {
             self.put_str(imports.start);
@@ -115,7 +131,7 @@ impl<'a> Printer<'a> {
             end: ";\n",
             own: None,
         };
-        self.put_row(imports, PASSED_ON, WORDS);
+        self.put_words(imports);
         for index in order {
             self.put_owns(imports, *index);
         }
@@ -128,7 +144,7 @@ impl<'a> Printer<'a> {
             end: "\n",
             own: Some(own),
         };
-        self.put_row(imports, PASSED_ON, WORDS);
+        self.put_words(imports);
         self.put_row(imports, OF_PROOFS, PROOF_WORDS);
         for index in order {
             self.put_owns(imports, *index);

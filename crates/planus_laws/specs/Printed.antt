@@ -1,10 +1,4 @@
 -- The words of clauses and definitions of printed code, passed on from where they are defined.
-pub use Rattle.std.specs.Prelude.{◌≡◌, ◌≤◌, ◌==◌, ◌↔◌, ◌∷◌, [], ℕ, ℤ, Bool, List, Option, length}
-pub use Rattle.std.specs.Prelude.{codes, pos, negsuc, nat_eq, true, false, bit_and, bit_or, IfOk}
-pub use Rattle.std.specs.Prelude.{IsOkAnd, IsTrue, MatchOption, ⊤, Some, None}
-pub use Rattle.std.specs.Borrow.{sem}
-pub use Rattle.std.specs.Int.{w8, w16, w32, w64}
-pub use Rattle.std.specs.Ordering.{int_eq}
 pub use Rattle.planus.specs.read.declared.table_reader.Table.{Table}
 pub use Rattle.planus.specs.read.Bytes.{BytesStand}
 pub use Rattle.planus.specs.read.Enums.{Numbered, u8_enum, u16_enum, u32_enum, u64_enum, i8_enum}
