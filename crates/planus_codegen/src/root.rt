@@ -3,10 +3,10 @@ use crate::context::Context;
 use crate::printer::Printer;
 
 const READ: &str =
-    "/// Reads the root of a buffer.\npub fn read_as_root(^bytes: &[u8]^) -> planus::Result<$TRef<'_>>\n    ensures {~IsRoot~$T~(codes \"[$TRef]\")~(λ view. view.table)~bytes.now~result }\n{\n    read_root(bytes)\n}\n";
+    "/// Reads the root of a buffer.\npub fn read_as_root(^bytes: &[u8]^) -> planus::Result<$TRef<'_>>\n    ensures {~IsRoot~$T~(codes \"[$TRef]\")~(λ view. view.0)~bytes.now~result }\n{\n    read_root(bytes)\n}\n";
 
 const READ_SIZED: &str =
-    "\n/// Reads the root of the first of these size-prefixed buffers, and returns what follows it too.\npub fn read_size_prefixed_as_root(^bytes: &[u8]^) -> Result<($TRef<'_>, &[u8]), ErrorKind>\n    ensures { IsSizedRoot (λ view. view.table) bytes.now result }\n{\n    read_sized_root(bytes)\n}\n";
+    "\n/// Reads the root of the first of these size-prefixed buffers, and returns what follows it too.\npub fn read_size_prefixed_as_root(^bytes: &[u8]^) -> Result<($TRef<'_>, &[u8]), ErrorKind>\n    ensures { IsSizedRoot (λ view. view.0) bytes.now result }\n{\n    read_sized_root(bytes)\n}\n";
 
 const FINISH: &str =
     "\n/// Finishes a buffer with this root and the file identifier, as [`Builder::finish`].\npub fn finish_root(^builder: &mut Builder,^root: Offset<$T>^) -> Result<&[u8], BuildError>\n    requires { IsIn builder.old root }\n    ensures bytes {~IfOk~result~(λ bytes.~FinishGives~(IsPrepared root)~(Some FILE_IDENTIFIER)~builder.old~bytes.now) }\n    ensures* after {~sem~𝓛~(EndsAs~builder.entry~(FinishLeaves~(IsPrepared root)~(Some FILE_IDENTIFIER)~builder.old~result)) }\n{\n    builder.finish(root, Some(FILE_IDENTIFIER))\n}\n";

@@ -5,10 +5,10 @@ use planus_layout::{Base, TableField};
 use planus_plan::{Line, Plan};
 
 const VIEW: &str =
-    "/// One in a buffer.\n#[derive(Clone, Copy)]\npub struct $TRef<'a> {\n    table: Table<'a>,\n}\n\n";
+    "/// One in a buffer.\n#[derive(Clone, Copy)]\npub struct $TRef<'a>(Table<'a>);\n\n";
 
 const TABLE_VIEW: &str =
-    "impl<'a> TableView<'a> for $TRef<'a> {\n    type %Kind = $T;\n\n    ghost table = { λ view. view.table };\n\n    fn of_table(read: Table<'a>) -> $TRef<'a> {\n        $TRef { table: read }\n    }\n}\n\n";
+    "impl<'a> TableView<'a> for $TRef<'a> {\n    type %Kind = $T;\n\n    ghost table = { λ view. view.0 };\n\n    fn of_table(read: Table<'a>) -> $TRef<'a> {\n        $TRef(read)\n    }\n}\n\n";
 
 /// The clause of the function that reads a vector.
 fn vector_clause(field: &TableField) -> &'static str {
@@ -32,8 +32,8 @@ fn value_clause(field: &TableField) -> &'static str {
     match (field.kind.base, field.required) {
         (Base::Text, false) => "~IsTextField",
         (Base::Text, true) => "~IsTextRequired",
-        (Base::Table(_), false) => "~IsTableField~$t~(λ view. view.table)",
-        (Base::Table(_), true) => "~IsTableRequired~$t~(λ view. view.table)",
+        (Base::Table(_), false) => "~IsTableField~$t~(λ view. view.0)",
+        (Base::Table(_), true) => "~IsTableRequired~$t~(λ view. view.0)",
         (Base::Union(_), false) => "~IsUnionField~(ReadsVariants $h_variants)",
         (Base::Union(_), true) => "~IsUnionRequired~(ReadsVariants $h_variants)",
         _ if has_default(field) => "~IsPlainFieldOr~$h_shape~$K",
@@ -77,18 +77,18 @@ fn value_function(field: &TableField) -> &'static str {
 /// The rest of the clause: also the kind of a union that may be absent.
 fn clause_end(field: &TableField) -> &'static str {
     if is_union(field.kind) && !field.kind.vector && !field.required {
-        "~self.now.table~$r~(codes \"$T\")~(codes \"$s\")~$t~result }\n    {\n"
+        "~self.now.0~$r~(codes \"$T\")~(codes \"$s\")~$t~result }\n    {\n"
     } else {
-        "~self.now.table~$r~(codes \"$T\")~(codes \"$s\")~result }\n    {\n"
+        "~self.now.0~$r~(codes \"$T\")~(codes \"$s\")~result }\n    {\n"
     }
 }
 
 /// The arguments of the call.
 fn arguments(field: &TableField) -> &'static str {
     if has_default(field) {
-        "(^&self.table,^$r,^$D,^\"$T\",^\"$s\"^)\n    }\n"
+        "(^&self.0,^$r,^$D,^\"$T\",^\"$s\"^)\n    }\n"
     } else {
-        "(^&self.table,^$r,^\"$T\",^\"$s\"^)\n    }\n"
+        "(^&self.0,^$r,^\"$T\",^\"$s\"^)\n    }\n"
     }
 }
 

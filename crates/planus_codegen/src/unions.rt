@@ -19,10 +19,10 @@ const VECTOR: &str =
     "            _ => Err(ErrorKind::UnknownUnionTag { tag }),\n        }\n    }\n}\n\nimpl<'a> VectorReadUnion<'a> for $TRef<'a> {\n    ghost name = { codes \"[$T]\" };\n\n    fn vector_name() -> &'static str\n        ensures {~result.now ≡~codes \"[$T]\" }\n    {\n        \"[$T]\"\n    }\n}\n";
 
 const ONLY: &str =
-    "abbrev pub $M_$g : $TRef → Option Table\n$M_$g ($M_ref.$n view) = Some view.table\n\n";
+    "abbrev pub $M_$g : $TRef → Option Table\n$M_$g ($M_ref.$n view) = Some view.0\n\n";
 
 const ONE_OF: &str =
-    "abbrev pub $M_$g : $TRef → Option Table\n$M_$g ($M_ref.$n view) = Some view.table\n$M_$g _ = None\n\n";
+    "abbrev pub $M_$g : $TRef → Option Table\n$M_$g ($M_ref.$n view) = Some view.0\n$M_$g _ = None\n\n";
 
 const VARIANTS: &str =
     "-- by their tags\nabbrev pub $M_variants : List (UnionVariant $TRef)\n$M_variants =";
