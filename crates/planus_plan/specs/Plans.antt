@@ -1,10 +1,12 @@
 -- The order in which a table's fields are written, and its vtable's size.
 use Rattle.std.specs.Prelude.{◌≡◌, ℕ, ◌+◌, ◌-◌, ◌*◌, List, [], ◌∷◌, map, length, Option, Some}
-use Rattle.std.specs.Prelude.{None, if◌then◌else◌}
+use Rattle.std.specs.Prelude.{None, if◌then◌else◌, Bool, true, false, ◌||◌}
 use Rattle.std.specs.List.Sorted.{IsPermutation, IsNonDecreasingBy}
 use Rattle.planus_layout.specs.Layouts.{measure_in, body_in}
 use Rattle.planus_layout.specs.Slots.{slots_taken, AreSlots}
 use Rattle.planus_layout.specs.declared.measure.Measure.{Measure}
+use Rattle.planus_layout.specs.declared.schema.Base.{Base}
+use Rattle.planus_layout.specs.declared.schema.Base.TheVariants as base
 use Rattle.planus_layout.specs.declared.schema.Declared.{Declared}
 use Rattle.planus_layout.specs.declared.schema.FieldType.{FieldType}
 use Rattle.planus_layout.specs.declared.schema.TableField.{TableField}
@@ -56,3 +58,11 @@ pub record IsPlan (ds : List Declared) (table : ℕ) (fields : List TableField) 
     pub once : IsPermutation p.lines.items p.order.items
     pub falls : Falls p.order.items
     pub size : AreSlots (slots_taken fields) → p.vtable_size ≡ 4 + 2 * length (slots_taken fields)
+
+abbrev pub is_text : Base → Bool
+is_text base.Text = true
+is_text _ = false
+
+-- a vector or a string
+abbrev pub is_borrowed : FieldType → Bool
+is_borrowed kind = kind.vector || is_text kind.base

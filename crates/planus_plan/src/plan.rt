@@ -1,9 +1,11 @@
 //! The order in which a table's fields are written.
 
-ghost use Rattle.std.specs.Prelude.{◌≡◌, map, IfOk, OnOk};
+ghost use Rattle.std.specs.Prelude.{◌≡◌, map, IfOk, OnOk, not, ◌&&◌, nat_eq, length};
+ghost use Rattle.std.specs.List.{list_any};
 ghost use Rattle.std.specs.List.Sorted.{IsPermutation};
 ghost use Rattle.planus_plan.specs.Plans.{IsPlan, Falls, line_of, lines_from};
 ghost use Rattle.planus_plan.specs.Plans.{alignment_of as alignment_of_lem};
+ghost use Rattle.planus_plan.specs.Plans.{is_borrowed as is_borrowed_lem};
 
 use planus_layout::{Base, Declared, FieldType, Table, TableField, measure_of, slots_taken};
 use std::alloc::{AllocError, Global};
@@ -39,6 +41,12 @@ fn alignment_of(declared: &[Declared], kind: FieldType) -> usize
         Some(measure) => measure.alignment,
         None => 4,
     }
+}
+
+fn is_borrowed(kind: FieldType) -> bool
+    ensures { result ≡ is_borrowed_lem kind }
+{
+    kind.vector || kind.base == Base::Text
 }
 
 fn lines_of<'a>(
@@ -96,22 +104,23 @@ impl<'a> Plan<'a> {
     }
 
     /// Returns whether a field's argument borrows.
-    pub fn borrows(&self) -> bool {
-        for line in &self.lines {
-            if line.field.kind.vector || line.field.kind.base == Base::Text {
-                return true;
-            }
-        }
-        false
+    pub fn borrows(&self) -> bool
+        ensures { result ≡ list_any (λ l. is_borrowed_lem l.field.now.kind) self.now.lines.items }
+    {
+        self.lines.iter().any(|line| is_borrowed(line.field.kind))
+    }
+
+    fn has_required(&self) -> bool
+        ensures { result ≡ list_any (λ l. l.field.now.required) self.now.lines.items }
+    {
+        self.lines.iter().any(|line| line.field.required)
     }
 
     /// Returns whether there are fields and none is required.
-    pub fn has_defaults(&self) -> bool {
-        for line in &self.lines {
-            if line.field.required {
-                return false;
-            }
-        }
-        !self.lines.is_empty()
+    pub fn has_defaults(&self) -> bool
+        ensures { result ≡ (not (nat_eq (length self.now.lines.items) 0)
+            && not (list_any (λ l. l.field.now.required) self.now.lines.items)) }
+    {
+        !self.lines.is_empty() && !self.has_required()
     }
 }
