@@ -1,5 +1,5 @@
 #!/usr/bin/env python3
-"""Proves what `planus rattle` prints of the schemas of the folder `printed` and of the demo's.
+"""Proves what `planus rattle` prints of the schemas of the folder `printed` and of the orc's.
 
     printed.py [--slots] PROGRAM [NAME]..
 
@@ -31,7 +31,7 @@ def lines_of(crate):
 def read_by(crate):
     """Of each method the table, the field, its slot and, where it is a number, its default; and of
     each struct its name, alignment and size."""
-    call = r'\(\s*&self\.table,\s*(\d+),\s*(?:([-\w:]+),\s*)?"(\w+)",\s*"(\w+)",?\s*\)'
+    call = r'\(\s*&self\.0,\s*(\d+),\s*(?:([-\w:]+),\s*)?"(\w+)",\s*"(\w+)",?\s*\)'
     for file in crate.rglob("*.rt"):
         text = file.read_text()
         if text.startswith("//! Structs `"):
@@ -49,7 +49,7 @@ def written_otherwise(crate):
     plain = r"(?:optional|required|plain_if|union|unions|union_required|unions_required) .*?"
     usual = r"number_or \w+|signed_or \w+ w\d+|plain_or \w+ \S+ as \w+>⟧\.eq"
     line = rf"^ +(?:{plain}|{usual}) (\d+) (?:[^∷]* )?fields\.«?(\w+)»? ∷"
-    method = r"pub fn (\w+)\(&self\).*?&self\.table,\s*(\d+),"
+    method = r"pub fn (\w+)\(&self\).*?&self\.0,\s*(\d+),"
     for file in crate.rglob("*.rt"):
         text = file.read_text()
         if text.startswith("//! Tables `"):
@@ -112,7 +112,7 @@ def proved(repository, name):
 def main(*words):
     program, *names = [word for word in words if word != "--slots"]
     program = pathlib.Path(program).resolve()
-    schemas = [*sorted((HERE / "printed").glob("*.fbs")), REPOSITORY / "crates/planus_demo/monster.fbs"]
+    schemas = [*sorted((HERE / "printed").glob("*.fbs")), REPOSITORY / "crates/monsters/monster.fbs"]
     schemas = [file for file in schemas if file.stem in names or not names]
     with tempfile.TemporaryDirectory() as folder:
         repository = pathlib.Path(folder) / "copy"

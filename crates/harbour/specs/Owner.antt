@@ -5,11 +5,11 @@ use Rattle.harbour.specs.declared.owner.OwnerRef.TheVariants as owner_ref
 use Rattle.harbour.specs.declared.owner.OwnerRef.{OwnerRef}
 
 abbrev pub owner_1 : OwnerRef → Option Table
-owner_1 (owner_ref.Person view) = Some view.table
+owner_1 (owner_ref.Person view) = Some view.0
 owner_1 _ = None
 
 abbrev pub owner_2 : OwnerRef → Option Table
-owner_2 (owner_ref.Firm view) = Some view.table
+owner_2 (owner_ref.Firm view) = Some view.0
 owner_2 _ = None
 
 -- by their tags

@@ -24,8 +24,7 @@ pub struct CompanyFields<'a> {
 impl<'a> Create<CompanyFields<'a>> for Company {
     ghost lines = { λ fields.
         optional text_kind 0 fields.title ∷
-        optional bytes_kind 1 fields.vat ∷
-        [] };
+        optional bytes_kind 1 fields.vat ∷ [] };
 
     fn create(builder: &mut Builder, fields: CompanyFields<'a>) -> Built<Company> {
         let lines = fields![
@@ -38,33 +37,31 @@ impl<'a> Create<CompanyFields<'a>> for Company {
 
 /// One in a buffer.
 #[derive(Clone, Copy)]
-pub struct CompanyRef<'a> {
-    table: Table<'a>,
-}
+pub struct CompanyRef<'a>(Table<'a>);
 
 impl<'a> CompanyRef<'a> {
     /// Returns `title`.
     pub fn title(&self) -> Result<Option<&'a str>>
-        ensures { IsTextField self.now.table 0 (codes "Company") (codes "title") result }
+        ensures { IsTextField self.now.0 0 (codes "Company") (codes "title") result }
     {
-        text_field(&self.table, 0, "Company", "title")
+        text_field(&self.0, 0, "Company", "title")
     }
 
     /// Returns `vat`.
     pub fn vat(&self) -> Result<Option<&'a [u8]>>
-        ensures { IsBytesField self.now.table 1 (codes "Company") (codes "vat") result }
+        ensures { IsBytesField self.now.0 1 (codes "Company") (codes "vat") result }
     {
-        bytes_field(&self.table, 1, "Company", "vat")
+        bytes_field(&self.0, 1, "Company", "vat")
     }
 }
 
 impl<'a> TableView<'a> for CompanyRef<'a> {
     type Kind = Company;
 
-    ghost table = { λ view. view.table };
+    ghost table = { λ view. view.0 };
 
     fn of_table(read: Table<'a>) -> CompanyRef<'a> {
-        CompanyRef { table: read }
+        CompanyRef(read)
     }
 }
 

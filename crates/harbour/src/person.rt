@@ -24,8 +24,7 @@ pub struct PersonFields<'a> {
 impl<'a> Create<PersonFields<'a>> for Person {
     ghost lines = { λ fields.
         required text_kind 0 fields.name ∷
-        number_or u8_shape 1 18 fields.age ∷
-        [] };
+        number_or u8_shape 1 18 fields.age ∷ [] };
 
     fn create(builder: &mut Builder, fields: PersonFields<'a>) -> Built<Person> {
         let lines = fields![
@@ -38,34 +37,31 @@ impl<'a> Create<PersonFields<'a>> for Person {
 
 /// One in a buffer.
 #[derive(Clone, Copy)]
-pub struct PersonRef<'a> {
-    table: Table<'a>,
-}
+pub struct PersonRef<'a>(Table<'a>);
 
 impl<'a> PersonRef<'a> {
     /// Returns `name`.
     pub fn name(&self) -> Result<&'a str>
-        ensures { IsTextRequired self.now.table 0 (codes "Person") (codes "name") result }
+        ensures { IsTextRequired self.now.0 0 (codes "Person") (codes "name") result }
     {
-        text_required(&self.table, 0, "Person", "name")
+        text_required(&self.0, 0, "Person", "name")
     }
 
     /// Returns `age`.
     pub fn age(&self) -> Result<u8>
-        ensures { IsPlainFieldOr u8_shape 18 self.now.table 1 (codes "Person") (codes "age")
-            result }
+        ensures { IsPlainFieldOr u8_shape 18 self.now.0 1 (codes "Person") (codes "age") result }
     {
-        plain_field_or(&self.table, 1, 18, "Person", "age")
+        plain_field_or(&self.0, 1, 18, "Person", "age")
     }
 }
 
 impl<'a> TableView<'a> for PersonRef<'a> {
     type Kind = Person;
 
-    ghost table = { λ view. view.table };
+    ghost table = { λ view. view.0 };
 
     fn of_table(read: Table<'a>) -> PersonRef<'a> {
-        PersonRef { table: read }
+        PersonRef(read)
     }
 }
 

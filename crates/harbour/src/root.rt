@@ -15,14 +15,14 @@ use planus_laws::read_sized_root;
 
 /// Reads the root of a buffer.
 pub fn read_as_root(bytes: &[u8]) -> planus::Result<ShipRef<'_>>
-    ensures { IsRoot Ship (codes "[ShipRef]") (λ view. view.table) bytes.now result }
+    ensures { IsRoot Ship (codes "[ShipRef]") (λ view. view.0) bytes.now result }
 {
     read_root(bytes)
 }
 
 /// Reads the root of the first of these size-prefixed buffers, and returns what follows it too.
 pub fn read_size_prefixed_as_root(bytes: &[u8]) -> Result<(ShipRef<'_>, &[u8]), ErrorKind>
-    ensures { IsSizedRoot (λ view. view.table) bytes.now result }
+    ensures { IsSizedRoot (λ view. view.0) bytes.now result }
 {
     read_sized_root(bytes)
 }

@@ -95,7 +95,7 @@ impl<'a> Create<ShipFields<'a>> for Ship {
         plain_if i32_shape 12 fields.maybe ∷
         optional bytes_kind 13 fields.photo ∷
         optional texts 14 fields.names ∷
-        optional (table_kind Ship (λ (view : ShipRef). view.table)) 15 fields.mate ∷
+        optional (table_kind Ship (λ (view : ShipRef). view.0)) 15 fields.mate ∷
         optional (tables Ship) 16 fields.consorts ∷
         optional (judged kind_shape) 17 fields.kinds ∷
         union owner_variants 18 fields.owner ∷
@@ -110,8 +110,7 @@ impl<'a> Create<ShipFields<'a>> for Ship {
         plain_or kind_shape ⟦<Kind as PartialEq>⟧.eq 3 kind_value.Bike fields.kind ∷
         plain_or bool_shape ⟦<bool as PartialEq>⟧.eq 10 true fields.open ∷
         plain_or bool_shape ⟦<bool as PartialEq>⟧.eq 11 false fields.shut ∷
-        plain_if kind_shape 27 fields.which ∷
-        [] };
+        plain_if kind_shape 27 fields.which ∷ [] };
 
     ghost may = { λ fields builder. MatchOption fields.mate ⊤ (λ x. IsIn builder x) ×
         MatchOption fields.consorts ⊤ (λ x. AllIn builder x.now) ×
@@ -153,212 +152,209 @@ impl<'a> Create<ShipFields<'a>> for Ship {
 
 /// One in a buffer.
 #[derive(Clone, Copy)]
-pub struct ShipRef<'a> {
-    table: Table<'a>,
-}
+pub struct ShipRef<'a>(Table<'a>);
 
 impl<'a> ShipRef<'a> {
     /// Its name.
     pub fn name(&self) -> Result<&'a str>
-        ensures { IsTextRequired self.now.table 0 (codes "Ship") (codes "name") result }
+        ensures { IsTextRequired self.now.0 0 (codes "Ship") (codes "name") result }
     {
-        text_required(&self.table, 0, "Ship", "name")
+        text_required(&self.0, 0, "Ship", "name")
     }
 
     /// Returns `hull`.
     pub fn hull(&self) -> Result<u16>
-        ensures { IsPlainFieldOr u16_shape 100 self.now.table 1 (codes "Ship") (codes "hull")
-            result }
+        ensures { IsPlainFieldOr u16_shape 100 self.now.0 1 (codes "Ship") (codes "hull") result }
     {
-        plain_field_or(&self.table, 1, 100, "Ship", "hull")
+        plain_field_or(&self.0, 1, 100, "Ship", "hull")
     }
 
     /// Returns `cargo`.
     pub fn cargo(&self) -> Result<Option<Vector<'a, u32>>>
-        ensures { IsPlainVector self.now.table 2 (codes "Ship") (codes "cargo") result }
+        ensures { IsPlainVector self.now.0 2 (codes "Ship") (codes "cargo") result }
     {
-        plain_vector(&self.table, 2, "Ship", "cargo")
+        plain_vector(&self.0, 2, "Ship", "cargo")
     }
 
     /// Returns `kind`.
     pub fn kind(&self) -> Result<Kind>
-        ensures { IsPlainFieldOr kind_shape kind_value.Bike self.now.table 3 (codes "Ship")
+        ensures { IsPlainFieldOr kind_shape kind_value.Bike self.now.0 3 (codes "Ship")
             (codes "kind") result }
     {
-        plain_field_or(&self.table, 3, Kind::Bike, "Ship", "kind")
+        plain_field_or(&self.0, 3, Kind::Bike, "Ship", "kind")
     }
 
     /// Returns `level`.
     pub fn level(&self) -> Result<Level>
-        ensures { IsPlainFieldOr level_shape level_value.Mid self.now.table 4 (codes "Ship")
+        ensures { IsPlainFieldOr level_shape level_value.Mid self.now.0 4 (codes "Ship")
             (codes "level") result }
     {
-        plain_field_or(&self.table, 4, Level::Mid, "Ship", "level")
+        plain_field_or(&self.0, 4, Level::Mid, "Ship", "level")
     }
 
     /// Returns `needs`.
     pub fn needs(&self) -> Result<Needs>
-        ensures { IsPlainFieldOr needs_shape DEFAULT_NEEDS self.now.table 5 (codes "Ship")
+        ensures { IsPlainFieldOr needs_shape DEFAULT_NEEDS self.now.0 5 (codes "Ship")
             (codes "needs") result }
     {
-        plain_field_or(&self.table, 5, DEFAULT_NEEDS, "Ship", "needs")
+        plain_field_or(&self.0, 5, DEFAULT_NEEDS, "Ship", "needs")
     }
 
     /// Returns `home`.
     pub fn home(&self) -> Result<Option<Pos>>
-        ensures { IsPlainField pos_shape self.now.table 6 (codes "Ship") (codes "home") result }
+        ensures { IsPlainField pos_shape self.now.0 6 (codes "Ship") (codes "home") result }
     {
-        plain_field(&self.table, 6, "Ship", "home")
+        plain_field(&self.0, 6, "Ship", "home")
     }
 
     /// Returns `track`.
     pub fn track(&self) -> Result<Option<Vector<'a, Pos>>>
-        ensures { IsPlainVector self.now.table 7 (codes "Ship") (codes "track") result }
+        ensures { IsPlainVector self.now.0 7 (codes "Ship") (codes "track") result }
     {
-        plain_vector(&self.table, 7, "Ship", "track")
+        plain_vector(&self.0, 7, "Ship", "track")
     }
 
     /// Returns `heat`.
     pub fn heat(&self) -> Result<f32>
-        ensures { IsPlainFieldOr f32_shape DEFAULT_HEAT self.now.table 8 (codes "Ship")
-            (codes "heat") result }
+        ensures { IsPlainFieldOr f32_shape DEFAULT_HEAT self.now.0 8 (codes "Ship") (codes "heat")
+            result }
     {
-        plain_field_or(&self.table, 8, DEFAULT_HEAT, "Ship", "heat")
+        plain_field_or(&self.0, 8, DEFAULT_HEAT, "Ship", "heat")
     }
 
     /// Returns `depth`.
     pub fn depth(&self) -> Result<i16>
-        ensures { IsPlainFieldOr i16_shape (negsuc 4) self.now.table 9 (codes "Ship")
-            (codes "depth") result }
+        ensures { IsPlainFieldOr i16_shape (negsuc 4) self.now.0 9 (codes "Ship") (codes "depth")
+            result }
     {
-        plain_field_or(&self.table, 9, -5, "Ship", "depth")
+        plain_field_or(&self.0, 9, -5, "Ship", "depth")
     }
 
     /// Returns `open`.
     pub fn open(&self) -> Result<bool>
-        ensures { IsPlainFieldOr bool_shape true self.now.table 10 (codes "Ship") (codes "open")
+        ensures { IsPlainFieldOr bool_shape true self.now.0 10 (codes "Ship") (codes "open")
             result }
     {
-        plain_field_or(&self.table, 10, true, "Ship", "open")
+        plain_field_or(&self.0, 10, true, "Ship", "open")
     }
 
     /// Returns `shut`.
     pub fn shut(&self) -> Result<bool>
-        ensures { IsPlainFieldOr bool_shape false self.now.table 11 (codes "Ship") (codes "shut")
+        ensures { IsPlainFieldOr bool_shape false self.now.0 11 (codes "Ship") (codes "shut")
             result }
     {
-        plain_field_or(&self.table, 11, false, "Ship", "shut")
+        plain_field_or(&self.0, 11, false, "Ship", "shut")
     }
 
     /// Returns `maybe`.
     pub fn maybe(&self) -> Result<Option<i32>>
-        ensures { IsPlainField i32_shape self.now.table 12 (codes "Ship") (codes "maybe") result }
+        ensures { IsPlainField i32_shape self.now.0 12 (codes "Ship") (codes "maybe") result }
     {
-        plain_field(&self.table, 12, "Ship", "maybe")
+        plain_field(&self.0, 12, "Ship", "maybe")
     }
 
     /// Returns `photo`.
     pub fn photo(&self) -> Result<Option<&'a [u8]>>
-        ensures { IsBytesField self.now.table 13 (codes "Ship") (codes "photo") result }
+        ensures { IsBytesField self.now.0 13 (codes "Ship") (codes "photo") result }
     {
-        bytes_field(&self.table, 13, "Ship", "photo")
+        bytes_field(&self.0, 13, "Ship", "photo")
     }
 
     /// Returns `names`.
     pub fn names(&self) -> Result<Option<Vector<'a, Result<&'a str>>>>
-        ensures { IsTextVector self.now.table 14 (codes "Ship") (codes "names") result }
+        ensures { IsTextVector self.now.0 14 (codes "Ship") (codes "names") result }
     {
-        text_vector(&self.table, 14, "Ship", "names")
+        text_vector(&self.0, 14, "Ship", "names")
     }
 
     /// Returns `mate`.
     pub fn mate(&self) -> Result<Option<ShipRef<'a>>>
-        ensures { IsTableField Ship (λ view. view.table) self.now.table 15 (codes "Ship")
-            (codes "mate") result }
+        ensures { IsTableField Ship (λ view. view.0) self.now.0 15 (codes "Ship") (codes "mate")
+            result }
     {
-        table_field(&self.table, 15, "Ship", "mate")
+        table_field(&self.0, 15, "Ship", "mate")
     }
 
     /// Returns `consorts`.
     pub fn consorts(&self) -> Result<Option<Vector<'a, Result<TableRef<'a, Ship>>>>>
-        ensures { IsTableVector Ship self.now.table 16 (codes "Ship") (codes "consorts") result }
+        ensures { IsTableVector Ship self.now.0 16 (codes "Ship") (codes "consorts") result }
     {
-        table_vector(&self.table, 16, "Ship", "consorts")
+        table_vector(&self.0, 16, "Ship", "consorts")
     }
 
     /// Returns `kinds`.
     pub fn kinds(&self) -> Result<Option<Vector<'a, Result<Kind>>>>
-        ensures { IsPlainVector self.now.table 17 (codes "Ship") (codes "kinds") result }
+        ensures { IsPlainVector self.now.0 17 (codes "Ship") (codes "kinds") result }
     {
-        plain_vector(&self.table, 17, "Ship", "kinds")
+        plain_vector(&self.0, 17, "Ship", "kinds")
     }
 
     /// Returns `owner`.
     pub fn owner(&self) -> Result<Option<OwnerRef<'a>>>
-        ensures { IsUnionField (ReadsVariants owner_variants) self.now.table 18 (codes "Ship")
+        ensures { IsUnionField (ReadsVariants owner_variants) self.now.0 18 (codes "Ship")
             (codes "owner") Owner result }
     {
-        union_field::<Owner, OwnerRef<'a>>(&self.table, 18, "Ship", "owner")
+        union_field::<Owner, OwnerRef<'a>>(&self.0, 18, "Ship", "owner")
     }
 
     /// Returns `shares`.
     pub fn shares(&self) -> Result<Option<UnionVector<'a, OwnerRef<'a>>>>
-        ensures { IsUnionVector self.now.table 20 (codes "Ship") (codes "shares") result }
+        ensures { IsUnionVector self.now.0 20 (codes "Ship") (codes "shares") result }
     {
-        union_vector(&self.table, 20, "Ship", "shares")
+        union_vector(&self.0, 20, "Ship", "shares")
     }
 
     /// Returns `tall`.
     pub fn tall(&self) -> Result<i64>
-        ensures { IsPlainFieldOr i64_shape (pos 0) self.now.table 23 (codes "Ship") (codes "tall")
+        ensures { IsPlainFieldOr i64_shape (pos 0) self.now.0 23 (codes "Ship") (codes "tall")
             result }
     {
-        plain_field_or(&self.table, 23, 0, "Ship", "tall")
+        plain_field_or(&self.0, 23, 0, "Ship", "tall")
     }
 
     /// Returns `temps`.
     pub fn temps(&self) -> Result<Option<Vector<'a, f64>>>
-        ensures { IsPlainVector self.now.table 24 (codes "Ship") (codes "temps") result }
+        ensures { IsPlainVector self.now.0 24 (codes "Ship") (codes "temps") result }
     {
-        plain_vector(&self.table, 24, "Ship", "temps")
+        plain_vector(&self.0, 24, "Ship", "temps")
     }
 
     /// Returns `deltas`.
     pub fn deltas(&self) -> Result<Option<Vector<'a, i8>>>
-        ensures { IsPlainVector self.now.table 25 (codes "Ship") (codes "deltas") result }
+        ensures { IsPlainVector self.now.0 25 (codes "Ship") (codes "deltas") result }
     {
-        plain_vector(&self.table, 25, "Ship", "deltas")
+        plain_vector(&self.0, 25, "Ship", "deltas")
     }
 
     /// Returns `fix`.
     pub fn fix(&self) -> Result<Fix>
-        ensures { IsPlainRequired fix_shape self.now.table 26 (codes "Ship") (codes "fix") result }
+        ensures { IsPlainRequired fix_shape self.now.0 26 (codes "Ship") (codes "fix") result }
     {
-        plain_required(&self.table, 26, "Ship", "fix")
+        plain_required(&self.0, 26, "Ship", "fix")
     }
 
     /// Returns `which`.
     pub fn which(&self) -> Result<Option<Kind>>
-        ensures { IsPlainField kind_shape self.now.table 27 (codes "Ship") (codes "which") result }
+        ensures { IsPlainField kind_shape self.now.0 27 (codes "Ship") (codes "which") result }
     {
-        plain_field(&self.table, 27, "Ship", "which")
+        plain_field(&self.0, 27, "Ship", "which")
     }
 
     /// Returns `flags`.
     pub fn flags(&self) -> Result<Option<Vector<'a, bool>>>
-        ensures { IsPlainVector self.now.table 28 (codes "Ship") (codes "flags") result }
+        ensures { IsPlainVector self.now.0 28 (codes "Ship") (codes "flags") result }
     {
-        plain_vector(&self.table, 28, "Ship", "flags")
+        plain_vector(&self.0, 28, "Ship", "flags")
     }
 }
 
 impl<'a> TableView<'a> for ShipRef<'a> {
     type Kind = Ship;
 
-    ghost table = { λ view. view.table };
+    ghost table = { λ view. view.0 };
 
     fn of_table(read: Table<'a>) -> ShipRef<'a> {
-        ShipRef { table: read }
+        ShipRef(read)
     }
 }
 

@@ -12,6 +12,8 @@ mod meaning;
 #[cfg(test)]
 mod meaning_rows;
 #[cfg(test)]
+mod monsters;
+#[cfg(test)]
 mod numbers;
 #[cfg(test)]
 mod printed;

@@ -1,0 +1,15 @@
+//! Code of a schema.
+#![tactic(auto)]
+
+mod equipment;
+mod monster;
+mod weapon;
+
+pub use equipment::{Equipment, EquipmentRef};
+pub use monster::{Monster, MonsterFields, MonsterRef};
+pub use planus_laws::Create;
+pub use weapon::{Weapon, WeaponFields, WeaponRef};
+
+mod root;
+
+pub use root::{read_as_root, read_size_prefixed_as_root};

@@ -1,0 +1,78 @@
+//! Tables `Weapon`.
+
+ghost use Rattle.std.specs.Prelude.{◌∷◌, [], codes, pos};
+ghost use Rattle.std.specs.Int.{w16};
+ghost use Rattle.planus_laws.specs.Printed.{i16_shape, IsTextField, text_kind, IsPlainFieldOr};
+ghost use Rattle.planus_laws.specs.Printed.{optional, signed_or};
+
+use planus::table_reader::Table;
+use planus::{
+    Builder, Offset, OrDefault, Result, TableKind, TableView, TableWriter, Text, create_table,
+    fields, plain_field_or, text_field,
+};
+use planus_laws::{Built, Create};
+
+/// What a monster carries.
+pub struct Weapon;
+
+/// The fields of `Weapon`, as [`Weapon::create`] takes them.
+#[derive(Default, Drop)]
+pub struct WeaponFields<'a> {
+    pub name: Option<&'a str>,
+    pub damage: i16,
+}
+
+impl<'a> Create<WeaponFields<'a>> for Weapon {
+    ghost lines = { λ fields.
+        optional text_kind 0 fields.name ∷
+        signed_or i16_shape w16 1 (pos 0) fields.damage ∷ [] };
+
+    fn create(builder: &mut Builder, fields: WeaponFields<'a>) -> Built<Weapon> {
+        let lines = fields![
+            0: Offset<Text> = fields.name,
+            1: i16 = OrDefault { value: fields.damage, default: 0 },
+        ];
+        create_table::<Weapon, _>(builder, lines)
+    }
+}
+
+/// One in a buffer.
+#[derive(Clone, Copy)]
+pub struct WeaponRef<'a>(Table<'a>);
+
+impl<'a> WeaponRef<'a> {
+    /// Returns `name`.
+    pub fn name(&self) -> Result<Option<&'a str>>
+        ensures { IsTextField self.now.0 0 (codes "Weapon") (codes "name") result }
+    {
+        text_field(&self.0, 0, "Weapon", "name")
+    }
+
+    /// Returns `damage`.
+    pub fn damage(&self) -> Result<i16>
+        ensures { IsPlainFieldOr i16_shape (pos 0) self.now.0 1 (codes "Weapon") (codes "damage")
+            result }
+    {
+        plain_field_or(&self.0, 1, 0, "Weapon", "damage")
+    }
+}
+
+impl<'a> TableView<'a> for WeaponRef<'a> {
+    type Kind = Weapon;
+
+    ghost table = { λ view. view.0 };
+
+    fn of_table(read: Table<'a>) -> WeaponRef<'a> {
+        WeaponRef(read)
+    }
+}
+
+impl TableKind for Weapon {
+    type Writer = TableWriter<8>;
+
+    ghost name = { codes "[WeaponRef]" };
+
+    fn name() -> &'static str {
+        "[WeaponRef]"
+    }
+}
