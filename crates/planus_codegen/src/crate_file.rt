@@ -1,3 +1,5 @@
+//! The files of a printed crate.
+
 use crate::arranged::arranged;
 use crate::at::At;
 use crate::context::Context;

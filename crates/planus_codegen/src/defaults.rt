@@ -1,3 +1,5 @@
+//! The defaults of fields.
+
 use crate::context::{Context, is_signed, scalar_name};
 use crate::printer::Printer;
 use crate::types::has_default;

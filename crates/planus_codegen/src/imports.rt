@@ -1,3 +1,5 @@
+//! The imports of clauses and definitions.
+
 use crate::at::At;
 use crate::printer::Printer;
 use crate::words::Words;
@@ -42,9 +44,8 @@ const OWN_DEFINITIONS: [(&str, &str); 5] = [
 ];
 
 /// What follows a type's name in the name of a type, and its import.
-const OWN_TYPES: [(&str, &str); 3] = [
+const OWN_TYPES: [(&str, &str); 2] = [
     ("", " Rattle.$c.specs.declared.$M.$T.{$T}"),
-    ("Fields", " Rattle.$c.specs.declared.$M.$TFields.{$TFields}"),
     ("Ref", " Rattle.$c.specs.declared.$M.$TRef.{$TRef}"),
 ];
 

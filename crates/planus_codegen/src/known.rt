@@ -1,3 +1,5 @@
+//! Names that printed code can't take.
+
 /// Words that are reserved in code.
 const RESERVED: &str =
     "_ NOTHING Self abbrev bool core f32 f64 i16 i32 i64 i8 main planus planus_laws std u16 u32 u64 u8 abstract as async await become box break const continue crate do dyn elim else ensures enum extern false final fn for gen ghost if impl in let loop macro match mod move mut omega override priv prove pub ref requires return self static struct super syntax trait true try type typeof unfolding union unsafe unsized use virtual where while yield";

@@ -308,12 +308,11 @@ impl Names {
         last_word(name_at(&self.places, index))
     }
 
-    /// The indices of namespaces follow those of declarations, and then comes the root's.
+    /// The indices of namespaces follow those of declarations.
     pub(crate) fn module(&self, index: usize) -> &[u8] {
-        match (self.modules.get(index), self.places.get(index)) {
-            (Some(name), _) => name.as_slice(),
-            (None, Some(place)) => last_word(place),
-            (None, None) => b"root",
+        match self.modules.get(index) {
+            Some(name) => name.as_slice(),
+            None => last_word(name_at(&self.places, index)),
         }
     }
 

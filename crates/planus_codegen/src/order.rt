@@ -1,3 +1,5 @@
+//! The order of names in printed lists.
+
 use crate::names::name_at;
 use std::alloc::{AllocError, Global};
 

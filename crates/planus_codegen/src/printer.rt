@@ -1,3 +1,5 @@
+//! A text that is printed.
+
 use crate::at::At;
 use crate::context::Context;
 use std::alloc::AllocError;

@@ -1,3 +1,5 @@
+//! The functions of the root.
+
 use crate::at::At;
 use crate::context::Context;
 use crate::printer::Printer;

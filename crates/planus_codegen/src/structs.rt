@@ -1,3 +1,5 @@
+//! A struct, its layout, and the proof of one with padding.
+
 use crate::at::At;
 use crate::context::Context;
 use crate::holes::has_forced_alignment;

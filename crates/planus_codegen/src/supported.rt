@@ -1,10 +1,12 @@
+//! What the printed code of a schema can't have.
+
 use crate::refusal::Refusal;
 use crate::types::has_default;
 use planus_layout::{Base, Body, Declared, Enum, Table, TableField, Value};
 use std::alloc::Global;
 
-/// How much of a list of fields the checker takes, in the shares of its fields.
-const MOST: usize = 1000;
+/// How many types the checker takes inside the type of a list of fields.
+const MOST: usize = 250;
 
 /// The greatest number of a variant in code.
 const GREATEST_NUMBER: u64 = 9_223_372_036_854_775_807;
@@ -17,26 +19,28 @@ fn unsupported_field(field: &TableField) -> Option<&'static str> {
     }
 }
 
-/// The share of a field in `MOST`: the checker takes 38 numbers with a default, 48 without, or 27
-/// strings, vectors, tables or unions.
-fn share_of(field: &TableField) -> usize {
-    match field.kind.base {
+/// How many types there are in the line of a field.
+fn types_in(field: &TableField) -> usize {
+    match (field.kind.base, field.kind.vector) {
         _ if field.deprecated => 0,
-        _ if has_default(field) => 26,
-        Base::Scalar(_) | Base::Enum(_) | Base::Struct(_) if !field.kind.vector => 20,
-        _ => 37,
+        _ if has_default(field) => 6,
+        (Base::Text | Base::Table(_), true) => 13,
+        (_, true) => 10,
+        (Base::Text | Base::Table(_), false) => 8,
+        (Base::Union(_), false) => 6,
+        (_, false) => 5,
     }
 }
 
 fn unsupported_table(one: &Table) -> Option<&'static str> {
-    let mut shares = 0usize;
+    let mut types = 0usize;
     for field in &one.fields {
         if let Some(what) = unsupported_field(field) {
             return Some(what);
         }
-        shares = shares.saturating_add(share_of(field));
+        types = types.saturating_add(types_in(field));
     }
-    if shares > MOST {
+    if types > MOST {
         return Some("a table with more fields than the checker takes");
     }
     None

@@ -1,3 +1,5 @@
+//! A table's view, with a method for each field.
+
 use crate::at::At;
 use crate::printer::Printer;
 use crate::types::{has_default, is_bytes, is_union};

@@ -1,3 +1,5 @@
+//! A table: its kind, its fields, and how it is created.
+
 use crate::at::At;
 use crate::context::Context;
 use crate::defaults::{default_value, has_constant, is_zero};

@@ -1,3 +1,5 @@
+//! The types of a field: as it is given, encoded and read.
+
 use planus_layout::{Base, FieldType, Scalar, TableField, Value};
 
 pub(crate) fn is_bytes(kind: FieldType) -> bool {

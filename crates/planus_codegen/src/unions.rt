@@ -1,3 +1,5 @@
+//! A union: its kind and the enum of its views.
+
 use crate::at::At;
 use crate::context::Context;
 use crate::printer::Printer;

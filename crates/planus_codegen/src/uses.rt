@@ -1,3 +1,5 @@
+//! The imports of code.
+
 use crate::at::At;
 use crate::context::Context;
 use crate::printer::Printer;

@@ -1,3 +1,5 @@
+//! The words of a text.
+
 use std::alloc::{AllocError, Global};
 
 const ENSURES: &str = "ensures";

@@ -13,7 +13,6 @@ pub use Rattle.planus.specs.write.Finishing.{FinishGives, SizedFinishGives, Ends
 pub use Rattle.planus.specs.write.Finishing.{SizedFinishLeaves}
 pub use Rattle.planus.specs.write.InBuilder.{IsIn, AllIn, AllUnionsIn}
 pub use Rattle.planus.specs.write.Preparing.{IsPrepared}
-pub use Rattle.planus.specs.write.State.{Grows}
 pub use Rattle.planus.specs.Accessors.{IsPlainVector, IsPlainVectorRequired, IsPlainRequired}
 pub use Rattle.planus.specs.Accessors.{IsTextField, IsTextRequired, IsBytesField, IsBytesRequired}
 pub use Rattle.planus.specs.Accessors.{IsTextVector, IsTextVectorRequired, IsTableField}
@@ -24,7 +23,7 @@ pub use Rattle.planus.specs.Roots.{IsRoot}
 pub use Rattle.planus.specs.UnionAccessors.{IsUnionField, IsUnionRequired, IsUnionVector}
 pub use Rattle.planus.specs.UnionAccessors.{IsUnionVectorRequired}
 pub use Rattle.planus.specs.Unions.{ReadsVariants, UnionVariant, table_variant}
-pub use Rattle.planus_laws.specs.FieldLines.{FieldLine, plains, judged, texts, tables, ReadsBack}
+pub use Rattle.planus_laws.specs.FieldLines.{plains, judged, texts, tables}
 pub use Rattle.planus_laws.specs.FieldLines.FieldLine.{optional, required, plain_if, plain_or}
 pub use Rattle.planus_laws.specs.FieldLines.FieldLine.{number_or, signed_or, union, union_required}
 pub use Rattle.planus_laws.specs.FieldLines.FieldLine.{unions, unions_required}
