@@ -18,14 +18,20 @@ use planus_layout::{Body, Declared, Schema};
 use planus_plan::Plan;
 use std::alloc::{AllocError, Global};
 
-const ROOT: &str =
-    "\npub use root::{\n    finish_root, finish_root_size_prefixed, has_identifier, read_as_root,\n    read_size_prefixed_as_root,\n};\n";
+const ROOT: &str = "
+pub use root::{
+    finish_root, finish_root_size_prefixed, has_identifier, read_as_root,
+    read_size_prefixed_as_root,
+};
+";
 
 const LAWS_CRATE: &str = "planus_laws";
 
 const LAWS: &str = "pub use planus_laws::Create;\n";
 
-const ROOT_ALONE: &str = "\npub use root::{read_as_root, read_size_prefixed_as_root};\n";
+const ROOT_ALONE: &str = "
+pub use root::{read_as_root, read_size_prefixed_as_root};
+";
 
 /// A file: its path in the crate's folder, and its text.
 #[derive(Drop)]

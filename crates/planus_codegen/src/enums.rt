@@ -6,23 +6,69 @@ use crate::printer::Printer;
 use crate::structs::{LAYOUT, READ, STRIDE, TOTAL};
 use planus_layout::Declared;
 
-const ENUM: &str = "#[derive(Clone, Copy, Debug, PartialEq)]\npub enum $T {\n";
+const ENUM: &str = "\
+#[derive(Clone, Copy, Debug, PartialEq)]
+pub enum $T {
+";
 
-const NUMBER: &str =
-    "}\n\nimpl $T {\n    /// Returns its number.\n    pub fn number(self) -> $b\n        ensures {~result ≡~($M_is self).number }\n    {\n        match self {\n";
+const NUMBER: &str = "\
+}
 
-const NUMBERS: &str = "~[]\n\nabbrev pub $M_is : (x : $T) → Numbered $q $M_values x\n";
+impl $T {
+    /// Returns its number.
+    pub fn number(self) -> $b
+        ensures {~result ≡~($M_is self).number }
+    {
+        match self {
+";
 
-const ENUM_SHAPE: &str = "\nabbrev pub $M_shape : Shape $T $S $S\n$M_shape = $b_enum $M_is\n";
+const NUMBERS: &str = "\
+~[]
 
-const FLAGS: &str =
-    "/// Bits without a name are kept.\n#[derive(Clone, Copy, Debug, PartialEq)]\npub struct $T {\n    /// The bits.\n    pub bits: $b,\n}\n\nimpl $T {\n    /// None of them.\n    pub const NOTHING: $T = $T { bits: 0 };\n";
+abbrev pub $M_is : (x : $T) → Numbered $q $M_values x
+";
 
-const METHODS: &str =
-    "\n    /// Returns whether all of these are in the set.\n    pub fn has(&self, others: $T) -> bool\n        ensures {~result ≡~(bit_and self.now.bits others.bits == others.bits) }\n    {\n        self.bits & others.bits == others.bits\n    }\n\n    /// Returns these and the others.\n    pub fn with(&self, others: $T) -> $T\n        ensures {~result.bits ≡~bit_or self.now.bits others.bits }\n    {\n        $T {\n            bits: self.bits | others.bits,\n        }\n    }\n";
+const ENUM_SHAPE: &str = "
+abbrev pub $M_shape : Shape $T $S $S
+$M_shape = $b_enum $M_is
+";
 
-const FLAGS_SHAPE: &str =
-    "abbrev pub $M_shape : Shape $T $S $S\n$M_shape = struct_shape (field (λ x. x.bits) $b_shape no_more)\n    (struct_layout $P 1 (lit≤ tt) (lit< tt)) (λ v. record { bits = v.0 }) (λ x. refl)\n";
+const FLAGS: &str = "\
+/// Bits without a name are kept.
+#[derive(Clone, Copy, Debug, PartialEq)]
+pub struct $T {
+    /// The bits.
+    pub bits: $b,
+}
+
+impl $T {
+    /// None of them.
+    pub const NOTHING: $T = $T { bits: 0 };
+";
+
+const METHODS: &str = "
+    /// Returns whether all of these are in the set.
+    pub fn has(&self, others: $T) -> bool
+        ensures {~result ≡~(bit_and self.now.bits others.bits == others.bits) }
+    {
+        self.bits & others.bits == others.bits
+    }
+
+    /// Returns these and the others.
+    pub fn with(&self, others: $T) -> $T
+        ensures {~result.bits ≡~bit_or self.now.bits others.bits }
+    {
+        $T {
+            bits: self.bits | others.bits,
+        }
+    }
+";
+
+const FLAGS_SHAPE: &str = "\
+abbrev pub $M_shape : Shape $T $S $S
+$M_shape = struct_shape (field (λ x. x.bits) $b_shape no_more)
+    (struct_layout $P 1 (lit≤ tt) (lit< tt)) (λ v. record { bits = v.0 }) (λ x. refl)
+";
 
 pub(crate) fn print_enum<'a>(context: &'a Context<'a>, at: At, declared: &Declared) -> Printer<'a> {
     let mut printer = Printer::new(context);

@@ -2,7 +2,11 @@
 
 /// Words that are reserved in code.
 const RESERVED: &str =
-    "_ NOTHING Self abbrev bool core f32 f64 i16 i32 i64 i8 main planus planus_laws std u16 u32 u64 u8 abstract as async await become box break const continue crate do dyn elim else ensures enum extern false final fn for gen ghost if impl in let loop macro match mod move mut omega override priv prove pub ref requires return self static struct super syntax trait true try type typeof unfolding union unsafe unsized use virtual where while yield";
+    "_ NOTHING Self abbrev bool core f32 f64 i16 i32 i64 i8 main planus planus_laws std u16 u32 \
+     u64 u8 abstract as async await become box break const continue crate do dyn elim else \
+     ensures enum extern false final fn for gen ghost if impl in let loop macro match mod move \
+     mut omega override priv prove pub ref requires return self static struct super syntax trait \
+     true try type typeof unfolding union unsafe unsized use virtual where while yield";
 
 /// Reserved in clauses or in printed code; a namespace can have them.
 const RESERVED_IN_CLAUSES: &str = "builder clone data deriving fields module record result table";
@@ -12,11 +16,15 @@ const ESCAPED: &str = "axiom infix infixl infixr mutual open unfold";
 
 /// Types that code has anyway, and a file of definitions.
 const KNOWN_TYPES: &str =
-    "Bool BuildError Builder Built ByteList Clone Copy Create Debug Default Drop Err ErrorKind FieldLine Float Lib List None Numbered Offset Ok Option OrDefault PartialEq Plain PlainField PlainTotal Result Shape SliceWithStartOffset Some Stride String Table TableKind TableReadUnion TableView TableWriter Text Type UnionOffset UnionVariant UnionVector Unit Vec Vector VectorReadUnion";
+    "Bool BuildError Builder Built ByteList Clone Copy Create Debug Default Drop Err ErrorKind \
+     FieldLine Float Lib List None Numbered Offset Ok Option OrDefault PartialEq Plain PlainField \
+     PlainTotal Result Shape SliceWithStartOffset Some Stride String Table TableKind \
+     TableReadUnion TableView TableWriter Text Type UnionOffset UnionVariant UnionVector Unit Vec \
+     Vector VectorReadUnion";
 
 /// What a crate has beside its modules.
-const KNOWN_MODULES: &str =
-    "finish_root finish_root_size_prefixed has_identifier lib read_as_root read_size_prefixed_as_root root";
+const KNOWN_MODULES: &str = "finish_root finish_root_size_prefixed has_identifier lib read_as_root \
+     read_size_prefixed_as_root root";
 
 fn has_word(words: &str, name: &[u8]) -> bool {
     for word in words.split(' ') {

@@ -4,20 +4,55 @@ use crate::at::At;
 use crate::context::Context;
 use crate::printer::Printer;
 
-const READ: &str =
-    "/// Reads the root of a buffer.\npub fn read_as_root(^bytes: &[u8]^) -> planus::Result<$TRef<'_>>\n    ensures {~IsRoot~$T~(codes \"[$TRef]\")~(λ view. view.0)~bytes.now~result }\n{\n    read_root(bytes)\n}\n";
+const READ: &str = "\
+/// Reads the root of a buffer.
+pub fn read_as_root(^bytes: &[u8]^) -> planus::Result<$TRef<'_>>
+    ensures {~IsRoot~$T~(codes \"[$TRef]\")~(λ view. view.0)~bytes.now~result }
+{
+    read_root(bytes)
+}
+";
 
-const READ_SIZED: &str =
-    "\n/// Reads the root of the first of these size-prefixed buffers, and returns what follows it too.\npub fn read_size_prefixed_as_root(^bytes: &[u8]^) -> Result<($TRef<'_>, &[u8]), ErrorKind>\n    ensures { IsSizedRoot (λ view. view.0) bytes.now result }\n{\n    read_sized_root(bytes)\n}\n";
+const READ_SIZED: &str = "
+/// Reads the root of the first of these size-prefixed buffers, and returns what follows it too.
+pub fn read_size_prefixed_as_root(^bytes: &[u8]^) -> Result<($TRef<'_>, &[u8]), ErrorKind>
+    ensures { IsSizedRoot (λ view. view.0) bytes.now result }
+{
+    read_sized_root(bytes)
+}
+";
 
-const FINISH: &str =
-    "\n/// Finishes a buffer with this root and the file identifier, as [`Builder::finish`].\npub fn finish_root(^builder: &mut Builder,^root: Offset<$T>^) -> Result<&[u8], BuildError>\n    requires { IsIn builder.old root }\n    ensures bytes {~IfOk~result~(λ bytes.~FinishGives~(IsPrepared root)~(Some FILE_IDENTIFIER)~builder.old~bytes.now) }\n    ensures* after {~sem~𝓛~(EndsAs~builder.entry~(FinishLeaves~(IsPrepared root)~(Some FILE_IDENTIFIER)~builder.old~result)) }\n{\n    builder.finish(root, Some(FILE_IDENTIFIER))\n}\n";
+const FINISH: &str = "
+/// Finishes a buffer with this root and the file identifier, as [`Builder::finish`].
+pub fn finish_root(^builder: &mut Builder,^root: Offset<$T>^) -> Result<&[u8], BuildError>
+    requires { IsIn builder.old root }
+    ensures bytes {~IfOk~result~(λ bytes.~FinishGives~(IsPrepared root)~(Some FILE_IDENTIFIER)~builder.old~bytes.now) }
+    ensures* after {~sem~𝓛~(EndsAs~builder.entry~(FinishLeaves~(IsPrepared root)~(Some FILE_IDENTIFIER)~builder.old~result)) }
+{
+    builder.finish(root, Some(FILE_IDENTIFIER))
+}
+";
 
-const FINISH_SIZED: &str =
-    "\n/// The same after the size of what follows, as [`Builder::finish_size_prefixed`].\npub fn finish_root_size_prefixed(^builder: &mut Builder,^root: Offset<$T>^) -> Result<&[u8], BuildError>\n    requires { IsIn builder.old root }\n    ensures bytes {~IfOk~result~(λ bytes.~SizedFinishGives~(IsPrepared root)~(Some FILE_IDENTIFIER)~builder.old~bytes.now) }\n    ensures size { IfOk result (λ bytes. IsPrefixed bytes.now) }\n    ensures* after {~sem~𝓛~(EndsAs~builder.entry~(SizedFinishLeaves~(IsPrepared root)~(Some FILE_IDENTIFIER)~builder.old~result)) }\n{\n    builder.finish_size_prefixed(root, Some(FILE_IDENTIFIER))\n}\n";
+const FINISH_SIZED: &str = "
+/// The same after the size of what follows, as [`Builder::finish_size_prefixed`].
+pub fn finish_root_size_prefixed(^builder: &mut Builder,^root: Offset<$T>^) -> Result<&[u8], BuildError>
+    requires { IsIn builder.old root }
+    ensures bytes {~IfOk~result~(λ bytes.~SizedFinishGives~(IsPrepared root)~(Some FILE_IDENTIFIER)~builder.old~bytes.now) }
+    ensures size { IfOk result (λ bytes. IsPrefixed bytes.now) }
+    ensures* after {~sem~𝓛~(EndsAs~builder.entry~(SizedFinishLeaves~(IsPrepared root)~(Some FILE_IDENTIFIER)~builder.old~result)) }
+{
+    builder.finish_size_prefixed(root, Some(FILE_IDENTIFIER))
+}
+";
 
-const CHECK: &str =
-    "\n/// Returns whether a buffer has the file identifier; of one after its size, pass what follows it.\npub fn has_identifier(bytes: &[u8]) -> bool\n    ensures { IsTrue result ↔ BytesStand bytes.now 4 FILE_IDENTIFIER }\n{\n    planus::has_identifier(bytes, FILE_IDENTIFIER)\n}\n";
+const CHECK: &str = "
+/// Returns whether a buffer has the file identifier; of one after its size, pass what follows it.
+pub fn has_identifier(bytes: &[u8]) -> bool
+    ensures { IsTrue result ↔ BytesStand bytes.now 4 FILE_IDENTIFIER }
+{
+    planus::has_identifier(bytes, FILE_IDENTIFIER)
+}
+";
 
 /// Prints the functions that read and finish a buffer by its root.
 pub(crate) fn print_root<'a>(context: &'a Context<'a>, at: At) -> Printer<'a> {

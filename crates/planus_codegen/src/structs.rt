@@ -7,28 +7,66 @@ use crate::printer::Printer;
 use planus_layout::{Declared, Struct};
 
 /// The layout of a type, up to the body of `put`.
-pub(crate) const LAYOUT: &str =
-    "}\n\nimpl Plain for $T {\n    ghost ALIGNMENT = { $A };\n\n    ghost SIZE = { $S };\n\n    ghost shape = { $M_shape };\n\n    const ALIGNMENT: usize = $A;\n\n    const SIZE: usize = $S;\n\n    fn put(&self, bytes: &mut [u8]) {\n";
+pub(crate) const LAYOUT: &str = "\
+}
+
+impl Plain for $T {
+    ghost ALIGNMENT = { $A };
+
+    ghost SIZE = { $S };
+
+    ghost shape = { $M_shape };
+
+    const ALIGNMENT: usize = $A;
+
+    const SIZE: usize = $S;
+
+    fn put(&self, bytes: &mut [u8]) {
+";
 
 /// Between the bodies of `put` and `read`.
-pub(crate) const READ: &str =
-    "    }\n\n    fn read(^buffer: SliceWithStartOffset<'_>,^offset: usize^) -> Result<$T, ErrorKind> {\n";
+pub(crate) const READ: &str = "    }
+
+    fn read(^buffer: SliceWithStartOffset<'_>,^offset: usize^) -> Result<$T, ErrorKind> {
+";
 
 /// After the body of `read`.
-pub(crate) const STRIDE: &str =
-    "    }\n}\n\nimpl Stride for $T {\n    type %Stands = $T;\n}\n\nimpl PlainField for $T {}\n";
+pub(crate) const STRIDE: &str = "    }
+}
+
+impl Stride for $T {
+    type %Stands = $T;
+}
+
+impl PlainField for $T {}
+";
 
 /// Of a type whose read can't fail.
-pub(crate) const TOTAL: &str =
-    "\nimpl PlainTotal for $T {\n    ghost never_fails = { λ S f e broken. broken };\n}\n";
+pub(crate) const TOTAL: &str = "
+impl PlainTotal for $T {
+    ghost never_fails = { λ S f e broken. broken };
+}
+";
 
-const HEAD: &str = "#[derive(Clone, Copy, Debug, PartialEq)]\npub struct $T {\n";
+const HEAD: &str = "\
+#[derive(Clone, Copy, Debug, PartialEq)]
+pub struct $T {
+";
 
-const SHAPE: &str = "abbrev pub $M_shape : Shape $T $S $A\n$M_shape = struct_shape\n    ";
+const SHAPE: &str = "\
+abbrev pub $M_shape : Shape $T $S $A
+$M_shape = struct_shape
+    ";
 
 /// The proof that a struct with padding is written as its layout says.
-const PADDED: &str =
-    "use Rattle.std.proofs.Common.{arith}\nuse Rattle.std.proofs.lemmas.Grind.{common_steps}\nuse Rattle.$c.proofs.$M.$TPlain.put.Goals as goal\n\npub returns-clause-encoded : goal.returns-clause-encoded\nreturns-clause-encoded c = grind (arith, common_steps)\n";
+const PADDED: &str = "\
+use Rattle.std.proofs.Common.{arith}
+use Rattle.std.proofs.lemmas.Grind.{common_steps}
+use Rattle.$c.proofs.$M.$TPlain.put.Goals as goal
+
+pub returns-clause-encoded : goal.returns-clause-encoded
+returns-clause-encoded c = grind (arith, common_steps)
+";
 
 pub(crate) fn has_padding(one: &Struct) -> bool {
     let mut bytes = 0usize;

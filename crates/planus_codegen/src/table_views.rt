@@ -6,11 +6,25 @@ use crate::types::{has_default, is_bytes, is_union};
 use planus_layout::{Base, TableField};
 use planus_plan::{Line, Plan};
 
-const VIEW: &str =
-    "/// One in a buffer.\n#[derive(Clone, Copy)]\npub struct $TRef<'a>(Table<'a>);\n\n";
+const VIEW: &str = "\
+/// One in a buffer.
+#[derive(Clone, Copy)]
+pub struct $TRef<'a>(Table<'a>);
 
-const TABLE_VIEW: &str =
-    "impl<'a> TableView<'a> for $TRef<'a> {\n    type %Kind = $T;\n\n    ghost table = { λ view. view.0 };\n\n    fn of_table(read: Table<'a>) -> $TRef<'a> {\n        $TRef(read)\n    }\n}\n\n";
+";
+
+const TABLE_VIEW: &str = "\
+impl<'a> TableView<'a> for $TRef<'a> {
+    type %Kind = $T;
+
+    ghost table = { λ view. view.0 };
+
+    fn of_table(read: Table<'a>) -> $TRef<'a> {
+        $TRef(read)
+    }
+}
+
+";
 
 /// The clause of the function that reads a vector.
 fn vector_clause(field: &TableField) -> &'static str {

@@ -8,17 +8,27 @@ use crate::types::{has_default, is_optional, is_union};
 use planus_layout::{Base, Declared, TableField};
 use planus_plan::Plan;
 
-const FIELDS: &str =
-    "/// The fields of `$T`, as [`$T::create`] takes them.\n#[derive(Drop)]\npub struct $TFields";
+const FIELDS: &str = "\
+/// The fields of `$T`, as [`$T::create`] takes them.
+#[derive(Drop)]
+pub struct $TFields";
 
-const FIELDS_WITH_DEFAULT: &str =
-    "/// The fields of `$T`, as [`$T::create`] takes them.\n#[derive(Default, Drop)]\npub struct $TFields";
+const FIELDS_WITH_DEFAULT: &str = "\
+/// The fields of `$T`, as [`$T::create`] takes them.
+#[derive(Default, Drop)]
+pub struct $TFields";
 
 const CONSTANT: &str = "    ghost use Rattle.$c.specs.declared.$M.TheConstants.{DEFAULT_$N};\n";
 
-const BORROWED_FIELDS: &str = " };\n\n    fn default() -> $TFields<'a> {\n        $TFields {";
+const BORROWED_FIELDS: &str = " };
 
-const OWNED_FIELDS: &str = " };\n\n    fn default() -> $TFields {\n        $TFields {";
+    fn default() -> $TFields<'a> {
+        $TFields {";
+
+const OWNED_FIELDS: &str = " };
+
+    fn default() -> $TFields {
+        $TFields {";
 
 const MAY: &str = "    ghost may = { λ fields builder.";
 
@@ -28,14 +38,25 @@ const CREATES_BORROWED: &str = "impl<'a> Create<$TFields<'a>> for $T {\n";
 
 const CREATES_OWNED: &str = "impl Create<$TFields> for $T {\n";
 
-const CREATE_BORROWED: &str =
-    "    fn create(^builder: &mut Builder,^fields: $TFields<'a>^) -> Built<$T> {\n        let lines = fields![";
+const CREATE_BORROWED: &str = "    \
+    fn create(^builder: &mut Builder,^fields: $TFields<'a>^) -> Built<$T> {
+        let lines = fields![";
 
-const CREATE_OWNED: &str =
-    "    fn create(^builder: &mut Builder,^fields: $TFields^) -> Built<$T> {\n        let lines = fields![";
+const CREATE_OWNED: &str = "    \
+    fn create(^builder: &mut Builder,^fields: $TFields^) -> Built<$T> {
+        let lines = fields![";
 
-const KIND: &str =
-    "impl TableKind for $T {\n    type %Writer = TableWriter<$p>;\n\n    ghost name = { codes \"[$TRef]\" };\n\n    fn name() -> &'static str {\n        \"[$TRef]\"\n    }\n}\n";
+const KIND: &str = "\
+impl TableKind for $T {
+    type %Writer = TableWriter<$p>;
+
+    ghost name = { codes \"[$TRef]\" };
+
+    fn name() -> &'static str {
+        \"[$TRef]\"
+    }
+}
+";
 
 /// Whether each field may be left out, and its default is its type's.
 fn derives_default(plan: &Plan<'_>) -> bool {

@@ -5,29 +5,78 @@ use crate::context::Context;
 use crate::printer::Printer;
 use planus_layout::{Declared, Union};
 
-const KIND: &str = "pub struct $T;\n\nimpl $T {\n";
+const KIND: &str = "\
+pub struct $T;
 
-const OF_TABLE: &str =
-    "    /// Returns the variant `$n` with the table at this offset.\n    pub fn from_$V(table: Offset<$m>) -> UnionOffset<$T>\n        ensures tag { result.tag ≡ $g }\n        ensures offset { result.offset.distance ≡ table.distance }\n    {\n        UnionOffset::new($g, table.downcast())\n    }\n";
+impl $T {
+";
 
-const VIEW: &str = "}\n\n/// One in a buffer.\n#[derive(Clone, Copy)]\npub enum $TRef<'a> {\n";
+const OF_TABLE: &str = "    /// Returns the variant `$n` with the table at this offset.
+    pub fn from_$V(table: Offset<$m>) -> UnionOffset<$T>
+        ensures tag { result.tag ≡ $g }
+        ensures offset { result.offset.distance ≡ table.distance }
+    {
+        UnionOffset::new($g, table.downcast())
+    }
+";
 
-const READ: &str =
-    "}\n\nimpl<'a> TableReadUnion<'a> for $TRef<'a> {\n    ghost reads = { ReadsVariants $M_variants };\n\n    fn from_buffer(\n        buffer: SliceWithStartOffset<'a>,\n        tag: u8,\n        offset: usize,\n    ) -> Result<$TRef<'a>, ErrorKind> {\n        match tag {\n";
+const VIEW: &str = "\
+}
+
+/// One in a buffer.
+#[derive(Clone, Copy)]
+pub enum $TRef<'a> {
+";
+
+const READ: &str = "\
+}
+
+impl<'a> TableReadUnion<'a> for $TRef<'a> {
+    ghost reads = { ReadsVariants $M_variants };
+
+    fn from_buffer(
+        buffer: SliceWithStartOffset<'a>,
+        tag: u8,
+        offset: usize,
+    ) -> Result<$TRef<'a>, ErrorKind> {
+        match tag {
+";
 
 const ARM: &str = "            $g => Ok($TRef::$n(read_view(buffer, offset)?)),\n";
 
-const VECTOR: &str =
-    "            _ => Err(ErrorKind::UnknownUnionTag { tag }),\n        }\n    }\n}\n\nimpl<'a> VectorReadUnion<'a> for $TRef<'a> {\n    ghost name = { codes \"[$T]\" };\n\n    fn vector_name() -> &'static str\n        ensures {~result.now ≡~codes \"[$T]\" }\n    {\n        \"[$T]\"\n    }\n}\n";
+const VECTOR: &str = "            _ => Err(ErrorKind::UnknownUnionTag { tag }),
+        }
+    }
+}
 
-const ONLY: &str =
-    "abbrev pub $M_$g : $TRef → Option Table\n$M_$g ($M_ref.$n view) = Some view.0\n\n";
+impl<'a> VectorReadUnion<'a> for $TRef<'a> {
+    ghost name = { codes \"[$T]\" };
 
-const ONE_OF: &str =
-    "abbrev pub $M_$g : $TRef → Option Table\n$M_$g ($M_ref.$n view) = Some view.0\n$M_$g _ = None\n\n";
+    fn vector_name() -> &'static str
+        ensures {~result.now ≡~codes \"[$T]\" }
+    {
+        \"[$T]\"
+    }
+}
+";
 
-const VARIANTS: &str =
-    "-- by their tags\nabbrev pub $M_variants : List (UnionVariant $TRef)\n$M_variants =";
+const ONLY: &str = "\
+abbrev pub $M_$g : $TRef → Option Table
+$M_$g ($M_ref.$n view) = Some view.0
+
+";
+
+const ONE_OF: &str = "\
+abbrev pub $M_$g : $TRef → Option Table
+$M_$g ($M_ref.$n view) = Some view.0
+$M_$g _ = None
+
+";
+
+const VARIANTS: &str = "\
+-- by their tags
+abbrev pub $M_variants : List (UnionVariant $TRef)
+$M_variants =";
 
 pub(crate) fn print_union<'a>(
     context: &'a Context<'a>,
