@@ -1,0 +1,185 @@
+//! Tables `Port`.
+
+ghost use Rattle.std.specs.Prelude.{◌∷◌, [], codes, negsuc, false};
+ghost use Rattle.std.specs.Int.{w16};
+ghost use Rattle.planus_laws.specs.Printed.{u16_shape, u64_shape, i16_shape, bool_shape, IsIn};
+ghost use Rattle.planus_laws.specs.Printed.{AllIn, AllUnionsIn, IsPlainVectorRequired};
+ghost use Rattle.planus_laws.specs.Printed.{IsBytesRequired, IsTextVectorRequired};
+ghost use Rattle.planus_laws.specs.Printed.{IsTableVectorRequired, bytes_kind, IsPlainField};
+ghost use Rattle.planus_laws.specs.Printed.{IsPlainFieldOr, IsUnionRequired};
+ghost use Rattle.planus_laws.specs.Printed.{IsUnionVectorRequired, ReadsVariants, plains, texts};
+ghost use Rattle.planus_laws.specs.Printed.{tables, required, plain_if, plain_or, number_or};
+ghost use Rattle.planus_laws.specs.Printed.{signed_or, union_required, unions_required};
+ghost use Rattle.harbour.specs.Gauge.{gauge_shape};
+ghost use Rattle.harbour.specs.Owner.{owner_variants};
+ghost use Rattle.harbour.specs.declared.owner.OwnerRef.{OwnerRef};
+ghost use Rattle.harbour.specs.declared.ship.Ship.{Ship};
+
+use crate::gauge::Gauge;
+use crate::owner::{Owner, OwnerRef};
+use crate::ship::Ship;
+use planus::table_reader::Table;
+use planus::{
+    Builder, ByteList, List, Offset, OrDefault, Result, TableKind, TableRef, TableView,
+    TableWriter, Text, UnionOffset, UnionVector, Vector, bytes_required, create_table, fields,
+    plain_field, plain_field_or, plain_vector_required, table_vector_required,
+    text_vector_required, union_required, union_vector_required,
+};
+use planus_laws::{Built, Create};
+
+/// Where ships lie.
+pub struct Port;
+
+/// The fields of `Port`, as [`Port::create`] takes them.
+#[derive(Drop)]
+pub struct PortFields<'a> {
+    pub owner: UnionOffset<Owner>,
+    pub ships: &'a [Offset<Ship>],
+    pub berths: &'a [&'a str],
+    pub shares: &'a [UnionOffset<Owner>],
+    pub soundings: &'a [u16],
+    pub chart: ByteList<'a>,
+    pub depth: i16,
+    pub is_open: bool,
+    pub founded: u64,
+    pub gauge: Option<Gauge>,
+}
+
+impl<'a> Create<PortFields<'a>> for Port {
+    ghost lines = { λ fields.
+        plain_if gauge_shape 11 fields.gauge ∷
+        number_or u64_shape 10 0 fields.founded ∷
+        union_required owner_variants 0 fields.owner ∷
+        required (tables Ship) 2 fields.ships ∷
+        required texts 3 fields.berths ∷
+        unions_required OwnerRef 4 fields.shares ∷
+        required (plains u16_shape) 6 fields.soundings ∷
+        required bytes_kind 7 fields.chart ∷
+        signed_or i16_shape w16 8 (negsuc 4) fields.depth ∷
+        plain_or bool_shape ⟦<bool as PartialEq>⟧.eq 9 false fields.is_open ∷
+        [] };
+
+    ghost may = { λ fields builder. IsIn builder fields.owner.offset ×
+        AllIn builder fields.ships.now × AllUnionsIn builder fields.shares.now };
+
+    fn create(builder: &mut Builder, fields: PortFields<'a>) -> Built<Port> {
+        let lines = fields![
+            11: Gauge = fields.gauge,
+            10: u64 = OrDefault { value: fields.founded, default: 0 },
+            (0, 1): union Owner = fields.owner,
+            2: Offset<List<Offset<Ship>>> = fields.ships,
+            3: Offset<List<Offset<Text>>> = fields.berths,
+            (4, 5): unions Owner = fields.shares,
+            6: Offset<List<u16>> = fields.soundings,
+            7: Offset<List<u8>> = fields.chart,
+            8: i16 = OrDefault { value: fields.depth, default: -5 },
+            9: bool = OrDefault { value: fields.is_open, default: false },
+        ];
+        create_table::<Port, _>(builder, lines)
+    }
+}
+
+/// One in a buffer.
+#[derive(Clone, Copy)]
+pub struct PortRef<'a> {
+    table: Table<'a>,
+}
+
+impl<'a> PortRef<'a> {
+    /// Returns `owner`.
+    pub fn owner(&self) -> Result<OwnerRef<'a>>
+        ensures { IsUnionRequired (ReadsVariants owner_variants) self.now.table 0 (codes "Port")
+            (codes "owner") result }
+    {
+        union_required::<OwnerRef<'a>>(&self.table, 0, "Port", "owner")
+    }
+
+    /// Returns `ships`.
+    pub fn ships(&self) -> Result<Vector<'a, Result<TableRef<'a, Ship>>>>
+        ensures { IsTableVectorRequired Ship self.now.table 2 (codes "Port") (codes "ships")
+            result }
+    {
+        table_vector_required(&self.table, 2, "Port", "ships")
+    }
+
+    /// Returns `berths`.
+    pub fn berths(&self) -> Result<Vector<'a, Result<&'a str>>>
+        ensures { IsTextVectorRequired self.now.table 3 (codes "Port") (codes "berths") result }
+    {
+        text_vector_required(&self.table, 3, "Port", "berths")
+    }
+
+    /// Returns `shares`.
+    pub fn shares(&self) -> Result<UnionVector<'a, OwnerRef<'a>>>
+        ensures { IsUnionVectorRequired self.now.table 4 (codes "Port") (codes "shares") result }
+    {
+        union_vector_required(&self.table, 4, "Port", "shares")
+    }
+
+    /// Returns `soundings`.
+    pub fn soundings(&self) -> Result<Vector<'a, u16>>
+        ensures { IsPlainVectorRequired self.now.table 6 (codes "Port") (codes "soundings")
+            result }
+    {
+        plain_vector_required(&self.table, 6, "Port", "soundings")
+    }
+
+    /// Returns `chart`.
+    pub fn chart(&self) -> Result<&'a [u8]>
+        ensures { IsBytesRequired self.now.table 7 (codes "Port") (codes "chart") result }
+    {
+        bytes_required(&self.table, 7, "Port", "chart")
+    }
+
+    /// Returns `depth`.
+    pub fn depth(&self) -> Result<i16>
+        ensures { IsPlainFieldOr i16_shape (negsuc 4) self.now.table 8 (codes "Port")
+            (codes "depth") result }
+    {
+        plain_field_or(&self.table, 8, -5, "Port", "depth")
+    }
+
+    /// Returns `is_open`.
+    pub fn is_open(&self) -> Result<bool>
+        ensures { IsPlainFieldOr bool_shape false self.now.table 9 (codes "Port") (codes "is_open")
+            result }
+    {
+        plain_field_or(&self.table, 9, false, "Port", "is_open")
+    }
+
+    /// Returns `founded`.
+    pub fn founded(&self) -> Result<u64>
+        ensures { IsPlainFieldOr u64_shape 0 self.now.table 10 (codes "Port") (codes "founded")
+            result }
+    {
+        plain_field_or(&self.table, 10, 0, "Port", "founded")
+    }
+
+    /// Returns `gauge`.
+    pub fn gauge(&self) -> Result<Option<Gauge>>
+        ensures { IsPlainField gauge_shape self.now.table 11 (codes "Port") (codes "gauge")
+            result }
+    {
+        plain_field(&self.table, 11, "Port", "gauge")
+    }
+}
+
+impl<'a> TableView<'a> for PortRef<'a> {
+    type Kind = Port;
+
+    ghost table = { λ view. view.table };
+
+    fn of_table(read: Table<'a>) -> PortRef<'a> {
+        PortRef { table: read }
+    }
+}
+
+impl TableKind for Port {
+    type Writer = TableWriter<28>;
+
+    ghost name = { codes "[PortRef]" };
+
+    fn name() -> &'static str {
+        "[PortRef]"
+    }
+}
