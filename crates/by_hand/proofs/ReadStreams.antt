@@ -16,11 +16,21 @@ abbrev pub still_to_read : Option ErrorKind → List ℕ → ℕ
 still_to_read None rest = length rest + 1
 still_to_read (Some error) rest = 0
 
-pub one_more : (stream : List ℕ) (contents : List (List ℕ)) (rest content next : List ℕ) → BeginsWith stream contents rest → PrefixedThere rest content next
+pub one_more : (stream : List ℕ) (contents : List (List ℕ)) (rest content next : List ℕ)
+    → BeginsWith stream contents rest → PrefixedThere rest content next
     → BeginsWith stream (contents ++ content ∷ []) next
-one_more stream [] rest content next begins there = (next, subst (λ B. PrefixedThere B content next) (sym begins) there, refl)
-one_more stream (first ∷ contents) rest content next begins there = (begins.0, begins.1, one_more begins.0 contents rest content next begins.2 there)
+one_more stream [] rest content next begins there = (
+  next,
+  subst (λ B. PrefixedThere B content next) (sym begins) there,
+  refl,
+)
+one_more stream (first ∷ contents) rest content next begins there = (
+  begins.0,
+  begins.1,
+  one_more begins.0 contents rest content next begins.2 there,
+)
 
-pub no_fault : (fault : Option ErrorKind) (told : Bool) → is_some fault ≡ not told → told ≡ true → (rest : List ℕ) → FaultsFor fault rest
+pub no_fault : (fault : Option ErrorKind) (told : Bool) → is_some fault ≡ not told → told ≡ true
+    → (rest : List ℕ) → FaultsFor fault rest
 no_fault None told is e rest = tt
 no_fault (Some error) told is e rest = absurd (let f : true ≡ false = is ∙ ap not e in cc)

@@ -86,7 +86,8 @@ impl Boat {
     }
 
     pub fn hull(boat: &BoatRef<'_>) -> Result<u16>
-        ensures { IsPlainFieldOr u16_shape 100 boat.now.table 0 (codes "Boat") (codes "hull") result }
+        ensures { IsPlainFieldOr u16_shape 100 boat.now.table 0 (codes "Boat") (codes "hull")
+            result }
     {
         plain_field_or(&boat.table, 0, 100, "Boat", "hull")
     }

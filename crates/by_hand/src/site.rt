@@ -103,7 +103,8 @@ impl<'a> SiteRef<'a> {
     }
 
     pub fn kind(&self) -> Result<Kind>
-        ensures { IsPlainFieldOr kind_shape Bike self.now.table 3 (codes "Site") (codes "kind") result }
+        ensures { IsPlainFieldOr kind_shape Bike self.now.table 3 (codes "Site") (codes "kind")
+            result }
     {
         plain_field_or(&self.table, 3, Kind::Bike, "Site", "kind")
     }
@@ -117,7 +118,8 @@ impl<'a> SiteRef<'a> {
     }
 
     pub fn heat(&self) -> Result<f32>
-        ensures { IsPlainFieldOr f32_shape USUAL_HEAT self.now.table 4 (codes "Site") (codes "heat") result }
+        ensures { IsPlainFieldOr f32_shape USUAL_HEAT self.now.table 4 (codes "Site")
+            (codes "heat") result }
     {
         plain_field_or(&self.table, 4, USUAL_HEAT, "Site", "heat")
     }
@@ -137,7 +139,8 @@ impl<'a> SiteRef<'a> {
     }
 
     pub fn depth(&self) -> Result<f64>
-        ensures { IsPlainFieldOr f64_shape USUAL_DEPTH self.now.table 8 (codes "Site") (codes "depth") result }
+        ensures { IsPlainFieldOr f64_shape USUAL_DEPTH self.now.table 8 (codes "Site")
+            (codes "depth") result }
     {
         plain_field_or(&self.table, 8, USUAL_DEPTH, "Site", "depth")
     }

@@ -1,56 +1,46 @@
 //! Tables `Entry`.
 
 ghost use Rattle.std.specs.Prelude.{◌∷◌, [], codes, MatchOption, ⊤};
-ghost use Rattle.planus_laws.specs.Printed.{u16_shape, u64_shape, IsIn, AllIn, IsTextRequired};
-ghost use Rattle.planus_laws.specs.Printed.{IsTextVector, IsTableRequired, IsTableVector};
-ghost use Rattle.planus_laws.specs.Printed.{text_kind, table_kind, IsPlainFieldOr, IsUnionField};
-ghost use Rattle.planus_laws.specs.Printed.{ReadsVariants, texts, tables, optional, required};
-ghost use Rattle.planus_laws.specs.Printed.{plain_or, number_or, union};
+ghost use Rattle.planus_laws.specs.Printed.{u64_shape, IsIn, AllIn, IsTextRequired};
+ghost use Rattle.planus_laws.specs.Printed.{IsTableRequired, IsTableVector, text_kind, table_kind};
+ghost use Rattle.planus_laws.specs.Printed.{IsPlainFieldOr, IsUnionField, ReadsVariants, tables};
+ghost use Rattle.planus_laws.specs.Printed.{optional, required, number_or, union};
 ghost use Rattle.harbour.specs.Cause.{cause_variants};
 ghost use Rattle.harbour.specs.declared.cause.Cause.{Cause};
 ghost use Rattle.harbour.specs.declared.entry.Entry.{Entry};
-ghost use Rattle.harbour.specs.Level.{level_shape};
-ghost use Rattle.harbour.specs.declared.level.Level.TheVariants as level_value;
 ghost use Rattle.harbour.specs.declared.origin.Origin.{Origin};
 ghost use Rattle.harbour.specs.declared.origin.OriginRef.{OriginRef};
 
 use crate::cause::{Cause, CauseRef};
-use crate::level::Level;
 use crate::origin::{Origin, OriginRef};
 use planus::table_reader::Table;
 use planus::{
     Builder, List, Offset, OrDefault, Result, TableKind, TableRef, TableView, TableWriter, Text,
     UnionOffset, Vector, create_table, fields, plain_field_or, table_required, table_vector,
-    text_required, text_vector, union_field,
+    text_required, union_field,
 };
 use planus_laws::{Built, Create};
 
-/// An entry of a ship's log.
+/// An entry of a log.
 pub struct Entry;
 
 /// The fields of `Entry`, as [`Entry::create`] takes them.
 #[derive(Drop)]
 pub struct EntryFields<'a> {
     pub at: u64,
-    pub retries: u16,
     pub text: &'a str,
-    pub tags: Option<&'a [&'a str]>,
     pub origin: Offset<Origin>,
     pub cause: Option<UnionOffset<Cause>>,
     pub parents: Option<&'a [Offset<Entry>]>,
-    pub level: Level,
 }
 
 impl<'a> Create<EntryFields<'a>> for Entry {
     ghost lines = { λ fields.
         number_or u64_shape 0 0 fields.at ∷
-        required text_kind 2 fields.text ∷
-        optional texts 3 fields.tags ∷
-        required (table_kind Origin (λ (view : OriginRef). view.table)) 4 fields.origin ∷
-        union cause_variants 5 fields.cause ∷
-        optional (tables Entry) 7 fields.parents ∷
-        number_or u16_shape 1 3 fields.retries ∷
-        plain_or level_shape ⟦<Level as PartialEq>⟧.eq 8 level_value.Mid fields.level ∷
+        required text_kind 1 fields.text ∷
+        required (table_kind Origin (λ (view : OriginRef). view.table)) 2 fields.origin ∷
+        union cause_variants 3 fields.cause ∷
+        optional (tables Entry) 5 fields.parents ∷
         [] };
 
     ghost may = { λ fields builder. IsIn builder fields.origin ×
@@ -60,13 +50,10 @@ impl<'a> Create<EntryFields<'a>> for Entry {
     fn create(builder: &mut Builder, fields: EntryFields<'a>) -> Built<Entry> {
         let lines = fields![
             0: u64 = OrDefault { value: fields.at, default: 0 },
-            2: Offset<Text> = fields.text,
-            3: Offset<List<Offset<Text>>> = fields.tags,
-            4: Offset<Origin> = fields.origin,
-            (5, 6): union Cause = fields.cause,
-            7: Offset<List<Offset<Entry>>> = fields.parents,
-            1: u16 = OrDefault { value: fields.retries, default: 3 },
-            8: Level = OrDefault { value: fields.level, default: Level::Mid },
+            1: Offset<Text> = fields.text,
+            2: Offset<Origin> = fields.origin,
+            (3, 4): union Cause = fields.cause,
+            5: Offset<List<Offset<Entry>>> = fields.parents,
         ];
         create_table::<Entry, _>(builder, lines)
     }
@@ -86,57 +73,34 @@ impl<'a> EntryRef<'a> {
         plain_field_or(&self.table, 0, 0, "Entry", "at")
     }
 
-    /// Returns `retries`.
-    pub fn retries(&self) -> Result<u16>
-        ensures { IsPlainFieldOr u16_shape 3 self.now.table 1 (codes "Entry") (codes "retries")
-            result }
-    {
-        plain_field_or(&self.table, 1, 3, "Entry", "retries")
-    }
-
     /// Returns `text`.
     pub fn text(&self) -> Result<&'a str>
-        ensures { IsTextRequired self.now.table 2 (codes "Entry") (codes "text") result }
+        ensures { IsTextRequired self.now.table 1 (codes "Entry") (codes "text") result }
     {
-        text_required(&self.table, 2, "Entry", "text")
-    }
-
-    /// Returns `tags`.
-    pub fn tags(&self) -> Result<Option<Vector<'a, Result<&'a str>>>>
-        ensures { IsTextVector self.now.table 3 (codes "Entry") (codes "tags") result }
-    {
-        text_vector(&self.table, 3, "Entry", "tags")
+        text_required(&self.table, 1, "Entry", "text")
     }
 
     /// Returns `origin`.
     pub fn origin(&self) -> Result<OriginRef<'a>>
-        ensures { IsTableRequired Origin (λ view. view.table) self.now.table 4 (codes "Entry")
+        ensures { IsTableRequired Origin (λ view. view.table) self.now.table 2 (codes "Entry")
             (codes "origin") result }
     {
-        table_required(&self.table, 4, "Entry", "origin")
+        table_required(&self.table, 2, "Entry", "origin")
     }
 
     /// Returns `cause`.
     pub fn cause(&self) -> Result<Option<CauseRef<'a>>>
-        ensures { IsUnionField (ReadsVariants cause_variants) self.now.table 5 (codes "Entry")
+        ensures { IsUnionField (ReadsVariants cause_variants) self.now.table 3 (codes "Entry")
             (codes "cause") Cause result }
     {
-        union_field::<Cause, CauseRef<'a>>(&self.table, 5, "Entry", "cause")
+        union_field::<Cause, CauseRef<'a>>(&self.table, 3, "Entry", "cause")
     }
 
     /// Returns `parents`.
     pub fn parents(&self) -> Result<Option<Vector<'a, Result<TableRef<'a, Entry>>>>>
-        ensures { IsTableVector Entry self.now.table 7 (codes "Entry") (codes "parents") result }
+        ensures { IsTableVector Entry self.now.table 5 (codes "Entry") (codes "parents") result }
     {
-        table_vector(&self.table, 7, "Entry", "parents")
-    }
-
-    /// Returns `level`.
-    pub fn level(&self) -> Result<Level>
-        ensures { IsPlainFieldOr level_shape level_value.Mid self.now.table 8 (codes "Entry")
-            (codes "level") result }
-    {
-        plain_field_or(&self.table, 8, Level::Mid, "Entry", "level")
+        table_vector(&self.table, 5, "Entry", "parents")
     }
 }
 
@@ -151,7 +115,7 @@ impl<'a> TableView<'a> for EntryRef<'a> {
 }
 
 impl TableKind for Entry {
-    type Writer = TableWriter<22>;
+    type Writer = TableWriter<16>;
 
     ghost name = { codes "[EntryRef]" };
 

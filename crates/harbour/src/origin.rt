@@ -11,7 +11,7 @@ use planus::{
 };
 use planus_laws::{Built, Create};
 
-/// Who writes in a log.
+/// Where a log is kept.
 pub struct Origin;
 
 /// The fields of `Origin`, as [`Origin::create`] takes them.

@@ -1,15 +1,13 @@
 //! Tables `Port`.
 
-ghost use Rattle.std.specs.Prelude.{◌∷◌, [], codes, negsuc, false};
-ghost use Rattle.std.specs.Int.{w16};
-ghost use Rattle.planus_laws.specs.Printed.{u16_shape, u64_shape, i16_shape, bool_shape, IsIn};
-ghost use Rattle.planus_laws.specs.Printed.{AllIn, AllUnionsIn, IsPlainVectorRequired};
-ghost use Rattle.planus_laws.specs.Printed.{IsBytesRequired, IsTextVectorRequired};
-ghost use Rattle.planus_laws.specs.Printed.{IsTableVectorRequired, bytes_kind, IsPlainField};
-ghost use Rattle.planus_laws.specs.Printed.{IsPlainFieldOr, IsUnionRequired};
+ghost use Rattle.std.specs.Prelude.{◌∷◌, [], codes};
+ghost use Rattle.planus_laws.specs.Printed.{u16_shape, IsIn, AllIn, AllUnionsIn};
+ghost use Rattle.planus_laws.specs.Printed.{IsPlainVectorRequired, IsBytesRequired};
+ghost use Rattle.planus_laws.specs.Printed.{IsTextVectorRequired, IsTableVectorRequired};
+ghost use Rattle.planus_laws.specs.Printed.{bytes_kind, IsPlainField, IsUnionRequired};
 ghost use Rattle.planus_laws.specs.Printed.{IsUnionVectorRequired, ReadsVariants, plains, texts};
-ghost use Rattle.planus_laws.specs.Printed.{tables, required, plain_if, plain_or, number_or};
-ghost use Rattle.planus_laws.specs.Printed.{signed_or, union_required, unions_required};
+ghost use Rattle.planus_laws.specs.Printed.{tables, required, plain_if, union_required};
+ghost use Rattle.planus_laws.specs.Printed.{unions_required};
 ghost use Rattle.harbour.specs.Gauge.{gauge_shape};
 ghost use Rattle.harbour.specs.Owner.{owner_variants};
 ghost use Rattle.harbour.specs.declared.owner.OwnerRef.{OwnerRef};
@@ -20,10 +18,10 @@ use crate::owner::{Owner, OwnerRef};
 use crate::ship::Ship;
 use planus::table_reader::Table;
 use planus::{
-    Builder, ByteList, List, Offset, OrDefault, Result, TableKind, TableRef, TableView,
-    TableWriter, Text, UnionOffset, UnionVector, Vector, bytes_required, create_table, fields,
-    plain_field, plain_field_or, plain_vector_required, table_vector_required,
-    text_vector_required, union_required, union_vector_required,
+    Builder, ByteList, List, Offset, Result, TableKind, TableRef, TableView, TableWriter, Text,
+    UnionOffset, UnionVector, Vector, bytes_required, create_table, fields, plain_field,
+    plain_vector_required, table_vector_required, text_vector_required, union_required,
+    union_vector_required,
 };
 use planus_laws::{Built, Create};
 
@@ -39,24 +37,18 @@ pub struct PortFields<'a> {
     pub shares: &'a [UnionOffset<Owner>],
     pub soundings: &'a [u16],
     pub chart: ByteList<'a>,
-    pub depth: i16,
-    pub is_open: bool,
-    pub founded: u64,
     pub gauge: Option<Gauge>,
 }
 
 impl<'a> Create<PortFields<'a>> for Port {
     ghost lines = { λ fields.
-        plain_if gauge_shape 11 fields.gauge ∷
-        number_or u64_shape 10 0 fields.founded ∷
+        plain_if gauge_shape 8 fields.gauge ∷
         union_required owner_variants 0 fields.owner ∷
         required (tables Ship) 2 fields.ships ∷
         required texts 3 fields.berths ∷
         unions_required OwnerRef 4 fields.shares ∷
         required (plains u16_shape) 6 fields.soundings ∷
         required bytes_kind 7 fields.chart ∷
-        signed_or i16_shape w16 8 (negsuc 4) fields.depth ∷
-        plain_or bool_shape ⟦<bool as PartialEq>⟧.eq 9 false fields.is_open ∷
         [] };
 
     ghost may = { λ fields builder. IsIn builder fields.owner.offset ×
@@ -64,16 +56,13 @@ impl<'a> Create<PortFields<'a>> for Port {
 
     fn create(builder: &mut Builder, fields: PortFields<'a>) -> Built<Port> {
         let lines = fields![
-            11: Gauge = fields.gauge,
-            10: u64 = OrDefault { value: fields.founded, default: 0 },
+            8: Gauge = fields.gauge,
             (0, 1): union Owner = fields.owner,
             2: Offset<List<Offset<Ship>>> = fields.ships,
             3: Offset<List<Offset<Text>>> = fields.berths,
             (4, 5): unions Owner = fields.shares,
             6: Offset<List<u16>> = fields.soundings,
             7: Offset<List<u8>> = fields.chart,
-            8: i16 = OrDefault { value: fields.depth, default: -5 },
-            9: bool = OrDefault { value: fields.is_open, default: false },
         ];
         create_table::<Port, _>(builder, lines)
     }
@@ -131,36 +120,11 @@ impl<'a> PortRef<'a> {
         bytes_required(&self.table, 7, "Port", "chart")
     }
 
-    /// Returns `depth`.
-    pub fn depth(&self) -> Result<i16>
-        ensures { IsPlainFieldOr i16_shape (negsuc 4) self.now.table 8 (codes "Port")
-            (codes "depth") result }
-    {
-        plain_field_or(&self.table, 8, -5, "Port", "depth")
-    }
-
-    /// Returns `is_open`.
-    pub fn is_open(&self) -> Result<bool>
-        ensures { IsPlainFieldOr bool_shape false self.now.table 9 (codes "Port") (codes "is_open")
-            result }
-    {
-        plain_field_or(&self.table, 9, false, "Port", "is_open")
-    }
-
-    /// Returns `founded`.
-    pub fn founded(&self) -> Result<u64>
-        ensures { IsPlainFieldOr u64_shape 0 self.now.table 10 (codes "Port") (codes "founded")
-            result }
-    {
-        plain_field_or(&self.table, 10, 0, "Port", "founded")
-    }
-
     /// Returns `gauge`.
     pub fn gauge(&self) -> Result<Option<Gauge>>
-        ensures { IsPlainField gauge_shape self.now.table 11 (codes "Port") (codes "gauge")
-            result }
+        ensures { IsPlainField gauge_shape self.now.table 8 (codes "Port") (codes "gauge") result }
     {
-        plain_field(&self.table, 11, "Port", "gauge")
+        plain_field(&self.table, 8, "Port", "gauge")
     }
 }
 
@@ -175,7 +139,7 @@ impl<'a> TableView<'a> for PortRef<'a> {
 }
 
 impl TableKind for Port {
-    type Writer = TableWriter<28>;
+    type Writer = TableWriter<22>;
 
     ghost name = { codes "[PortRef]" };
 

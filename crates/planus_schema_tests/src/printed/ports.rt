@@ -1,4 +1,4 @@
-//! Ports, whose fields of other types are required, and entries of a log that refer to others.
+//! Ports, whose fields are required, and entries of a log that refer to others.
 
 ghost use Rattle.std.specs.Prelude.{IfOk};
 ghost use Rattle.planus.specs.write.InBuilder.{IsIn};
@@ -7,8 +7,8 @@ ghost use Rattle.planus.specs.write.State.{Grows};
 use super::structs::GAUGE;
 use super::{is_plain, plain_ship, the_line};
 use harbour::{
-    Cause, CauseRef, Company, Create, Entry, EntryFields, EntryRef, Kind, Level, Origin,
-    OriginFields, OriginRef, Owner, OwnerRef, Port, PortFields, PortRef, Ship, has_identifier,
+    Cause, CauseRef, Company, Create, Entry, EntryFields, EntryRef, Kind, Origin, OriginFields,
+    OriginRef, Owner, OwnerRef, Port, PortFields, PortRef, Ship, has_identifier,
 };
 use planus::{
     BuildError, Builder, ByteList, Offset, plain_item, read_root, table_item, text_item, union_item,
@@ -16,17 +16,11 @@ use planus::{
 
 type Written<T> = std::result::Result<T, BuildError>;
 
-fn has_numbers(port: &PortRef<'_>) -> bool {
-    matches!(port.depth(), Ok(7))
-        && matches!(port.is_open(), Ok(true))
-        && matches!(port.founded(), Ok(1_000))
-        && matches!(port.gauge(), Ok(Some(gauge)) if gauge == GAUGE)
-}
-
-fn has_vectors(port: &PortRef<'_>) -> bool {
+fn has_values(port: &PortRef<'_>) -> bool {
     matches!(port.berths(), Ok(berths) if matches!(text_item(&berths, 1), Some(Ok("south"))))
         && matches!(port.soundings(), Ok(read) if plain_item(&read, 1) == Some(u16::MAX))
         && matches!(port.chart(), Ok([9, 8]))
+        && matches!(port.gauge(), Ok(Some(gauge)) if gauge == GAUGE)
 }
 
 fn has_ships(port: &PortRef<'_>) -> bool {
@@ -55,8 +49,7 @@ fn is_port(bytes: &[u8]) -> bool {
     let port: planus::Result<PortRef<'_>> = read_root(bytes);
     matches!(
         port,
-        Ok(port) if has_numbers(&port) && has_vectors(&port) && has_ships(&port)
-            && has_owners(&port)
+        Ok(port) if has_values(&port) && has_ships(&port) && has_owners(&port)
     )
 }
 
@@ -70,9 +63,6 @@ pub fn writes_port(builder: &mut Builder) -> Written<bool> {
         shares: &[line, line],
         soundings: &[0, u16::MAX],
         chart: ByteList(&[9, 8]),
-        depth: 7,
-        is_open: true,
-        founded: 1_000,
         gauge: Some(GAUGE),
     };
     let port = Port::create(builder, port)?;
@@ -87,13 +77,10 @@ fn start(builder: &mut Builder, origin: Offset<Origin>) -> Written<Offset<Entry>
 {
     let entry = EntryFields {
         at: 0,
-        retries: 3,
         text: "start",
-        tags: None,
         origin,
         cause: None,
         parents: None,
-        level: Level::Mid,
     };
     Entry::create(builder, entry)
 }
@@ -105,11 +92,8 @@ fn is_host(origin: &OriginRef<'_>) -> bool {
 fn is_start(entry: &EntryRef<'_>) -> bool {
     matches!(entry.text(), Ok("start"))
         && matches!(entry.at(), Ok(0))
-        && matches!(entry.retries(), Ok(3))
-        && matches!(entry.tags(), Ok(None))
         && matches!(entry.cause(), Ok(None))
         && matches!(entry.parents(), Ok(None))
-        && matches!(entry.level(), Ok(Level::Mid))
 }
 
 fn refers_to_others(entry: &EntryRef<'_>) -> bool {
@@ -129,9 +113,6 @@ fn is_full(bytes: &[u8]) -> bool {
     };
     matches!(entry.text(), Ok("disk full"))
         && matches!(entry.at(), Ok(1_700_000_000))
-        && matches!(entry.retries(), Ok(0))
-        && matches!(entry.tags(), Ok(Some(tags)) if tags.len() == 2)
-        && matches!(entry.level(), Ok(Level::High))
         && refers_to_others(&entry)
 }
 
@@ -144,13 +125,10 @@ pub fn writes_entry(builder: &mut Builder) -> Written<bool> {
     let start = start(builder, origin)?;
     let entry = EntryFields {
         at: 1_700_000_000,
-        retries: 0,
         text: "disk full",
-        tags: Some(&["disk", "web"]),
         origin,
         cause: Some(Cause::from_entry(start)),
         parents: Some(&[start]),
-        level: Level::High,
     };
     let entry = Entry::create(builder, entry)?;
     Ok(is_full(builder.finish(entry, None)?))

@@ -8,14 +8,19 @@ use Rattle.by_hand.proofs.stream.read_all.Goals as goal
 pub loop-rest-preserved-in-Ok : goal.loop-rest-preserved-in-Ok
 loop-rest-preserved-in-Ok c =
     let stream : List ℕ = c.args.stream.now in
+    let next = c.in-Ok.behind.now in
     let read = c.in-Ok.ensures in
-    let more : BeginsWith stream (map slice_bytes c.loop-rest.pieces.items ++ slice_bytes c.in-Ok.piece ∷ []) c.in-Ok.behind.now =
-    subst (λ content. BeginsWith stream (map slice_bytes c.loop-rest.pieces.items ++ content ∷ []) c.in-Ok.behind.now) (sym read.2.content)
-    (subst (BeginsWith stream (map slice_bytes c.loop-rest.pieces.items ++ read.0.content ∷ [])) (sym read.2.rest)
-    (one_more stream (map slice_bytes c.loop-rest.pieces.items) c.loop-rest.rest.now read.0.content read.0.rest c.loop-rest.invariant.begins read.1)) in
-    let items : map slice_bytes c.push.new.self.items ≡ map slice_bytes c.loop-rest.pieces.items ++ slice_bytes c.in-Ok.piece ∷ [] =
-    ap (map slice_bytes) c.in_ok-push-in-Ok.ensures.items ∙ map_push slice_bytes c.loop-rest.pieces.items c.in-Ok.piece in
+    let before = map slice_bytes c.loop-rest.pieces.items in
+    let more : BeginsWith stream (before ++ slice_bytes c.in-Ok.piece ∷ []) next =
+    subst (λ content. BeginsWith stream (before ++ content ∷ []) next) (sym read.2.content)
+    (subst (BeginsWith stream (before ++ read.0.content ∷ [])) (sym read.2.rest)
+    (one_more stream before c.loop-rest.rest.now read.0.content read.0.rest
+    c.loop-rest.invariant.begins read.1)) in
+    let items : map slice_bytes c.push.new.self.items ≡ before ++ slice_bytes c.in-Ok.piece ∷ [] =
+    ap (map slice_bytes) c.in_ok-push-in-Ok.ensures.items
+    ∙ map_push slice_bytes c.loop-rest.pieces.items c.in-Ok.piece in
     record {
-      begins = subst (λ contents. BeginsWith stream contents c.in-Ok.behind.now) (sym items) more;
-      faults = no_fault c.loop-rest.fault c.is_none.result c.is_none.ensures c.loop-rest-test.true c.in-Ok.behind.now;
+      begins = subst (λ contents. BeginsWith stream contents next) (sym items) more;
+      faults = no_fault c.loop-rest.fault c.is_none.result c.is_none.ensures c.loop-rest-test.true
+          next;
     }

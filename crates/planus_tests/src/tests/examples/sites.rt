@@ -144,7 +144,10 @@ fn is_unknown_item(site: &SiteRef<'_>) -> bool {
             kinds.get(1),
             Some(Err(error)) if error.source_location.type_ == "[plain]"
                 && error.source_location.method == "get"
-                && matches!(error.error_kind, ErrorKind::UnknownEnumTag { source } if source.tag == 9)
+                && matches!(
+                    error.error_kind,
+                    ErrorKind::UnknownEnumTag { source } if source.tag == 9
+                )
         )
 }
 
