@@ -18,5 +18,5 @@ pub use kind::Kind;
 pub use owner::{Owner, OwnerRef};
 pub use pos::Pos;
 pub use site::{Site, SiteFields, SiteRef, USUAL_DEPTH, USUAL_HEAT, point};
-pub use site_read_back::{SiteError, home_read_back};
+pub use site_read_back::home_read_back;
 pub use stream::{Records, append, read_all};

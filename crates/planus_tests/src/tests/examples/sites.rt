@@ -106,7 +106,7 @@ fn a_default_is_read(builder: &mut Builder) -> Result<bool, BuildError> {
 fn a_home_is_read(builder: &mut Builder) -> Result<bool, BuildError> {
     Ok(matches!(
         home_read_back(builder, fields(Kind::Car, 0.0)),
-        Ok(home) if home == PARIS
+        Ok(Ok(home)) if home == PARIS
     ))
 }
 
