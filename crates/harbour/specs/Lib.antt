@@ -4,3 +4,5 @@ pub mod Needs
 pub mod Pos
 pub mod Fix
 pub mod Owner
+pub mod Gauge
+pub mod Cause

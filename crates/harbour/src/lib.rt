@@ -1,24 +1,34 @@
 //! Code of a schema.
 #![tactic(auto)]
 
+mod cause;
 mod company;
+mod entry;
 mod fix;
+mod gauge;
 mod kind;
 mod level;
 mod needs;
+mod origin;
 mod owner;
 mod person;
+mod port;
 mod pos;
 mod ship;
 
+pub use cause::{Cause, CauseRef};
 pub use company::{Company, CompanyFields, CompanyRef};
+pub use entry::{Entry, EntryFields, EntryRef};
 pub use fix::Fix;
+pub use gauge::Gauge;
 pub use kind::Kind;
 pub use level::Level;
 pub use needs::Needs;
+pub use origin::{Origin, OriginFields, OriginRef};
 pub use owner::{Owner, OwnerRef};
 pub use person::{Person, PersonFields, PersonRef};
 pub use planus_laws::Create;
+pub use port::{Port, PortFields, PortRef};
 pub use pos::Pos;
 pub use ship::{Ship, ShipFields, ShipRef};
 

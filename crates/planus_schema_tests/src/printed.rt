@@ -2,6 +2,9 @@
 
 ghost use Rattle.std.specs.Prelude.{◌≡◌, None, []};
 
+mod ports;
+mod structs;
+
 use crate::digits::bytes_of;
 use harbour::{
     Company, CompanyFields, Create, Fix, Kind, Level, Needs, Owner, OwnerRef, Person, PersonFields,
@@ -224,7 +227,10 @@ fn reads_pia_back(builder: &mut Builder) -> bool {
 fn in_builder(alloc: Global) -> bool {
     match Builder::new(alloc) {
         Ok(mut builder) => {
-            matches!(writes_anna(&mut builder), Ok(true)) && reads_pia_back(&mut builder)
+            matches!(writes_anna(&mut builder), Ok(true))
+                && matches!(ports::writes_port(&mut builder), Ok(true))
+                && matches!(ports::writes_entry(&mut builder), Ok(true))
+                && reads_pia_back(&mut builder)
         }
         Err(_) => false,
     }

@@ -1,4 +1,4 @@
-//! Tests of each public call of the crates below `planus`, and of the examples of `uses_tables`.
+//! Tests of each public call of the crates below `planus`, and of the examples of `by_hand`.
 #![tactic(auto)]
 
 #[cfg(test)]

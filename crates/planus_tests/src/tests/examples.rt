@@ -1,12 +1,7 @@
-mod entries;
-mod names;
-mod numbers;
-mod probes;
-mod samples;
+mod fleets;
+mod floats;
 mod sites;
 mod streams;
-mod tables;
-mod voyages;
 
 use planus::{BuildError, Builder};
 use std::alloc::Global;

@@ -1,9 +1,7 @@
 use super::in_builder;
+use by_hand::{Features, Kind, Pos, Site, SiteFields, SiteRef, home_read_back, point};
 use planus::errors::ErrorKind;
-use planus::{
-    BuildError, Builder, Error, Plain, ReadAsRoot, SliceWithStartOffset, TableRead, TableRef,
-};
-use uses_tables::{Features, Fix, Kind, Leg, Pos, Site, SiteFields, home_read_back, point};
+use planus::{BuildError, Builder, Error, read_root};
 
 const PARIS: Pos = Pos {
     lat: 48_856_600,
@@ -17,40 +15,8 @@ const SANTIAGO: Pos = Pos {
     alt: -1,
 };
 
-const FIX: Fix = Fix {
-    when: 1 << 40,
-    at: SANTIAGO,
-    kind: Kind::Ship,
-};
-
-const LEG: Leg = Leg {
-    from: Fix {
-        when: 1,
-        at: Pos {
-            lat: 2,
-            lon: -3,
-            alt: 4,
-        },
-        kind: Kind::Car,
-    },
-    to: Fix {
-        when: 5,
-        at: Pos {
-            lat: -6,
-            lon: 7,
-            alt: -8,
-        },
-        kind: Kind::Bike,
-    },
-};
-
-// Python's struct.pack('<Qiih2xB3x', 1 << 40, -33448900, -70669300, -1, 2).
-const FIX_BYTES: [u8; 24] = [
-    0, 0, 0, 0, 0, 1, 0, 0, 60, 156, 1, 254, 12, 172, 201, 251, 255, 255, 0, 0, 2, 0, 0, 0,
-];
-
-// By flatc 2.0.8: a site with these values, the kind Ship, heat -1.5, the kinds Ship and Car, water
-// and a road.
+// By flatc 2.0.8, before `depth` and `levels`: a site with these values, a fix and a leg, the kind
+// Ship, heat -1.5, the kinds Ship and Car, water and a road.
 const FLATC_SITE: [u8; 168] = [
     0x18, 0x00, 0x00, 0x00, 0x14, 0x00, 0x68, 0x00, 0x08, 0x00, 0x14, 0x00, 0x18, 0x00, 0x06, 0x00,
     0x30, 0x00, 0x34, 0x00, 0x38, 0x00, 0x07, 0x00, 0x14, 0x00, 0x00, 0x00, 0x00, 0x00, 0x02, 0x05,
@@ -65,35 +31,8 @@ const FLATC_SITE: [u8; 168] = [
     0x0c, 0xac, 0xc9, 0xfb, 0xff, 0xff, 0x00, 0x00,
 ];
 
-fn fix_at(bytes: &[u8], offset: usize) -> Result<Fix, ErrorKind> {
-    TableRead::from_buffer(SliceWithStartOffset::new(bytes, 0), offset)
-}
-
-fn is_its_bytes() -> bool {
-    let mut bytes = [7; 24];
-    FIX.put(&mut bytes);
-    bytes == FIX_BYTES
-        && matches!(fix_at(&FIX_BYTES, 0), Ok(fix) if fix == FIX)
-        && matches!(fix_at(&FIX_BYTES, 1), Err(ErrorKind::InvalidOffset))
-}
-
-fn is_unknown() -> bool {
-    let mut bytes = FIX_BYTES;
-    bytes[20] = 3;
-    matches!(
-        fix_at(&bytes, 0),
-        Err(ErrorKind::UnknownEnumTag { source }) if source.tag == 3
-    )
-}
-
-#[test]
-fn structs_are_their_bytes(rt: HostRuntime) {
-    assert!(rt; is_its_bytes(), "bytes");
-    assert!(rt; is_unknown(), "unknown");
-}
-
-fn has_track(site: &TableRef<'_, Site>) -> bool {
-    match Site::track(site) {
+fn has_track(site: &SiteRef<'_>) -> bool {
+    match site.track() {
         Ok(Some(track)) => {
             track.len() == 2
                 && matches!(point(&track, 0), Some(pos) if pos == PARIS)
@@ -104,8 +43,8 @@ fn has_track(site: &TableRef<'_, Site>) -> bool {
     }
 }
 
-fn has_kinds(site: &TableRef<'_, Site>) -> bool {
-    match Site::kinds(site) {
+fn has_kinds(site: &SiteRef<'_>) -> bool {
+    match site.kinds() {
         Ok(Some(kinds)) => {
             kinds.len() == 2
                 && matches!(kinds.get(0), Some(Ok(Kind::Ship)))
@@ -115,8 +54,8 @@ fn has_kinds(site: &TableRef<'_, Site>) -> bool {
     }
 }
 
-fn has_features(site: &TableRef<'_, Site>) -> bool {
-    match Site::features(site) {
+fn has_features(site: &SiteRef<'_>) -> bool {
+    match site.features() {
         Ok(features) => {
             features.bits == 5
                 && features.has(Features::ROAD)
@@ -127,15 +66,13 @@ fn has_features(site: &TableRef<'_, Site>) -> bool {
 }
 
 fn is_site(bytes: &[u8], kind: Kind, heat: f32) -> bool {
-    let site: Result<TableRef<'_, Site>, _> = ReadAsRoot::read_as_root(bytes);
+    let site: Result<SiteRef<'_>, _> = read_root(bytes);
     let Ok(site) = site else {
         return false;
     };
-    matches!(Site::home(&site), Ok(Some(home)) if home == PARIS)
-        && matches!(Site::fix(&site), Ok(Some(fix)) if fix == FIX)
-        && matches!(Site::leg(&site), Ok(Some(leg)) if leg == LEG)
-        && matches!(Site::kind(&site), Ok(read) if read == kind)
-        && matches!(Site::heat(&site), Ok(read) if read == heat)
+    matches!(site.home(), Ok(home) if home == PARIS)
+        && matches!(site.kind(), Ok(read) if read == kind)
+        && matches!(site.heat(), Ok(read) if read == heat)
         && has_track(&site)
         && has_kinds(&site)
         && has_features(&site)
@@ -143,14 +80,14 @@ fn is_site(bytes: &[u8], kind: Kind, heat: f32) -> bool {
 
 fn fields(kind: Kind, heat: f32) -> SiteFields<'static> {
     SiteFields {
-        home: Some(PARIS),
-        track: &[PARIS, SANTIAGO],
-        fix: FIX,
+        home: PARIS,
+        track: Some(&[PARIS, SANTIAGO]),
         kind,
         heat,
         kinds: &[Kind::Ship, Kind::Car],
-        leg: Some(LEG),
         features: Features::WATER.with(Features::ROAD),
+        depth: 0.0,
+        levels: &[],
     }
 }
 
@@ -169,7 +106,7 @@ fn a_default_is_read(builder: &mut Builder) -> Result<bool, BuildError> {
 fn a_home_is_read(builder: &mut Builder) -> Result<bool, BuildError> {
     Ok(matches!(
         home_read_back(builder, fields(Kind::Car, 0.0)),
-        Ok(Some(home)) if home == PARIS
+        Ok(Ok(home)) if home == PARIS
     ))
 }
 
@@ -181,8 +118,8 @@ fn sites_are_read_back(rt: HostRuntime) {
     assert!(rt; in_builder(rt.alloc(), a_home_is_read), "home");
 }
 
-fn is_unknown_kind(site: &TableRef<'_, Site>) -> bool {
-    match Site::kind(site) {
+fn is_unknown_kind(site: &SiteRef<'_>) -> bool {
+    match site.kind() {
         Err(
             Error {
                 source_location,
@@ -198,18 +135,36 @@ fn is_unknown_kind(site: &TableRef<'_, Site>) -> bool {
     }
 }
 
+fn is_unknown_item(site: &SiteRef<'_>) -> bool {
+    let Ok(Some(kinds)) = site.kinds() else {
+        return false;
+    };
+    matches!(kinds.get(0), Some(Ok(Kind::Ship)))
+        && matches!(
+            kinds.get(1),
+            Some(Err(error)) if error.source_location.type_ == "[plain]"
+                && error.source_location.method == "get"
+                && matches!(
+                    error.error_kind,
+                    ErrorKind::UnknownEnumTag { source } if source.tag == 9
+                )
+        )
+}
+
 #[test]
 fn unknown_kinds_are_errors(rt: HostRuntime) {
     let mut bytes = FLATC_SITE;
     bytes[30] = 9;
-    let site: Result<TableRef<'_, Site>, _> = ReadAsRoot::read_as_root(&bytes);
+    bytes[133] = 9;
+    let site: Result<SiteRef<'_>, _> = read_root(&bytes);
     let Ok(site) = site else {
         assert!(rt; false, "root");
         return;
     };
     assert!(rt; is_unknown_kind(&site), "kind 9");
+    assert!(rt; is_unknown_item(&site), "kind 9 of several");
     assert!(rt;
-        matches!(Site::kind_or(&site, Kind::Car), Ok(Kind::Car)),
+        matches!(site.kind_or(Kind::Car), Ok(Kind::Car)),
         "another in its place"
     );
 }
@@ -219,13 +174,16 @@ fn is_named(error: Error, method: &str) -> bool {
         && error.source_location.method == method
         && matches!(
             error.error_kind,
-            ErrorKind::InvalidOffset | ErrorKind::InvalidLength | ErrorKind::UnknownEnumTag { .. }
+            ErrorKind::InvalidOffset
+                | ErrorKind::InvalidLength
+                | ErrorKind::MissingRequired
+                | ErrorKind::UnknownEnumTag { .. }
         )
 }
 
 macro_rules! is_answered {
     ($site:ident, $accessor:ident, $name:literal) => {
-        match Site::$accessor(&$site) {
+        match $site.$accessor() {
             Ok(_) => true,
             Err(error) => is_named(error, $name),
         }
@@ -233,18 +191,18 @@ macro_rules! is_answered {
 }
 
 fn is_answered(bytes: &[u8]) -> bool {
-    let site: Result<TableRef<'_, Site>, _> = ReadAsRoot::read_as_root(bytes);
+    let site: Result<SiteRef<'_>, _> = read_root(bytes);
     let Ok(site) = site else {
         return true;
     };
     is_answered!(site, home, "home")
         && is_answered!(site, track, "track")
-        && is_answered!(site, fix, "fix")
         && is_answered!(site, kind, "kind")
         && is_answered!(site, heat, "heat")
         && is_answered!(site, kinds, "kinds")
-        && is_answered!(site, leg, "leg")
         && is_answered!(site, features, "features")
+        && is_answered!(site, depth, "depth")
+        && is_answered!(site, levels, "levels")
 }
 
 fn damage_is_answered() -> bool {

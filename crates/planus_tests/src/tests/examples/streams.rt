@@ -1,10 +1,10 @@
 //! Strings in one stream are read back one by one, also where it is cut.
 
 use super::in_builder;
+use by_hand::{append, read_all};
 use planus::errors::ErrorKind;
 use planus::{BuildError, Builder, SliceWithStartOffset, TableRead};
 use std::alloc::Global;
-use uses_tables::{append, read_all};
 
 const TEXTS: &[&str] = &["Axe", "Bow", "Club"];
 

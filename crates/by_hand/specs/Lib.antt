@@ -1,0 +1,5 @@
+pub mod Kinds
+pub mod Structs
+pub mod Sites
+pub mod Owners
+pub mod Streams

@@ -1,0 +1,122 @@
+//! Tables `Entry`.
+
+ghost use Rattle.std.specs.Prelude.{◌∷◌, [], codes, MatchOption, ⊤};
+ghost use Rattle.planus_laws.specs.Printed.{u64_shape, IsIn, AllIn, IsTextRequired};
+ghost use Rattle.planus_laws.specs.Printed.{IsTableRequired, IsTableVector, text_kind, table_kind};
+ghost use Rattle.planus_laws.specs.Printed.{IsPlainFieldOr, IsUnionField, ReadsVariants, tables};
+ghost use Rattle.planus_laws.specs.Printed.{optional, required, number_or, union};
+ghost use Rattle.harbour.specs.Cause.{cause_variants};
+ghost use Rattle.harbour.specs.declared.cause.Cause.{Cause};
+ghost use Rattle.harbour.specs.declared.entry.Entry.{Entry};
+ghost use Rattle.harbour.specs.declared.origin.Origin.{Origin};
+ghost use Rattle.harbour.specs.declared.origin.OriginRef.{OriginRef};
+
+use crate::cause::{Cause, CauseRef};
+use crate::origin::{Origin, OriginRef};
+use planus::table_reader::Table;
+use planus::{
+    Builder, List, Offset, OrDefault, Result, TableKind, TableRef, TableView, TableWriter, Text,
+    UnionOffset, Vector, create_table, fields, plain_field_or, table_required, table_vector,
+    text_required, union_field,
+};
+use planus_laws::{Built, Create};
+
+/// An entry of a log.
+pub struct Entry;
+
+/// The fields of `Entry`, as [`Entry::create`] takes them.
+#[derive(Drop)]
+pub struct EntryFields<'a> {
+    pub at: u64,
+    pub text: &'a str,
+    pub origin: Offset<Origin>,
+    pub cause: Option<UnionOffset<Cause>>,
+    pub parents: Option<&'a [Offset<Entry>]>,
+}
+
+impl<'a> Create<EntryFields<'a>> for Entry {
+    ghost lines = { λ fields.
+        number_or u64_shape 0 0 fields.at ∷
+        required text_kind 1 fields.text ∷
+        required (table_kind Origin (λ (view : OriginRef). view.0)) 2 fields.origin ∷
+        union cause_variants 3 fields.cause ∷
+        optional (tables Entry) 5 fields.parents ∷ [] };
+
+    ghost may = { λ fields builder. IsIn builder fields.origin ×
+        MatchOption fields.cause ⊤ (λ x. IsIn builder x.offset) ×
+        MatchOption fields.parents ⊤ (λ x. AllIn builder x.now) };
+
+    fn create(builder: &mut Builder, fields: EntryFields<'a>) -> Built<Entry> {
+        let lines = fields![
+            0: u64 = OrDefault { value: fields.at, default: 0 },
+            1: Offset<Text> = fields.text,
+            2: Offset<Origin> = fields.origin,
+            (3, 4): union Cause = fields.cause,
+            5: Offset<List<Offset<Entry>>> = fields.parents,
+        ];
+        create_table::<Entry, _>(builder, lines)
+    }
+}
+
+/// One in a buffer.
+#[derive(Clone, Copy)]
+pub struct EntryRef<'a>(Table<'a>);
+
+impl<'a> EntryRef<'a> {
+    /// Returns `at`.
+    pub fn at(&self) -> Result<u64>
+        ensures { IsPlainFieldOr u64_shape 0 self.now.0 0 (codes "Entry") (codes "at") result }
+    {
+        plain_field_or(&self.0, 0, 0, "Entry", "at")
+    }
+
+    /// Returns `text`.
+    pub fn text(&self) -> Result<&'a str>
+        ensures { IsTextRequired self.now.0 1 (codes "Entry") (codes "text") result }
+    {
+        text_required(&self.0, 1, "Entry", "text")
+    }
+
+    /// Returns `origin`.
+    pub fn origin(&self) -> Result<OriginRef<'a>>
+        ensures { IsTableRequired Origin (λ view. view.0) self.now.0 2 (codes "Entry")
+            (codes "origin") result }
+    {
+        table_required(&self.0, 2, "Entry", "origin")
+    }
+
+    /// Returns `cause`.
+    pub fn cause(&self) -> Result<Option<CauseRef<'a>>>
+        ensures { IsUnionField (ReadsVariants cause_variants) self.now.0 3 (codes "Entry")
+            (codes "cause") Cause result }
+    {
+        union_field::<Cause, CauseRef<'a>>(&self.0, 3, "Entry", "cause")
+    }
+
+    /// Returns `parents`.
+    pub fn parents(&self) -> Result<Option<Vector<'a, Result<TableRef<'a, Entry>>>>>
+        ensures { IsTableVector Entry self.now.0 5 (codes "Entry") (codes "parents") result }
+    {
+        table_vector(&self.0, 5, "Entry", "parents")
+    }
+}
+
+impl<'a> TableView<'a> for EntryRef<'a> {
+    type Kind = Entry;
+
+    ghost table = { λ view. view.0 };
+
+    fn of_table(read: Table<'a>) -> EntryRef<'a> {
+        EntryRef(read)
+    }
+}
+
+impl TableKind for Entry {
+    type Writer = TableWriter<16>;
+
+    ghost name = { codes "[EntryRef]" };
+
+    fn name() -> &'static str {
+        "[EntryRef]"
+    }
+}

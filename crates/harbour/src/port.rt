@@ -1,0 +1,144 @@
+//! Tables `Port`.
+
+ghost use Rattle.std.specs.Prelude.{◌∷◌, [], codes};
+ghost use Rattle.planus_laws.specs.Printed.{u16_shape, IsIn, AllIn, AllUnionsIn};
+ghost use Rattle.planus_laws.specs.Printed.{IsPlainVectorRequired, IsBytesRequired};
+ghost use Rattle.planus_laws.specs.Printed.{IsTextVectorRequired, IsTableVectorRequired};
+ghost use Rattle.planus_laws.specs.Printed.{bytes_kind, IsPlainField, IsUnionRequired};
+ghost use Rattle.planus_laws.specs.Printed.{IsUnionVectorRequired, ReadsVariants, plains, texts};
+ghost use Rattle.planus_laws.specs.Printed.{tables, required, plain_if, union_required};
+ghost use Rattle.planus_laws.specs.Printed.{unions_required};
+ghost use Rattle.harbour.specs.Gauge.{gauge_shape};
+ghost use Rattle.harbour.specs.Owner.{owner_variants};
+ghost use Rattle.harbour.specs.declared.owner.OwnerRef.{OwnerRef};
+ghost use Rattle.harbour.specs.declared.ship.Ship.{Ship};
+
+use crate::gauge::Gauge;
+use crate::owner::{Owner, OwnerRef};
+use crate::ship::Ship;
+use planus::table_reader::Table;
+use planus::{
+    Builder, ByteList, List, Offset, Result, TableKind, TableRef, TableView, TableWriter, Text,
+    UnionOffset, UnionVector, Vector, bytes_required, create_table, fields, plain_field,
+    plain_vector_required, table_vector_required, text_vector_required, union_required,
+    union_vector_required,
+};
+use planus_laws::{Built, Create};
+
+/// Where ships lie.
+pub struct Port;
+
+/// The fields of `Port`, as [`Port::create`] takes them.
+#[derive(Drop)]
+pub struct PortFields<'a> {
+    pub owner: UnionOffset<Owner>,
+    pub ships: &'a [Offset<Ship>],
+    pub berths: &'a [&'a str],
+    pub shares: &'a [UnionOffset<Owner>],
+    pub soundings: &'a [u16],
+    pub chart: ByteList<'a>,
+    pub gauge: Option<Gauge>,
+}
+
+impl<'a> Create<PortFields<'a>> for Port {
+    ghost lines = { λ fields.
+        plain_if gauge_shape 8 fields.gauge ∷
+        union_required owner_variants 0 fields.owner ∷
+        required (tables Ship) 2 fields.ships ∷
+        required texts 3 fields.berths ∷
+        unions_required OwnerRef 4 fields.shares ∷
+        required (plains u16_shape) 6 fields.soundings ∷
+        required bytes_kind 7 fields.chart ∷ [] };
+
+    ghost may = { λ fields builder. IsIn builder fields.owner.offset ×
+        AllIn builder fields.ships.now × AllUnionsIn builder fields.shares.now };
+
+    fn create(builder: &mut Builder, fields: PortFields<'a>) -> Built<Port> {
+        let lines = fields![
+            8: Gauge = fields.gauge,
+            (0, 1): union Owner = fields.owner,
+            2: Offset<List<Offset<Ship>>> = fields.ships,
+            3: Offset<List<Offset<Text>>> = fields.berths,
+            (4, 5): unions Owner = fields.shares,
+            6: Offset<List<u16>> = fields.soundings,
+            7: Offset<List<u8>> = fields.chart,
+        ];
+        create_table::<Port, _>(builder, lines)
+    }
+}
+
+/// One in a buffer.
+#[derive(Clone, Copy)]
+pub struct PortRef<'a>(Table<'a>);
+
+impl<'a> PortRef<'a> {
+    /// Returns `owner`.
+    pub fn owner(&self) -> Result<OwnerRef<'a>>
+        ensures { IsUnionRequired (ReadsVariants owner_variants) self.now.0 0 (codes "Port")
+            (codes "owner") result }
+    {
+        union_required::<OwnerRef<'a>>(&self.0, 0, "Port", "owner")
+    }
+
+    /// Returns `ships`.
+    pub fn ships(&self) -> Result<Vector<'a, Result<TableRef<'a, Ship>>>>
+        ensures { IsTableVectorRequired Ship self.now.0 2 (codes "Port") (codes "ships") result }
+    {
+        table_vector_required(&self.0, 2, "Port", "ships")
+    }
+
+    /// Returns `berths`.
+    pub fn berths(&self) -> Result<Vector<'a, Result<&'a str>>>
+        ensures { IsTextVectorRequired self.now.0 3 (codes "Port") (codes "berths") result }
+    {
+        text_vector_required(&self.0, 3, "Port", "berths")
+    }
+
+    /// Returns `shares`.
+    pub fn shares(&self) -> Result<UnionVector<'a, OwnerRef<'a>>>
+        ensures { IsUnionVectorRequired self.now.0 4 (codes "Port") (codes "shares") result }
+    {
+        union_vector_required(&self.0, 4, "Port", "shares")
+    }
+
+    /// Returns `soundings`.
+    pub fn soundings(&self) -> Result<Vector<'a, u16>>
+        ensures { IsPlainVectorRequired self.now.0 6 (codes "Port") (codes "soundings") result }
+    {
+        plain_vector_required(&self.0, 6, "Port", "soundings")
+    }
+
+    /// Returns `chart`.
+    pub fn chart(&self) -> Result<&'a [u8]>
+        ensures { IsBytesRequired self.now.0 7 (codes "Port") (codes "chart") result }
+    {
+        bytes_required(&self.0, 7, "Port", "chart")
+    }
+
+    /// Returns `gauge`.
+    pub fn gauge(&self) -> Result<Option<Gauge>>
+        ensures { IsPlainField gauge_shape self.now.0 8 (codes "Port") (codes "gauge") result }
+    {
+        plain_field(&self.0, 8, "Port", "gauge")
+    }
+}
+
+impl<'a> TableView<'a> for PortRef<'a> {
+    type Kind = Port;
+
+    ghost table = { λ view. view.0 };
+
+    fn of_table(read: Table<'a>) -> PortRef<'a> {
+        PortRef(read)
+    }
+}
+
+impl TableKind for Port {
+    type Writer = TableWriter<22>;
+
+    ghost name = { codes "[PortRef]" };
+
+    fn name() -> &'static str {
+        "[PortRef]"
+    }
+}

@@ -1,0 +1,46 @@
+//! Boats, whose callsigns are strings, and fleets, whose owners are strings or boats.
+
+use super::in_builder;
+use by_hand::{Boat, BoatRef, Callsign, Fleet, Named, Owner, OwnerRef};
+use planus::{BuildError, Builder, ReadAsRoot, TableRef, Text, UnionOffset, variant};
+
+fn is_boat(boat: &BoatRef<'_>, hull: u16) -> bool {
+    matches!(Boat::callsign(boat), Ok("J12"))
+        && matches!(Boat::hull(boat), Ok(read) if read == hull)
+}
+
+fn boat_is_read(builder: &mut Builder, hull: u16) -> Result<bool, BuildError> {
+    let boat = Boat::create(builder, hull, Callsign("J12"))?;
+    let bytes = builder.finish(boat, None)?;
+    let boat: Result<BoatRef<'_>, _> = ReadAsRoot::read_as_root(bytes);
+    Ok(matches!(boat, Ok(boat) if is_boat(&boat, hull)))
+}
+
+fn is_fleet(fleet: &TableRef<'_, Fleet>) -> bool {
+    let last = match Fleet::shares(fleet) {
+        Ok(Some(shares)) if shares.len() == 2 => shares.last(),
+        _ => None,
+    };
+    matches!(Fleet::owner(fleet), Ok(Some(OwnerRef::Boat(boat))) if is_boat(&boat, 100))
+        && matches!(Fleet::heir(fleet), Ok(Some(OwnerRef::Name("Jason"))))
+        && matches!(last, Some(Ok(OwnerRef::Name("Tiphys"))))
+}
+
+fn fleet_is_read(builder: &mut Builder) -> Result<bool, BuildError> {
+    let boat = Boat::create(builder, 100, Callsign("J12"))?;
+    let owner: UnionOffset<Owner> = UnionOffset::new(2, boat.downcast());
+    let shares: [Named<'_>; 2] = [variant![1: Text = "Jason"], variant![1: Text = "Tiphys"]];
+    let fleet = Fleet::create(builder, Some(owner), "Jason", &shares)?;
+    let bytes = builder.finish(fleet, None)?;
+    let fleet: Result<TableRef<'_, Fleet>, _> = ReadAsRoot::read_as_root(bytes);
+    Ok(matches!(fleet, Ok(fleet) if is_fleet(&fleet)))
+}
+
+#[test]
+fn fleets_are_read_back(rt: HostRuntime) {
+    for hull in [100, 250] {
+        let read = in_builder(rt.alloc(), |builder| boat_is_read(builder, hull));
+        assert!(rt; read, "boats");
+    }
+    assert!(rt; in_builder(rt.alloc(), fleet_is_read), "fleets");
+}

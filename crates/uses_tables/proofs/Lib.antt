@@ -1,3 +1,0 @@
-pub mod ReadNames
-pub mod ReadStreams
-pub mod KeptList

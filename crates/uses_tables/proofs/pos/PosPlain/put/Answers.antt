@@ -1,6 +1,0 @@
-use Rattle.std.proofs.Common.{arith}
-use Rattle.std.proofs.lemmas.Grind.{common_steps}
-use Rattle.uses_tables.proofs.pos.PosPlain.put.Goals as goal
-
-pub returns-clause-encoded : goal.returns-clause-encoded
-returns-clause-encoded c = grind (arith, common_steps)

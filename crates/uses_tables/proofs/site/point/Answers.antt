@@ -1,4 +1,0 @@
-use Rattle.uses_tables.proofs.site.point.Goals as goal
-
-pub returns : goal.returns
-returns c = c.plain_item.ensures.read_back
