@@ -8,7 +8,7 @@ ghost use Rattle.planus_commands.specs.Said.{said_of, SaysIf};
 use crate::arguments::{Command, Request, Words, request_of};
 use crate::buffers::view_file;
 use crate::printing::print_code;
-use crate::rewrite::{Formatting, format_file};
+use crate::rewrite::format_file;
 use crate::said::{CLEAN, FAILED, say as say_of};
 use crate::sources::schema_of;
 use crate::streams::{RunError, say};
@@ -39,13 +39,9 @@ fn format_files<R: Files + AllocGlobal, S: Read, W: Write, X: Write>(
     writer: &mut W,
     errors: &mut X,
 ) -> Result<u8, RunError> {
-    let how = Formatting {
-        write: words.write,
-        drop_comments: words.drop_comments,
-    };
     let mut worst = CLEAN;
     for name in &words.files {
-        worst = worst.max(format_file(rt, how, *name, input, writer, errors)?);
+        worst = worst.max(format_file(rt, words, *name, input, writer, errors)?);
     }
     Ok(worst)
 }
