@@ -15,7 +15,7 @@ loop-line-preserved c =
     let old = c.loop-line.text.items in
     c.in_ok-push.ensures.items
     ∙ ap (λ xs. xs ++ 10 ∷ []) (c.in_ok-extend_from_slice.ensures.items
-        ∙ ap (λ xs. old ++ xs) c.as_bytes.ensures.value)
+    ∙ ap (λ xs. old ++ xs) c.as_bytes.ensures.value)
     ∙ append_assoc old (string_bytes line) (10 ∷ [])
     ∙ ap (λ xs. xs ++ (string_bytes line ++ 10 ∷ [])) c.loop-line.invariant
     ∙ flat_map_more (λ xs. xs ++ 10 ∷ []) c.args.text.now.items told (string_bytes line)
