@@ -1,4 +1,3 @@
-pub mod Taken
 pub mod Inked
 pub mod Reported
 pub mod Nearby

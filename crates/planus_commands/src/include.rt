@@ -2,15 +2,18 @@
 
 use std::alloc::{AllocError, Global};
 
+fn leaves(segments: &[&str], segment: &str) -> bool {
+    match segments.last() {
+        Some(last) => segment == ".." && *last != "..",
+        None => false,
+    }
+}
+
 /// One file must have one name: without `.` and without a folder that `..` leaves again.
 fn normal(alloc: Global, path: &str) -> Result<String, AllocError> {
     let mut segments: Vec<&str> = Vec::new(alloc);
     for segment in path.split('/') {
-        let leaves = match segments.last() {
-            Some(last) => segment == ".." && *last != "..",
-            None => false,
-        };
-        if leaves {
+        if leaves(&segments, segment) {
             segments.pop();
         } else if segment != "." {
             segments.push(segment)?;

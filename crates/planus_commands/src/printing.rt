@@ -66,41 +66,12 @@ fn holds<R: Files + AllocGlobal>(rt: &R, name: &str, bytes: &[u8]) -> bool {
 }
 
 fn put_file<R: Files + AllocGlobal>(rt: &R, name: &str, bytes: &[u8]) -> Result<(), RunError> {
-    if holds(rt, name, bytes) {
-        return Ok(());
-    }
     if let Some((folder, _)) = name.rsplit_once('/') {
         if fs::create_dir_all(rt, folder).is_err() {
             return Err(RunError::Write);
         }
     }
     replace(rt, name, bytes)
-}
-
-fn write_file<R: Files + AllocGlobal, X: Write>(
-    rt: &R,
-    name: &str,
-    bytes: &[u8],
-    errors: &mut X,
-) -> Result<u8, RunError> {
-    match put_file(rt, name, bytes) {
-        Ok(()) => Ok(CLEAN),
-        Err(RunError::OutOfMemory) => Err(RunError::OutOfMemory),
-        Err(_) => fail(errors, "can't write ", name, ""),
-    }
-}
-
-fn compare_file<R: Files + AllocGlobal, X: Write>(
-    rt: &R,
-    name: &str,
-    bytes: &[u8],
-    errors: &mut X,
-) -> Result<u8, RunError> {
-    if holds(rt, name, bytes) {
-        return Ok(CLEAN);
-    }
-    say(errors, "", name, " isn't what is printed")?;
-    Ok(FAULTY)
 }
 
 fn print_file<R: Files + AllocGlobal, X: Write>(
@@ -111,10 +82,18 @@ fn print_file<R: Files + AllocGlobal, X: Write>(
 ) -> Result<u8, RunError> {
     let (folder_path, path) = (folder.path, file.path.as_str());
     let name = format!(in rt.alloc(); "{folder_path}/{path}")?;
+    let bytes = file.text.as_bytes();
+    if holds(rt, name.as_str(), bytes) {
+        return Ok(CLEAN);
+    }
     if folder.check {
-        compare_file(rt, name.as_str(), file.text.as_bytes(), errors)
-    } else {
-        write_file(rt, name.as_str(), file.text.as_bytes(), errors)
+        say(errors, "", name.as_str(), " isn't what is printed")?;
+        return Ok(FAULTY);
+    }
+    match put_file(rt, name.as_str(), bytes) {
+        Ok(()) => Ok(CLEAN),
+        Err(RunError::OutOfMemory) => Err(RunError::OutOfMemory),
+        Err(_) => fail(errors, "can't write ", name.as_str(), ""),
     }
 }
 

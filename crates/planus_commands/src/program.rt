@@ -8,7 +8,7 @@ ghost use Rattle.planus_commands.specs.Said.{said_of, SaysIf};
 use crate::arguments::{Command, Request, Words, request_of};
 use crate::buffers::view_file;
 use crate::printing::print_code;
-use crate::rewrite::{Formatting, format_file};
+use crate::rewrite::format_file;
 use crate::said::{CLEAN, FAILED, say as say_of};
 use crate::sources::schema_of;
 use crate::streams::{RunError, say};
@@ -17,35 +17,37 @@ use std::env::Env;
 use std::io::{Read, Write};
 use std::rt::Files;
 
-fn check_files<R: Files + AllocGlobal, S: Read, X: Write>(
+fn run_file<R: Files + AllocGlobal, S: Read, W: Write, X: Write>(
     rt: &R,
+    command: Command,
     words: &Words<'_>,
+    name: &str,
     input: &mut S,
+    writer: &mut W,
     errors: &mut X,
 ) -> Result<u8, RunError> {
-    let mut worst = CLEAN;
-    for name in &words.files {
-        if let Err(status) = schema_of(rt, &words.folders, *name, input, errors)? {
-            worst = worst.max(status);
-        }
+    if let Command::Format = command {
+        return format_file(rt, words, name, input, writer, errors);
     }
-    Ok(worst)
+    match schema_of(rt, &words.folders, name, input, errors)? {
+        Ok(_) => Ok(CLEAN),
+        Err(status) => Ok(status),
+    }
 }
 
-fn format_files<R: Files + AllocGlobal, S: Read, W: Write, X: Write>(
+/// Checks or formats each file. Returns the worst exit status.
+fn run_files<R: Files + AllocGlobal, S: Read, W: Write, X: Write>(
     rt: &R,
+    command: Command,
     words: &Words<'_>,
     input: &mut S,
     writer: &mut W,
     errors: &mut X,
 ) -> Result<u8, RunError> {
-    let how = Formatting {
-        write: words.write,
-        drop_comments: words.drop_comments,
-    };
     let mut worst = CLEAN;
     for name in &words.files {
-        worst = worst.max(format_file(rt, how, *name, input, writer, errors)?);
+        let status = run_file(rt, command, words, *name, input, writer, errors)?;
+        worst = worst.max(status);
     }
     Ok(worst)
 }
@@ -61,10 +63,9 @@ fn run_request<R: Files + AllocGlobal, S: Read, W: Write, X: Write>(
         return Ok(FAILED);
     };
     match command {
-        Command::Check => check_files(rt, words, input, errors),
-        Command::Format => format_files(rt, words, input, writer, errors),
         Command::View => view_file(rt, words, input, writer, errors),
         Command::Rattle => print_code(rt, words, input, errors),
+        command => run_files(rt, *command, words, input, writer, errors),
     }
 }
 

@@ -1,5 +1,6 @@
 //! A schema in its canonical layout, printed or written in place.
 
+use crate::arguments::Words;
 use crate::outcome::{Outcome, Printed};
 use crate::said::{CLEAN, FAILED, FAULTY, fail};
 use crate::sources::text_of;
@@ -9,13 +10,6 @@ use std::fs;
 use std::io::{Read, Write};
 use std::rt::Files;
 
-/// What `format` was asked to do.
-#[derive(Clone, Copy)]
-pub struct Formatting {
-    pub write: bool,
-    pub drop_comments: bool,
-}
-
 /// Replaces the file only once all bytes are written beside it.
 pub(crate) fn replace<R: Files + AllocGlobal>(
     rt: &R,
@@ -23,13 +17,12 @@ pub(crate) fn replace<R: Files + AllocGlobal>(
     bytes: &[u8],
 ) -> Result<(), RunError> {
     let beside = format!(in rt.alloc(); "{name}.planus")?;
-    if fs::write(rt, beside.as_str(), bytes).is_err() {
+    if fs::write(rt, beside.as_str(), bytes).is_err()
+        || fs::rename(rt, beside.as_str(), name).is_err()
+    {
         return Err(RunError::Write);
     }
-    match fs::rename(rt, beside.as_str(), name) {
-        Ok(()) => Ok(()),
-        Err(_) => Err(RunError::Write),
-    }
+    Ok(())
 }
 
 /// Nothing is written where comments would be lost.
@@ -64,7 +57,7 @@ fn write_back<R: Files + AllocGlobal, X: Write>(
 
 fn rewrite<R: Files + AllocGlobal, X: Write>(
     rt: &R,
-    how: Formatting,
+    words: &Words<'_>,
     name: &str,
     text: &[u8],
     errors: &mut X,
@@ -75,7 +68,7 @@ fn rewrite<R: Files + AllocGlobal, X: Write>(
             Ok(FAULTY)
         }
         Outcome::Formatted(out) => {
-            let loses_comments = has_comments(text, &out) && !how.drop_comments;
+            let loses_comments = has_comments(text, &out) && !words.drop_comments;
             write_back(rt, name, &out, loses_comments, errors)
         }
     }
@@ -83,7 +76,7 @@ fn rewrite<R: Files + AllocGlobal, X: Write>(
 
 fn print<R: AllocGlobal, W: Write, X: Write>(
     rt: &R,
-    how: Formatting,
+    words: &Words<'_>,
     name: &str,
     text: &[u8],
     writer: &mut W,
@@ -92,7 +85,7 @@ fn print<R: AllocGlobal, W: Write, X: Write>(
     match format(rt.alloc(), name, text, writer, errors)? {
         Printed::Report => Ok(FAULTY),
         Printed::Text { comments } => {
-            if comments && !how.drop_comments {
+            if comments && !words.drop_comments {
                 say(errors, "", name, ": its comments are left out")?;
             }
             Ok(CLEAN)
@@ -103,7 +96,7 @@ fn print<R: AllocGlobal, W: Write, X: Write>(
 /// Prints a canonical text, or writes it in place of its file. Returns the exit status.
 pub fn format_file<R: Files + AllocGlobal, S: Read, W: Write, X: Write>(
     rt: &R,
-    how: Formatting,
+    words: &Words<'_>,
     name: &str,
     input: &mut S,
     writer: &mut W,
@@ -111,7 +104,7 @@ pub fn format_file<R: Files + AllocGlobal, S: Read, W: Write, X: Write>(
 ) -> Result<u8, RunError> {
     match text_of(rt, name, input, errors)? {
         None => Ok(FAILED),
-        Some(text) if how.write => rewrite(rt, how, name, &text, errors),
-        Some(text) => print(rt, how, name, &text, writer, errors),
+        Some(text) if words.write => rewrite(rt, words, name, &text, errors),
+        Some(text) => print(rt, words, name, &text, writer, errors),
     }
 }

@@ -1,11 +1,8 @@
 //! What is written of a call that names no schema.
 
-ghost use Rattle.std.specs.Prelude.{◌≡◌, IfOk};
+ghost use Rattle.std.specs.Prelude.{◌≡◌, ◌++◌, codes, true, IfOk};
 ghost use Rattle.std.specs.Option.{option_map};
 ghost use Rattle.planus_commands.specs.Arguments.{asked};
-ghost use Rattle.planus_commands.specs.Arguments.{unknown_command as unknown_command_asked};
-ghost use Rattle.planus_commands.specs.Arguments.{unknown_option as unknown_option_asked};
-ghost use Rattle.planus_commands.specs.Arguments.{no_number as no_number_asked};
 ghost use Rattle.planus_commands.specs.Said.{first_letter as first_letter_lem};
 ghost use Rattle.planus_commands.specs.Said.{command_hint as command_hint_lem};
 ghost use Rattle.planus_commands.specs.Said.{option_hint as option_hint_lem};
@@ -150,29 +147,18 @@ fn said_text(alloc: Global, wrong: bool, text: &str) -> Result<Option<Said>, All
     Ok(Some(Said { wrong, text }))
 }
 
-fn unknown_command(alloc: Global, word: &str) -> Result<Option<Said>, AllocError>
-    ensures { IfOk result (λ said. option_map said_view said
-        ≡ said_of_lem (unknown_command_asked word.now)) }
+fn about(
+    alloc: Global,
+    before: &str,
+    word: &str,
+    after: &str,
+    hint: &str,
+) -> Result<Option<Said>, AllocError>
+    ensures { IfOk result (λ said. option_map said_view said ≡ said_text_lem true
+        (codes "planus: " ++ (before.now ++ (codes "`" ++ (word.now ++ (codes "`"
+        ++ (after.now ++ (hint.now ++ codes "\n")))))))) }
 {
-    let hint = command_hint(word);
-    let text = format!(in alloc; "planus: unknown command `{word}`; {hint}\n")?;
-    Ok(Some(Said { wrong: true, text }))
-}
-
-fn unknown_option(alloc: Global, command: Command, word: &str) -> Result<Option<Said>, AllocError>
-    ensures { IfOk result (λ said. option_map said_view said
-        ≡ said_of_lem (unknown_option_asked command word.now)) }
-{
-    let hint = option_hint(command, word);
-    let text = format!(in alloc; "planus: unknown option `{word}`; {hint}\n")?;
-    Ok(Some(Said { wrong: true, text }))
-}
-
-fn no_number(alloc: Global, word: &str) -> Result<Option<Said>, AllocError>
-    ensures { IfOk result (λ said. option_map said_view said
-        ≡ said_of_lem (no_number_asked word.now)) }
-{
-    let text = format!(in alloc; "planus: `{word}` is no number\n")?;
+    let text = format!(in alloc; "planus: {before}`{word}`{after}{hint}\n")?;
     Ok(Some(Said { wrong: true, text }))
 }
 
@@ -186,12 +172,17 @@ pub fn said_of(alloc: Global, request: &Request<'_>) -> Result<Option<Said>, All
         Request::HelpOf(command) => said_text(alloc, false, help_of(*command)),
         Request::Version => said_text(alloc, false, VERSION),
         Request::NoCommand => said_text(alloc, true, help()),
-        Request::UnknownCommand(word) => unknown_command(alloc, *word),
-        Request::UnknownOption(command, word) => unknown_option(alloc, *command, *word),
+        Request::UnknownCommand(word) => {
+            about(alloc, "unknown command ", *word, "; ", command_hint(*word))
+        }
+        Request::UnknownOption(command, word) => {
+            let hint = option_hint(*command, *word);
+            about(alloc, "unknown option ", *word, "; ", hint)
+        }
         Request::NoValue(choice) => said_text(alloc, true, no_value(*choice)),
         Request::NoSchema => said_text(alloc, true, NO_SCHEMA),
         Request::NoBuffer => said_text(alloc, true, NO_BUFFER),
-        Request::NoNumber(word) => no_number(alloc, *word),
+        Request::NoNumber(word) => about(alloc, "", *word, " is no number", ""),
         Request::SeveralSchemas => said_text(alloc, true, SEVERAL_SCHEMAS),
         Request::NoOutput => said_text(alloc, true, NO_OUTPUT),
     }

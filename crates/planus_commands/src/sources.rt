@@ -1,6 +1,6 @@
 //! The files of a schema: each is read once, after its includes.
 
-ghost use Rattle.std.specs.Prelude.{◌≡◌, length, IfOk};
+ghost use Rattle.std.specs.Prelude.{◌≡◌, ◌<◌, length, IfOk, IfSome, OnOk};
 
 use crate::checking::{File, resolve_or_report};
 use crate::include::{file_beside, file_in};
@@ -24,43 +24,31 @@ struct Source {
     declarations: Vec<Declaration>,
 }
 
+/// The files begun, and those read, each after its includes.
 #[derive(Drop)]
 struct Sources {
     begun: Vec<Vec<u8>>,
-    read: Vec<Source>,
-}
-
-#[derive(Drop)]
-struct Lists {
     files: Vec<File>,
     declarations: Vec<Vec<Declaration>>,
 }
 
 impl Sources {
-    fn begin(&mut self, alloc: Global, name: &str) -> Result<(), AllocError> {
+    fn begin(&mut self, alloc: Global, name: &str) -> Result<(), AllocError>
+        ensures files { self.new.files ≡ self.old.files }
+        ensures declarations { self.new.declarations ≡ self.old.declarations }
+    {
         self.begun.push(Vec::from_slice(alloc, name.as_bytes())?)?;
         Ok(())
     }
 
-    fn add(&mut self, file: File, declarations: Vec<Declaration>) -> Result<(), AllocError> {
-        self.read.push(Source { file, declarations })?;
+    fn add(&mut self, source: Source) -> Result<(), AllocError>
+        requires { length self.old.files.items ≡ length self.old.declarations.items }
+        ensures { OnOk result (length self.new.files.items ≡ length self.new.declarations.items) }
+    {
+        self.files.push(source.file)?;
+        self.declarations.push(source.declarations)?;
         Ok(())
     }
-}
-
-fn lists_of(alloc: Global, read: Vec<Source>) -> Result<Lists, AllocError>
-    ensures { IfOk result (λ d. length d.files.items ≡ length d.declarations.items) }
-{
-    let mut files = Vec::new(alloc);
-    let mut declarations = Vec::new(alloc);
-    'read: for source in read {
-        files.push(source.file)?;
-        declarations.push(source.declarations)?;
-    }
-    Ok(Lists {
-        files,
-        declarations,
-    })
 }
 
 /// Returns the bytes of a file, or of standard input for `-`.
@@ -85,19 +73,22 @@ pub fn text_of<R: Files + AllocGlobal, S: Read, X: Write>(
     input: &mut S,
     errors: &mut X,
 ) -> Result<Option<Vec<u8>>, RunError> {
-    let text = match read_text(rt, name, input) {
-        Ok(text) => text,
-        Err(RunError::OutOfMemory) => return Err(RunError::OutOfMemory),
+    match read_text(rt, name, input) {
+        Ok(text) if text.len() <= GREATEST_TEXT => Ok(Some(text)),
+        Ok(_) => {
+            say(errors, "", name, " is longer than 16777216 bytes")?;
+            Ok(None)
+        }
+        Err(RunError::OutOfMemory) => Err(RunError::OutOfMemory),
         Err(_) => {
             say(errors, "can't read ", name, "")?;
-            return Ok(None);
+            Ok(None)
         }
-    };
-    if text.len() > GREATEST_TEXT {
-        say(errors, "", name, " is longer than 16777216 bytes")?;
-        return Ok(None);
     }
-    Ok(Some(text))
+}
+
+fn is_there<R: Files + AllocGlobal>(rt: &R, name: &str) -> bool {
+    fs::open(rt, name).is_ok()
 }
 
 /// The folder of the including file comes first.
@@ -108,16 +99,62 @@ fn included<R: Files + AllocGlobal>(
     path: &str,
 ) -> Result<Option<String>, AllocError> {
     let beside = file_beside(rt.alloc(), name, path)?;
-    if fs::open(rt, beside.as_str()).is_ok() {
+    if is_there(rt, beside.as_str()) {
         return Ok(Some(beside));
     }
     for folder in folders {
         let found = file_in(rt.alloc(), *folder, path)?;
-        if fs::open(rt, found.as_str()).is_ok() {
+        if is_there(rt, found.as_str()) {
             return Ok(Some(found));
         }
     }
     Ok(None)
+}
+
+/// Returns the name of an included file, or reports why it isn't read.
+fn included_or_report<R: Files + AllocGlobal, X: Write>(
+    rt: &R,
+    folders: &[&str],
+    left: usize,
+    file: &File,
+    path: &[u8],
+    place: usize,
+    errors: &mut X,
+) -> Result<Option<String>, RunError>
+    ensures { IfOk result (λ found. IfSome found (λ _. 0 < left)) }
+{
+    let path = std::str::from_utf8(path).unwrap_or("");
+    let message = match included(rt, folders, file.name.as_str(), path)? {
+        Some(name) if left > 0 => return Ok(Some(name)),
+        Some(_) => b"more than 64 files include one another".as_slice(),
+        None => b"the included file can't be found",
+    };
+    let report = placed_report(rt.alloc(), file.name.as_str(), &file.text, place, message)?;
+    write_out(errors, &report)?;
+    Ok(None)
+}
+
+/// Returns a file, or reports what is wrong and returns the exit status.
+fn read_file<R: Files + AllocGlobal, S: Read, X: Write>(
+    rt: &R,
+    name: &str,
+    input: &mut S,
+    errors: &mut X,
+) -> Result<Result<Source, u8>, RunError> {
+    let Some(text) = text_of(rt, name, input, errors)? else {
+        return Ok(Err(FAILED));
+    };
+    match parse_or_report(rt.alloc(), name, &text)? {
+        Parsed::Faulty(report) => {
+            write_out(errors, &report)?;
+            Ok(Err(FAULTY))
+        }
+        Parsed::Declarations(declarations) => {
+            let name = String::from_str(rt.alloc(), name)?;
+            let file = File { name, text };
+            Ok(Ok(Source { file, declarations }))
+        }
+    }
 }
 
 /// Reads at most `left` files deep.
@@ -130,34 +167,20 @@ fn load<R: Files + AllocGlobal, S: Read, X: Write>(
     sources: &mut Sources,
     input: &mut S,
     errors: &mut X,
-) -> Result<u8, RunError> {
+) -> Result<u8, RunError>
+    requires { length sources.old.files.items ≡ length sources.old.declarations.items }
+    ensures { OnOk result
+        (length sources.new.files.items ≡ length sources.new.declarations.items) }
+{
     if file_index(&sources.begun, name.as_bytes()).is_some() {
         return Ok(CLEAN);
     }
-    let alloc = rt.alloc();
-    sources.begin(alloc, name)?;
-    let Some(text) = text_of(rt, name, input, errors)? else {
-        return Ok(FAILED);
-    };
-    match parse_or_report(alloc, name, &text)? {
-        Parsed::Faulty(report) => {
-            write_out(errors, &report)?;
-            Ok(FAULTY)
-        }
-        Parsed::Declarations(declarations) => {
-            let name = String::from_str(alloc, name)?;
-            let file = File { name, text };
-            let status = load_includes(
-                rt,
-                folders,
-                left,
-                &file,
-                &declarations,
-                sources,
-                input,
-                errors,
-            )?;
-            sources.add(file, declarations)?;
+    sources.begin(rt.alloc(), name)?;
+    match read_file(rt, name, input, errors)? {
+        Err(status) => Ok(status),
+        Ok(source) => {
+            let status = load_includes(rt, folders, left, &source, sources, input, errors)?;
+            sources.add(source)?;
             Ok(status)
         }
     }
@@ -168,61 +191,30 @@ fn load_includes<R: Files + AllocGlobal, S: Read, X: Write>(
     rt: &R,
     folders: &[&str],
     left: usize,
-    file: &File,
-    declarations: &[Declaration],
+    source: &Source,
     sources: &mut Sources,
     input: &mut S,
     errors: &mut X,
-) -> Result<u8, RunError> {
+) -> Result<u8, RunError>
+    requires { length sources.old.files.items ≡ length sources.old.declarations.items }
+    ensures { OnOk result
+        (length sources.new.files.items ≡ length sources.new.declarations.items) }
+{
     let mut worst = CLEAN;
-    for declaration in declarations {
+    let file = &source.file;
+    for declaration in &source.declarations {
         if let Item::Include(path) = &declaration.item {
             let place = declaration.left;
-            let status = load_include(
-                rt, folders, left, file, path, place, sources, input, errors,
-            )?;
+            let status = match included_or_report(rt, folders, left, file, path, place, errors)? {
+                Some(name) => {
+                    load(rt, folders, left - 1, name.as_str(), sources, input, errors)?
+                }
+                None => FAULTY,
+            };
             worst = worst.max(status);
         }
     }
     Ok(worst)
-}
-
-#[cycle(load)]
-fn load_include<R: Files + AllocGlobal, S: Read, X: Write>(
-    rt: &R,
-    folders: &[&str],
-    left: usize,
-    file: &File,
-    path: &[u8],
-    place: usize,
-    sources: &mut Sources,
-    input: &mut S,
-    errors: &mut X,
-) -> Result<u8, RunError> {
-    let path = std::str::from_utf8(path).unwrap_or("");
-    let found = included(rt, folders, file.name.as_str(), path)?;
-    let message = match found {
-        None => b"the included file can't be found".as_slice(),
-        Some(name) => {
-            if left > 0 {
-                return load(rt, folders, left - 1, name.as_str(), sources, input, errors);
-            }
-            b"more than 64 files include one another"
-        }
-    };
-    let report = placed_report(rt.alloc(), file.name.as_str(), &file.text, place, message)?;
-    write_out(errors, &report)?;
-    Ok(FAULTY)
-}
-
-fn meaning_of<X: Write>(
-    alloc: Global,
-    read: Vec<Source>,
-    errors: &mut X,
-) -> Result<Result<Schema, u8>, RunError> {
-    let lists = lists_of(alloc, read)?;
-    let schema = resolve_or_report(alloc, &lists.files, &lists.declarations, errors)?;
-    Ok(schema.ok_or(FAULTY))
 }
 
 /// Reads a file and all that it includes. Returns what they mean, or reports their faults and
@@ -237,7 +229,8 @@ pub fn schema_of<R: Files + AllocGlobal, S: Read, X: Write>(
     let alloc = rt.alloc();
     let mut sources = Sources {
         begun: Vec::new(alloc),
-        read: Vec::new(alloc),
+        files: Vec::new(alloc),
+        declarations: Vec::new(alloc),
     };
     let status = load(
         rt,
@@ -251,5 +244,6 @@ pub fn schema_of<R: Files + AllocGlobal, S: Read, X: Write>(
     if status != CLEAN {
         return Ok(Err(status));
     }
-    meaning_of(alloc, sources.read, errors)
+    let schema = resolve_or_report(alloc, &sources.files, &sources.declarations, errors)?;
+    Ok(schema.ok_or(FAULTY))
 }

@@ -5,7 +5,7 @@ ghost use Rattle.std.specs.List.{list_any};
 ghost use Rattle.std.specs.String.{string_bytes};
 ghost use Rattle.planus_dump.specs.FaultLines.{is_fault_line as is_fault_line_lem, begins_with};
 ghost use Rattle.planus_commands.specs.Viewing.{end_text as end_lem, lines_text, lines_of};
-ghost use Rattle.planus_commands.specs.Viewing.{view_text as view_lem, is_whole as is_whole_lem};
+ghost use Rattle.planus_commands.specs.Viewing.{view_text as view_lem};
 ghost use Rattle.planus_commands.specs.Viewing.{is_clean as is_clean_lem, WritesView};
 ghost use Rattle.planus_commands.specs.Viewing.{FailsViewing};
 
@@ -87,16 +87,10 @@ fn has_fault(lines: &[String]) -> bool
     false
 }
 
-fn is_whole(end: End) -> bool
-    ensures { result ≡ is_whole_lem end }
-{
-    matches!(end, End::Whole)
-}
-
 fn is_clean(view: &FirstLines) -> bool
     ensures { result ≡ is_clean_lem view.now }
 {
-    is_whole(view.end) && !has_fault(&view.lines)
+    matches!(view.end, End::Whole) && !has_fault(&view.lines)
 }
 
 /// Writes the first lines of a buffer, and why more are left out. Returns whether all is shown and

@@ -1,12 +1,13 @@
-use Rattle.std.proofs.Common.{◌+◌, ◌*◌}
+use Rattle.std.proofs.Common.{◌≡◌, ◌+◌, ◌*◌, length}
 use Rattle.planus_commands.proofs.sources.+load.Given as goal
 
--- fewer files are left at each include, and calls within one go forward
+-- fewer files are left at each include
 abbrev pub decreases-load : goal.decreases-load
-decreases-load g l = 3 * l.left + 2
+decreases-load g l = 2 * l.left + 1
 
 abbrev pub decreases-load_includes : goal.decreases-load_includes
-decreases-load_includes g l = 3 * l.left + 1
+decreases-load_includes g l = 2 * l.left
 
-abbrev pub decreases-load_include : goal.decreases-load_include
-decreases-load_include g l = 3 * l.left
+abbrev pub invariant-load_includes-loop-declaration : goal.invariant-load_includes-loop-declaration
+invariant-load_includes-loop-declaration g l =
+    length l.sources.files.items ≡ length l.sources.declarations.items
