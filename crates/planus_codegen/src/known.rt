@@ -1,12 +1,6 @@
 //! Names that printed code can't take.
 
-/// Words that are reserved in code.
-const RESERVED: &str =
-    "_ NOTHING Self abbrev bool core f32 f64 i16 i32 i64 i8 main planus planus_laws std u16 u32 \
-     u64 u8 abstract as async await become box break const continue crate do dyn elim else \
-     ensures enum extern false final fn for gen ghost if impl in let loop macro match mod move \
-     mut omega override priv prove pub ref requires return self static struct super syntax trait \
-     true try type typeof unfolding union unsafe unsized use virtual where while yield";
+use planus_plan::is_reserved as is_reserved_word;
 
 /// Reserved in clauses or in printed code; a namespace can have them.
 const RESERVED_IN_CLAUSES: &str = "builder clone data deriving fields module record result table";
@@ -33,11 +27,6 @@ fn has_word(words: &str, name: &[u8]) -> bool {
         }
     }
     false
-}
-
-/// Whether no namespace can have this name.
-pub(crate) fn is_reserved_word(name: &[u8]) -> bool {
-    has_word(RESERVED, name)
 }
 
 /// Whether no field, type or declaration's module can have this name.

@@ -6,10 +6,12 @@ ghost use Rattle.planus_plan.specs.Names.{are_scopes as are_scopes_lem};
 ghost use Rattle.planus_plan.specs.Names.{are_apart as are_apart_lem};
 ghost use Rattle.planus_plan.specs.Names.{are_apart_from as are_apart_from_lem};
 
-use crate::known::{is_known_module, is_known_type, is_reserved, is_reserved_word};
+use crate::known::{is_known_module, is_known_type, is_reserved};
 use crate::refusal::Refusal;
 use planus_layout::{Body, Declared, Enum, is_among as is_in};
-use planus_plan::{are_apart, are_apart_from, are_names, are_scopes, is_among};
+use planus_plan::{
+    are_apart, are_apart_from, are_names, are_scopes, is_among, is_reserved as is_reserved_word,
+};
 use std::alloc::{AllocError, Global};
 
 /// The names of a schema's types, modules and members in code.

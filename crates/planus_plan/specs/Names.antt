@@ -4,6 +4,7 @@ use Rattle.std.specs.Global.{Vec}
 use Rattle.std.specs.Char.{is_ascii_digit, is_ascii_alphanumeric}
 use Rattle.std.specs.List.{list_all, list_any}
 use Rattle.std.specs.Str.{bytes_eq, str_eq_ignore_ascii_case}
+use Rattle.planus_plan.specs.declared.scope.TheConstants.{RESERVED}
 
 abbrev pub is_name_byte : ℕ → Bool
 is_name_byte b = is_ascii_alphanumeric b || b == 95
@@ -12,9 +13,13 @@ abbrev pub begins_name : List ℕ → Bool
 begins_name [] = false
 begins_name (b ∷ bs) = not (is_ascii_digit b)
 
--- an identifier: letters, digits and `_`, with no digit first
+-- a word of the language, or one that printed code has anyway
+abbrev pub is_reserved : List ℕ → Bool
+is_reserved w = list_any (λ word. bytes_eq word.now w) RESERVED
+
+-- an identifier: letters, digits and `_`, with no digit first, and not reserved
 abbrev pub is_name : List ℕ → Bool
-is_name w = list_all is_name_byte w && begins_name w
+is_name w = list_all is_name_byte w && (begins_name w && not (is_reserved w))
 
 -- a name equals one of these but for the case of letters
 abbrev pub is_among : List ℕ → List (Vec ℕ) → Bool

@@ -5,4 +5,6 @@ mod plan;
 mod scope;
 
 pub use plan::{Line, Plan};
-pub use scope::{are_apart, are_apart_from, are_names, are_scopes, is_among};
+pub use scope::{
+    RESERVED, are_apart, are_apart_from, are_names, are_scopes, is_among, is_reserved,
+};

@@ -1,7 +1,10 @@
 //! The names of a scope.
 
 ghost use Rattle.std.specs.Prelude.{◌≡◌};
+ghost use Rattle.std.specs.List.{list_any};
+ghost use Rattle.std.specs.Str.{bytes_eq};
 ghost use Rattle.planus_plan.specs.Names.{is_name as is_name_lem};
+ghost use Rattle.planus_plan.specs.Names.{is_reserved as is_reserved_lem};
 ghost use Rattle.planus_plan.specs.Names.{is_name_byte as is_name_byte_lem};
 ghost use Rattle.planus_plan.specs.Names.{are_apart as are_apart_lem};
 ghost use Rattle.planus_plan.specs.Names.{are_names as are_names_lem};
@@ -12,6 +15,104 @@ ghost use Rattle.planus_plan.specs.Names.{are_all_names as are_all_names_lem};
 ghost use Rattle.planus_plan.specs.Names.{are_scopes as are_scopes_lem};
 
 use planus_layout::is_among as is_in;
+
+/// Words that no name in printed code can be: those of the language and of proofs, and names that
+/// the code has anyway.
+pub const RESERVED: [&str; 80] = [
+    "_",
+    "NOTHING",
+    "Self",
+    "abbrev",
+    "bool",
+    "core",
+    "f32",
+    "f64",
+    "i16",
+    "i32",
+    "i64",
+    "i8",
+    "main",
+    "planus",
+    "planus_laws",
+    "std",
+    "u16",
+    "u32",
+    "u64",
+    "u8",
+    "abstract",
+    "as",
+    "async",
+    "await",
+    "become",
+    "box",
+    "break",
+    "const",
+    "continue",
+    "crate",
+    "do",
+    "dyn",
+    "elim",
+    "else",
+    "ensures",
+    "enum",
+    "extern",
+    "false",
+    "final",
+    "fn",
+    "for",
+    "gen",
+    "ghost",
+    "if",
+    "impl",
+    "in",
+    "let",
+    "loop",
+    "macro",
+    "match",
+    "mod",
+    "move",
+    "mut",
+    "omega",
+    "override",
+    "priv",
+    "prove",
+    "pub",
+    "ref",
+    "requires",
+    "return",
+    "self",
+    "static",
+    "struct",
+    "super",
+    "syntax",
+    "trait",
+    "true",
+    "try",
+    "type",
+    "typeof",
+    "unfolding",
+    "union",
+    "unsafe",
+    "unsized",
+    "use",
+    "virtual",
+    "where",
+    "while",
+    "yield",
+];
+
+fn is_one_of(words: &[&str], name: &[u8]) -> bool
+    ensures { result ≡ list_any (λ word. bytes_eq word.now name.now) words.now }
+{
+    words.iter().any(|word| word.as_bytes() == name)
+}
+
+/// Returns whether no name can be this word.
+pub fn is_reserved(name: &[u8]) -> bool
+    ensures { result ≡ is_reserved_lem name.now }
+{
+    is_one_of(&RESERVED, name)
+}
 
 fn is_name_byte(byte: u8) -> bool
     ensures { result ≡ is_name_byte_lem byte }
@@ -38,7 +139,7 @@ fn is_name(name: &[u8]) -> bool
         }
         rest = after;
     }
-    begins_name(name)
+    begins_name(name) && !is_reserved(name)
 }
 
 /// Returns whether a name equals one of these but for the case of letters.
