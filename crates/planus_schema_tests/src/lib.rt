@@ -12,9 +12,9 @@ mod meaning;
 #[cfg(test)]
 mod meaning_rows;
 #[cfg(test)]
-mod monsters;
-#[cfg(test)]
 mod numbers;
+#[cfg(test)]
+mod orc;
 #[cfg(test)]
 mod printed;
 #[cfg(test)]
