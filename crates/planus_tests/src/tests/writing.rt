@@ -17,9 +17,9 @@ use planus_back::{Fill, Overwrite};
 use planus_write::{BuildError, Builder, Caches, Offset, WriteAsOffset};
 use std::alloc::Global;
 
-// A function that owns a builder is proved slowly: use `in_builder` and `calls_in_builder`.
+// A function that owns a builder is proved slowly: use `in_builder`.
 
-fn holds(found: Result<bool, BuildError>) -> bool {
+pub fn holds(found: Result<bool, BuildError>) -> bool {
     matches!(found, Ok(true))
 }
 
@@ -80,24 +80,11 @@ const NO_CACHES: Caches = Caches {
     hash_mask: 0,
 };
 
-fn in_builder<F: FnOnce(&mut Builder) -> bool>(alloc: Global, caches: Caches, of_it: F) -> bool
+pub fn in_builder<F: FnOnce(&mut Builder) -> bool>(alloc: Global, caches: Caches, of_it: F) -> bool
     requires { F.IsAlwaysCallable of_it }
 {
     match Builder::with_caches(alloc, 0, caches) {
         Ok(mut builder) => of_it(&mut builder),
-        Err(_) => false,
-    }
-}
-
-fn calls_in_builder<E: Drop, F: FnOnce(&mut Builder) -> Result<bool, E>>(
-    alloc: Global,
-    caches: Caches,
-    calls: F,
-) -> bool
-    requires { F.IsAlwaysCallable calls }
-{
-    match Builder::with_caches(alloc, 0, caches) {
-        Ok(mut builder) => matches!(calls(&mut builder), Ok(true)),
         Err(_) => false,
     }
 }

@@ -1,8 +1,9 @@
 //! Boats, whose callsigns are strings, and fleets, whose owners are strings or boats.
 
-use super::in_builder;
+use crate::tests::check;
+use crate::tests::writing::{holds, in_builder};
 use by_hand::{Boat, BoatRef, Callsign, Fleet, Named, Owner, OwnerRef};
-use planus::{BuildError, Builder, ReadAsRoot, TableRef, Text, UnionOffset, variant};
+use planus::{BuildError, Builder, Caches, ReadAsRoot, TableRef, Text, UnionOffset, variant};
 
 fn is_boat(boat: &BoatRef<'_>, hull: u16) -> bool {
     matches!(Boat::callsign(boat), Ok("J12"))
@@ -10,6 +11,7 @@ fn is_boat(boat: &BoatRef<'_>, hull: u16) -> bool {
 }
 
 fn boat_is_read(builder: &mut Builder, hull: u16) -> Result<bool, BuildError> {
+    builder.clear();
     let boat = Boat::create(builder, hull, Callsign("J12"))?;
     let bytes = builder.finish(boat, None)?;
     let boat: Result<BoatRef<'_>, _> = ReadAsRoot::read_as_root(bytes);
@@ -27,6 +29,7 @@ fn is_fleet(fleet: &TableRef<'_, Fleet>) -> bool {
 }
 
 fn fleet_is_read(builder: &mut Builder) -> Result<bool, BuildError> {
+    builder.clear();
     let boat = Boat::create(builder, 100, Callsign("J12"))?;
     let owner: UnionOffset<Owner> = UnionOffset::new(2, boat.downcast());
     let shares: [Named<'_>; 2] = [variant![1: Text = "Jason"], variant![1: Text = "Tiphys"]];
@@ -36,11 +39,17 @@ fn fleet_is_read(builder: &mut Builder) -> Result<bool, BuildError> {
     Ok(matches!(fleet, Ok(fleet) if is_fleet(&fleet)))
 }
 
+fn all_are_read(builder: &mut Builder) -> bool {
+    holds(boat_is_read(builder, 100))
+        && holds(boat_is_read(builder, 250))
+        && holds(fleet_is_read(builder))
+}
+
 #[test]
 fn fleets_are_read_back(rt: HostRuntime) {
-    for hull in [100, 250] {
-        let read = in_builder(rt.alloc(), |builder| boat_is_read(builder, hull));
-        assert!(rt; read, "boats");
-    }
-    assert!(rt; in_builder(rt.alloc(), fleet_is_read), "fleets");
+    check(
+        &rt,
+        in_builder(rt.alloc(), Caches::all(), all_are_read),
+        "boats and a fleet",
+    );
 }

@@ -1,10 +1,11 @@
 //! Floats are written as their bits, and read back.
 
-use super::in_builder;
+use crate::tests::check;
+use crate::tests::writing::{holds, in_builder};
 use by_hand::{Features, Kind, Pos, Site, SiteFields, SiteRef};
 use planus::{
-    BuildError, Builder, ReadAsRoot, Result, TableRef, Vector, plain_field_or, plain_vector,
-    read_root,
+    BuildError, Builder, Caches, ReadAsRoot, Result, TableRef, Vector, plain_field_or,
+    plain_vector, read_root,
 };
 use std::num::{f32_to_bits_with_nan, f64_to_bits_with_nan};
 
@@ -142,17 +143,21 @@ fn is_read(builder: &mut Builder, row: &Row) -> std::result::Result<bool, BuildE
     Ok(is_row(bytes, row))
 }
 
-fn all_are_read(builder: &mut Builder) -> std::result::Result<bool, BuildError> {
+fn all_are_read(builder: &mut Builder) -> bool {
     for row in ROWS {
-        if !is_read(builder, row)? {
-            return Ok(false);
+        if !holds(is_read(builder, row)) {
+            return false;
         }
     }
-    Ok(true)
+    true
 }
 
 #[test]
 fn floats_are_read_back(rt: HostRuntime) {
-    assert!(rt; flatc_sample_is_read(), "another builder's");
-    assert!(rt; in_builder(rt.alloc(), all_are_read), "rows");
+    check(&rt, flatc_sample_is_read(), "another builder's");
+    check(
+        &rt,
+        in_builder(rt.alloc(), Caches::all(), all_are_read),
+        "rows",
+    );
 }

@@ -1,7 +1,8 @@
-use super::in_builder;
+use crate::tests::check;
+use crate::tests::writing::{holds, in_builder};
 use by_hand::{Features, Kind, Pos, Site, SiteFields, SiteRef, home_read_back, point};
 use planus::errors::ErrorKind;
-use planus::{BuildError, Builder, Error, read_root};
+use planus::{BuildError, Builder, Caches, Error, read_root};
 
 const PARIS: Pos = Pos {
     lat: 48_856_600,
@@ -91,31 +92,40 @@ fn fields(kind: Kind, heat: f32) -> SiteFields<'static> {
     }
 }
 
-fn a_site_is_read(builder: &mut Builder) -> Result<bool, BuildError> {
-    let site = Site::create(builder, fields(Kind::Ship, -1.5))?;
+fn is_read(builder: &mut Builder, kind: Kind, heat: f32) -> Result<bool, BuildError> {
+    builder.clear();
+    let site = Site::create(builder, fields(kind, heat))?;
     let bytes = builder.finish(site, None)?;
-    Ok(is_site(bytes, Kind::Ship, -1.5))
-}
-
-fn a_default_is_read(builder: &mut Builder) -> Result<bool, BuildError> {
-    let site = Site::create(builder, fields(Kind::Bike, 1.0e30))?;
-    let bytes = builder.finish(site, None)?;
-    Ok(is_site(bytes, Kind::Bike, 1.0e30))
+    Ok(is_site(bytes, kind, heat))
 }
 
 fn a_home_is_read(builder: &mut Builder) -> Result<bool, BuildError> {
+    builder.clear();
     Ok(matches!(
         home_read_back(builder, fields(Kind::Car, 0.0)),
         Ok(Ok(home)) if home == PARIS
     ))
 }
 
+// A bike is the default.
+fn all_are_read(builder: &mut Builder) -> bool {
+    holds(is_read(builder, Kind::Ship, -1.5))
+        && holds(is_read(builder, Kind::Bike, 1.0e30))
+        && holds(a_home_is_read(builder))
+}
+
 #[test]
 fn sites_are_read_back(rt: HostRuntime) {
-    assert!(rt; is_site(&FLATC_SITE, Kind::Ship, -1.5), "another builder's");
-    assert!(rt; in_builder(rt.alloc(), a_site_is_read), "all");
-    assert!(rt; in_builder(rt.alloc(), a_default_is_read), "default");
-    assert!(rt; in_builder(rt.alloc(), a_home_is_read), "home");
+    check(
+        &rt,
+        is_site(&FLATC_SITE, Kind::Ship, -1.5),
+        "another builder's",
+    );
+    check(
+        &rt,
+        in_builder(rt.alloc(), Caches::all(), all_are_read),
+        "all",
+    );
 }
 
 fn is_unknown_kind(site: &SiteRef<'_>) -> bool {
@@ -151,22 +161,17 @@ fn is_unknown_item(site: &SiteRef<'_>) -> bool {
         )
 }
 
-#[test]
-fn unknown_kinds_are_errors(rt: HostRuntime) {
+fn unknown_kinds_are_errors() -> bool {
     let mut bytes = FLATC_SITE;
     bytes[30] = 9;
     bytes[133] = 9;
     let site: Result<SiteRef<'_>, _> = read_root(&bytes);
     let Ok(site) = site else {
-        assert!(rt; false, "root");
-        return;
+        return false;
     };
-    assert!(rt; is_unknown_kind(&site), "kind 9");
-    assert!(rt; is_unknown_item(&site), "kind 9 of several");
-    assert!(rt;
-        matches!(site.kind_or(Kind::Car), Ok(Kind::Car)),
-        "another in its place"
-    );
+    is_unknown_kind(&site)
+        && is_unknown_item(&site)
+        && matches!(site.kind_or(Kind::Car), Ok(Kind::Car))
 }
 
 fn is_named(error: Error, method: &str) -> bool {
@@ -223,5 +228,6 @@ fn damage_is_answered() -> bool {
 
 #[test]
 fn damaged_sites_are_answered(rt: HostRuntime) {
-    assert!(rt; damage_is_answered(), "every byte");
+    check(&rt, unknown_kinds_are_errors(), "unknown kinds");
+    check(&rt, damage_is_answered(), "every byte");
 }

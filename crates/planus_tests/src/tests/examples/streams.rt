@@ -1,17 +1,25 @@
 //! Strings in one stream are read back one by one, also where it is cut.
 
-use super::in_builder;
+use crate::tests::check;
+use crate::tests::writing::{holds, in_builder};
 use by_hand::{append, read_all};
 use planus::errors::ErrorKind;
-use planus::{BuildError, Builder, SliceWithStartOffset, TableRead};
+use planus::{BuildError, Builder, Caches, SliceWithStartOffset, TableRead};
 use std::alloc::Global;
 
 const TEXTS: &[&str] = &["Axe", "Bow", "Club"];
 
+fn is_text(piece: SliceWithStartOffset<'_>, text: &str) -> bool {
+    matches!(<&str as TableRead>::from_buffer(piece, 0), Ok(read) if read == text)
+}
+
 fn are_texts(pieces: &[SliceWithStartOffset<'_>]) -> bool {
-    pieces.iter().zip(TEXTS).all(|(piece, text)| {
-        matches!(<&str as TableRead>::from_buffer(*piece, 0), Ok(read) if read == *text)
-    })
+    for (piece, text) in pieces.iter().zip(TEXTS) {
+        if !is_text(*piece, text) {
+            return false;
+        }
+    }
+    true
 }
 
 fn is_read(
@@ -45,8 +53,12 @@ fn cuts_are_read(alloc: Global, stream: &[u8]) -> bool {
         (15, 0, Some(ErrorKind::InvalidLength)),
         (0, 0, None),
     ];
+    for (length, count, fault) in rows {
+        if !is_read(alloc, stream, length, count, fault) {
+            return false;
+        }
+    }
     stream.len() == 49
-        && rows.iter().all(|(length, count, fault)| is_read(alloc, stream, *length, *count, *fault))
 }
 
 fn stream_is_read(alloc: Global, builder: &mut Builder) -> Result<bool, BuildError> {
@@ -60,5 +72,8 @@ fn stream_is_read(alloc: Global, builder: &mut Builder) -> Result<bool, BuildErr
 #[test]
 fn a_stream_of_three_texts(rt: HostRuntime) {
     let alloc = rt.alloc();
-    assert!(rt; in_builder(alloc, |builder| stream_is_read(alloc, builder)));
+    let read = in_builder(alloc, Caches::all(), |builder| {
+        holds(stream_is_read(alloc, builder))
+    });
+    check(&rt, read, "each cut");
 }

@@ -1,5 +1,5 @@
+use super::prints;
 use super::traits::field;
-use super::{fails_printing, prints};
 use crate::tests::check;
 use planus_read::Error;
 use planus_read::errors::{ErrorKind, ErrorLocation, UnknownEnumTagKind};
@@ -77,20 +77,23 @@ fn faults_in_utf8_print_as_std_prints_them(rt: HostRuntime) {
 const FAULTY: [u8; 13] = [4, 0, 0, 0, 4, 0, 0, 0, b'A', b'x', 0xff, 0xfe, 0];
 
 fn errors_print(alloc: Global) -> bool {
-    let error: Error = ErrorKind::InvalidLength.with_error_location("Monster", "name", 255);
-    let faulty = field::<&str>(&FAULTY, 0).map_err(|kind| kind.with_error_location("T", "m", 255));
+    let Err(kind) = field::<&str>(&FAULTY, 0) else {
+        return false;
+    };
     let text = "In <T@ff>::m(): Invalid utf-8: invalid utf-8 sequence of 1 bytes from index 2";
-    prints(alloc, &error, "In <Monster@ff>::name(): Invalid length")
-        && fails_printing(alloc, faulty, text)
+    prints(
+        alloc,
+        &long_name(255),
+        "In <Monster@ff>::name(): Invalid length",
+    ) && prints(alloc, &kind.with_error_location("T", "m", 255), text)
 }
 
-fn locations_print(alloc: Global) -> bool {
-    let location = |byte_offset| ErrorLocation {
+fn location(byte_offset: usize) -> ErrorLocation {
+    ErrorLocation {
         type_: "T",
         method: "m",
         byte_offset,
-    };
-    prints(alloc, &location(255), "<T@ff>::m()") && prints(alloc, &location(usize::MAX), "<T>::m()")
+    }
 }
 
 fn unknown_tags_print(alloc: Global) -> bool {
@@ -103,25 +106,24 @@ fn unknown_tags_print(alloc: Global) -> bool {
     prints(alloc, &kind, "Unknown enum (tag = -1)")
         && prints(alloc, &tag, text)
         && prints(alloc, &Error::from(copy), text)
+        && prints(alloc, &location(255), "<T@ff>::m()")
+        && prints(alloc, &location(usize::MAX), "<T>::m()")
+}
+
+fn long_name(offset: usize) -> Error {
+    ErrorKind::InvalidLength.with_error_location("Monster", "name", offset)
+}
+
+fn errors_are_compared() -> bool {
+    field::<u32>(&[0; 3], 0) == Err(ErrorKind::InvalidOffset)
+        && long_name(4) == long_name(4)
+        && long_name(4) != long_name(5)
+        && CopyError::from(long_name(4)) != CopyError::OutOfMemory
 }
 
 #[test]
 fn errors_print_their_texts(rt: HostRuntime) {
     check(&rt, errors_print(rt.alloc()), "errors");
-    check(&rt, locations_print(rt.alloc()), "locations");
-    check(&rt, unknown_tags_print(rt.alloc()), "unknown tags");
-}
-
-#[test]
-fn errors_are_compared(rt: HostRuntime) {
-    let at = |offset| ErrorKind::InvalidLength.with_error_location("Ship", "name", offset);
-    let read = field::<u32>(&[0; 3], 0);
-    check(
-        &rt,
-        read == Err(ErrorKind::InvalidOffset)
-            && at(4) == at(4)
-            && at(4) != at(5)
-            && CopyError::from(at(4)) != CopyError::OutOfMemory,
-        "errors",
-    );
+    check(&rt, unknown_tags_print(rt.alloc()), "tags and locations");
+    check(&rt, errors_are_compared(), "compared");
 }

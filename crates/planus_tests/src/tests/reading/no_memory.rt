@@ -1,11 +1,10 @@
 //! Every call of a reader, a slice and an error's constructor, without memory.
 
 use super::{pieces, size_prefixed, tables, traits};
-use crate::tests::check;
+use crate::tests::{check, first_wrong_of, holds_without_memory, without_memory};
 use planus_read::Error;
 use planus_read::errors::{ErrorKind, UnknownEnumTagKind};
-use planus_testing::exhaust;
-use std::alloc::{AllocError, Global};
+use planus_testing::holds_or_says;
 use std::test::Fail;
 
 fn errors_are_made() -> bool {
@@ -33,53 +32,32 @@ fn worked_rows_are_read() -> bool {
 }
 
 fn traits_answer() -> bool {
-    traits::numbers_are_fields()
+    traits::numbers_are_read()
+        && traits::floats_are_read()
+        && traits::numbers_past_the_end_fail()
         && traits::lists_are_fields()
-        && traits::numbers_are_items()
-        && traits::floats_are_fields()
-        && traits::floats_are_items()
         && traits::texts_are_items()
         && traits::unions_are_read()
         && traits::roots_are_read()
 }
 
-fn pieces_answer() -> bool {
-    pieces::pieces_advance() && pieces::pieces_give_arrays() && pieces::arrays_give_arrays()
-}
-
-#[derive(Clone, Copy)]
-struct Answers {
-    rows: bool,
-    traits: bool,
-    pieces: bool,
-    streams: bool,
-    errors: bool,
-}
-
-fn answers_without_memory(alloc: Global) -> Result<(bool, Answers), AllocError> {
-    let mut held: Vec<Vec<u8>> = Vec::with_capacity(alloc, 262144)?;
-    let exhausted = exhaust(alloc, &mut held)?;
-    let answers = Answers {
-        rows: worked_rows_are_read(),
-        traits: traits_answer(),
-        pieces: pieces_answer(),
-        streams: size_prefixed::streams_answer(),
-        errors: errors_are_made(),
-    };
-    drop(held);
-    Ok((exhausted, answers))
+fn first_wrong() -> Option<&'static str> {
+    first_wrong_of(&[
+        ("the worked rows", worked_rows_are_read()),
+        ("the traits", traits_answer()),
+        ("pieces", pieces::pieces_answer()),
+        (
+            "sizes in front, and identifiers",
+            size_prefixed::streams_answer(),
+        ),
+        ("errors", errors_are_made()),
+    ])
 }
 
 #[test]
 fn no_reader_asks_for_memory(rt: HostRuntime) -> Result<(), Fail> {
-    let (exhausted, answers) = answers_without_memory(rt.alloc())?;
-    if !exhausted {
-        println!(rt; "memory was left: this test does not apply")?;
-    }
-    check(&rt, answers.rows, "the worked rows");
-    check(&rt, answers.traits, "the traits");
-    check(&rt, answers.pieces, "pieces");
-    check(&rt, answers.streams, "sizes in front, and identifiers");
-    check(&rt, answers.errors, "errors");
+    let (exhausted, wrong) = without_memory(rt.alloc(), first_wrong)?;
+    let holds = holds_without_memory(exhausted, wrong);
+    check(&rt, holds_or_says(&rt, holds)?, wrong.unwrap_or(""));
     Ok(())
 }

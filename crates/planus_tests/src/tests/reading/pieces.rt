@@ -3,7 +3,7 @@ use planus_read::{ArrayWithStartOffset, SliceWithStartOffset};
 
 const EIGHT: [u8; 8] = [1, 2, 3, 4, 5, 6, 7, 8];
 
-pub fn pieces_advance() -> bool {
+fn pieces_advance() -> bool {
     let piece = SliceWithStartOffset::new(&EIGHT, 16);
     let (Ok(rest), Ok(none)) = (piece.advance(3), piece.advance(8)) else {
         return false;
@@ -14,33 +14,41 @@ pub fn pieces_advance() -> bool {
         && matches!(piece.advance(9), Err(ErrorKind::InvalidOffset))
 }
 
-pub fn pieces_give_arrays() -> bool {
+fn pieces_give_arrays(max: usize) -> bool {
     let piece = SliceWithStartOffset::new(&EIGHT, 16);
     let Ok(array) = piece.advance_as_array::<4>(4) else {
         return false;
     };
-    let too_far = |at| matches!(
-        piece.advance_as_array::<4>(at),
-        Err(ErrorKind::InvalidOffset)
-    );
     array.offset_from_start() == 20
         && *array.as_array() == [5, 6, 7, 8]
         && *piece.unchecked_advance_as_array::<2>(6).as_array() == [7, 8]
-        && too_far(usize::MAX)
-        && too_far(5)
+        && matches!(
+            piece.advance_as_array::<4>(max),
+            Err(ErrorKind::InvalidOffset)
+        )
+        && matches!(
+            piece.advance_as_array::<4>(5),
+            Err(ErrorKind::InvalidOffset)
+        )
 }
 
-pub fn arrays_give_arrays() -> bool {
+fn arrays_give_arrays(max: usize) -> bool {
     let array = ArrayWithStartOffset::new(&[5, 6, 7, 8], 20);
     let Ok(part) = array.advance_as_array::<2>(2) else {
         return false;
     };
-    let too_far = |at| matches!(
-        array.advance_as_array::<2>(at),
-        Err(ErrorKind::InvalidOffset)
-    );
     *part.as_array() == [7, 8]
         && part.offset_from_start() == 22
-        && too_far(usize::MAX)
-        && too_far(3)
+        && matches!(
+            array.advance_as_array::<2>(max),
+            Err(ErrorKind::InvalidOffset)
+        )
+        && matches!(
+            array.advance_as_array::<2>(3),
+            Err(ErrorKind::InvalidOffset)
+        )
+}
+
+pub fn pieces_answer() -> bool {
+    pieces_advance() && pieces_give_arrays(usize::MAX) && arrays_give_arrays(usize::MAX)
 }

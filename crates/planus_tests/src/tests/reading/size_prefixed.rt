@@ -22,22 +22,26 @@ fn reads(bytes: &[u8], piece: &[u8], rest: &[u8]) -> bool {
 }
 
 fn buffers_are_read() -> bool {
-    let short = |bytes| matches!(read_size_prefixed(bytes), Err(ErrorKind::InvalidLength));
     reads(&TWO, &TWO[4..16], &TWO[16..])
         && reads(&TWO[16..], &TWO[4..16], &[])
         && reads(&[0, 0, 0, 0, 7], &[], &[7])
-        && short(&TWO[..15])
-        && short(&[0xff, 0xff, 0xff, 0xff])
+        && matches!(
+            read_size_prefixed(&TWO[..15]),
+            Err(ErrorKind::InvalidLength)
+        )
+        && matches!(
+            read_size_prefixed(&[0xff; 4]),
+            Err(ErrorKind::InvalidLength)
+        )
         && matches!(read_size_prefixed(&TWO[..3]), Err(ErrorKind::InvalidOffset))
 }
 
 fn identifiers_are_told() -> bool {
-    let told = |bytes, identifier| has_identifier(bytes, identifier);
-    told(&IDENTIFIED[4..], *b"TEST")
-        && told(&IDENTIFIED[4..12], *b"TEST")
-        && !told(&IDENTIFIED[4..11], *b"TEST")
-        && !told(&IDENTIFIED[4..], *b"TESS")
-        && !told(&[], [0; 4])
+    has_identifier(&IDENTIFIED[4..], *b"TEST")
+        && has_identifier(&IDENTIFIED[4..12], *b"TEST")
+        && !has_identifier(&IDENTIFIED[4..11], *b"TEST")
+        && !has_identifier(&IDENTIFIED[4..], *b"TESS")
+        && !has_identifier(&[], [0; 4])
 }
 
 pub fn streams_answer() -> bool {

@@ -8,7 +8,6 @@ use planus_read::{
     Place, SliceWithStartOffset, TableRead, TableReadUnionVector, TaggedPlace, array_from_buffer,
 };
 use std::alloc::Global;
-use std::test::Fail;
 
 const U16_TABLE: [u8; 16] = [4, 0, 0, 0, 0xfa, 0xff, 0xff, 0xff, 24, 0, 6, 0, 6, 0, 4, 0];
 
@@ -80,7 +79,11 @@ pub fn the_weapon_is_read() -> bool {
         )
         && matches!(table.access::<i16>(1, "Weapon", "damage"), Ok(Some(24)))
         && matches!(table.access::<&str>(2, "Weapon", "none"), Ok(None))
-        && required_fields_are_read(table)
+        && matches!(table.access_required::<u16>(1, "Weapon", "damage"), Ok(24))
+        && fails_with(
+            table.access_required::<u16>(9, "Weapon", "none"),
+            ErrorKind::MissingRequired,
+        )
 }
 
 fn has_number(table: Table<'_>, slot: usize, number: Option<u16>) -> bool {
@@ -99,21 +102,6 @@ fn has_no_union(table: Table<'_>, slot: usize) -> bool {
 
 fn union_fails(table: Table<'_>, slot: usize, kind: ErrorKind) -> bool {
     fails_with(table.access_union::<TaggedPlace<'_>>(slot, "T", "u"), kind)
-}
-
-fn no_union_fails(table: Table<'_>, slot: usize) -> bool {
-    fails_with(
-        table.access_union_required::<TaggedPlace<'_>>(slot, "T", "u"),
-        ErrorKind::MissingRequired,
-    )
-}
-
-fn required_fields_are_read(weapon: Table<'_>) -> bool {
-    matches!(weapon.access_required::<u16>(1, "Weapon", "damage"), Ok(24))
-        && fails_with(
-            weapon.access_required::<u16>(9, "Weapon", "none"),
-            ErrorKind::MissingRequired,
-        )
 }
 
 pub fn the_u16_table_is_read() -> bool {
@@ -144,7 +132,12 @@ pub fn half_a_union_vector_fails() -> bool {
     let Ok(table) = table_at(&HALF_UNION_VECTOR) else {
         return false;
     };
-    has_no_union(table, 0) && no_union_fails(table, 0) && half_vector_fails(table)
+    has_no_union(table, 0)
+        && fails_with(
+            table.access_union_required::<TaggedPlace<'_>>(0, "T", "u"),
+            ErrorKind::MissingRequired,
+        )
+        && half_vector_fails(table)
 }
 
 pub fn fields_past_the_end_fail() -> bool {
@@ -219,38 +212,7 @@ fn name_fails(alloc: Global, bytes: &[u8]) -> bool {
     }
 }
 
-#[test]
-fn damaged_weapon(rt: HostRuntime) {
-    let mut last_byte_one = WEAPON;
-    last_byte_one[31] = 1;
-    let rows: [&[u8]; 3] = [&last_byte_one, &WEAPON[..31], &WEAPON[..30]];
-    for bytes in rows {
-        assert!(rt; name_fails(rt.alloc(), bytes), "{} bytes", bytes.len());
-    }
-}
-
-fn slots_fail(alloc: Global, one_number: Table<'_>, past_end: Table<'_>) -> bool {
-    fails_printing(
-        alloc,
-        one_number.access_required::<u16>(1, "T", "n"),
-        "In <T@4>::n(): Missing required field",
-    ) && fails_printing(
-        alloc,
-        past_end.access_union::<TaggedPlace<'_>>(0, "T", "u"),
-        "In <T@4>::u(): Invalid offset",
-    )
-}
-
-#[test]
-fn errors_of_slots(rt: HostRuntime) -> Result<(), Fail> {
-    check(
-        &rt,
-        slots_fail(rt.alloc(), table_at(&U16_TABLE)?, table_at(&TAG_PAST_END)?),
-        "slots fail",
-    );
-    Ok(())
-}
-
+// The name of the type may have any lifetime.
 fn price_fails(alloc: Global, weapon: Table<'_>, type_: &str) -> bool {
     match weapon.access_required::<u8>(2, type_, "price") {
         Ok(_) => false,
@@ -258,13 +220,24 @@ fn price_fails(alloc: Global, weapon: Table<'_>, type_: &str) -> bool {
     }
 }
 
+fn slots_fail(alloc: Global) -> bool {
+    let (Ok(weapon), Ok(past_end)) = (table_at(&WEAPON), table_at(&TAG_PAST_END)) else {
+        return false;
+    };
+    price_fails(alloc, weapon, "Weapon2")
+        && fails_printing(
+            alloc,
+            past_end.access_union::<TaggedPlace<'_>>(0, "T", "u"),
+            "In <T@4>::u(): Invalid offset",
+        )
+}
+
 #[test]
-fn names_of_any_lifetime(rt: HostRuntime) -> Result<(), Fail> {
-    let type_ = format!(in rt.alloc(); "Weapon{}", 2)?;
-    check(
-        &rt,
-        price_fails(rt.alloc(), table_at(&WEAPON)?, type_.as_str()),
-        "price fails",
-    );
-    Ok(())
+fn errors_of_slots(rt: HostRuntime) {
+    let mut last_byte_one = WEAPON;
+    last_byte_one[31] = 1;
+    for bytes in [&last_byte_one, &WEAPON[..31], &WEAPON[..30]] {
+        check(&rt, name_fails(rt.alloc(), bytes), "a damaged name");
+    }
+    check(&rt, slots_fail(rt.alloc()), "slots");
 }

@@ -1,5 +1,5 @@
 use super::tables::Heads;
-use super::{UNIONS, fails_printing, fails_with, same_kind};
+use super::{UNIONS, fails_printing};
 use crate::tests::check;
 use planus_read::errors::{Error, ErrorKind};
 use planus_read::table_reader::Table;
@@ -66,39 +66,27 @@ fn read_root<'a, 'n, T: ReadAsRoot<'a>>(bytes: &'a [u8]) -> Result<T, located::E
     T::read_as_root(bytes)
 }
 
-fn stride<T: Stride>() -> usize {
-    T::stride()
+// As a field, and as an item of a vector.
+fn is_read<'buf, T: TableRead<'buf> + VectorRead<'buf> + PartialEq + Drop>(
+    bytes: &'buf [u8],
+    offset: usize,
+    want: T,
+) -> bool {
+    matches!(field::<T>(bytes, offset), Ok(read) if read == want)
+        && matches!(item::<T>(bytes, offset), Some(read) if read == want)
 }
 
-fn vector_name<'buf, 'n, T: VectorReadUnion<'buf>>() -> &'n str {
-    T::vector_name()
-}
-
-pub fn numbers_are_fields() -> bool {
-    matches!(field::<u8>(&BYTES, 0), Ok(0xff))
-        && matches!(field::<u16>(&BYTES, 0), Ok(0xfeff))
-        && matches!(field::<u32>(&BYTES, 0), Ok(0xfcfd_feff))
-        && matches!(field::<u64>(&BYTES, 0), Ok(0xf8f9_fafb_fcfd_feff))
-        && matches!(field::<i8>(&BYTES, 0), Ok(-1))
-        && matches!(field::<i16>(&BYTES, 0), Ok(-257))
-        && matches!(field::<i32>(&BYTES, 0), Ok(-50_462_977))
-        && matches!(field::<i64>(&BYTES, 8), Ok(0x3_0002_0001))
-        && matches!(field::<bool>(&BYTES, 0), Ok(true))
-        && matches!(field::<bool>(&BYTES, 9), Ok(false))
-        && matches!(field::<u64>(&BYTES, 9), Err(ErrorKind::InvalidOffset))
-}
-
-pub fn numbers_are_items() -> bool {
-    item::<u16>(&BYTES, 8) == Some(1)
-        && item::<u32>(&BYTES, 8) == Some(0x2_0001)
-        && item::<u64>(&BYTES, 8) == Some(0x3_0002_0001)
-        && item::<i16>(&BYTES, 0) == Some(-257)
-        && item::<i32>(&BYTES, 8) == Some(0x2_0001)
-        && item::<i64>(&BYTES, 8) == Some(0x3_0002_0001)
-        && item::<bool>(&BYTES, 8) == Some(true)
-        && item::<u64>(&BYTES, 9).is_none()
-        && item::<u8>(&BYTES, 1) == Some(0xfe)
-        && item::<i8>(&BYTES, 1) == Some(-2)
+pub fn numbers_are_read() -> bool {
+    is_read::<u8>(&BYTES, 1, 0xfe)
+        && is_read::<u16>(&BYTES, 0, 0xfeff)
+        && is_read::<u32>(&BYTES, 0, 0xfcfd_feff)
+        && is_read::<u64>(&BYTES, 0, 0xf8f9_fafb_fcfd_feff)
+        && is_read::<i8>(&BYTES, 1, -2)
+        && is_read::<i16>(&BYTES, 0, -257)
+        && is_read::<i32>(&BYTES, 0, -50_462_977)
+        && is_read::<i64>(&BYTES, 8, 0x3_0002_0001)
+        && is_read::<bool>(&BYTES, 8, true)
+        && is_read::<bool>(&BYTES, 9, false)
 }
 
 // 1.5 and a NaN with a payload as floats of 4 bytes, and -0.125 as one of 8, in IEEE 754.
@@ -106,18 +94,16 @@ const FLOATS: [u8; 16] = [
     0, 0, 0xc0, 0x3f, 1, 0, 0x80, 0x7f, 0, 0, 0, 0, 0, 0, 0xc0, 0xbf,
 ];
 
-pub fn floats_are_fields() -> bool {
-    matches!(field::<f32>(&FLOATS, 0), Ok(read) if read == 1.5)
+pub fn floats_are_read() -> bool {
+    is_read::<f32>(&FLOATS, 0, 1.5)
+        && is_read::<f64>(&FLOATS, 8, -0.125)
         && matches!(field::<f32>(&FLOATS, 4), Ok(read) if read.is_nan())
-        && matches!(field::<f64>(&FLOATS, 8), Ok(read) if read == -0.125)
-        && matches!(field::<f64>(&FLOATS, 9), Err(ErrorKind::InvalidOffset))
+        && matches!(inner_item::<f64>(&FLOATS, 8), Some(Ok(read)) if read == -0.125)
 }
 
-pub fn floats_are_items() -> bool {
-    item::<f32>(&FLOATS, 0) == Some(1.5)
-        && item::<f64>(&FLOATS, 8) == Some(-0.125)
-        && item::<f64>(&FLOATS, 9).is_none()
-        && matches!(inner_item::<f64>(&FLOATS, 8), Some(Ok(read)) if read == -0.125)
+pub fn numbers_past_the_end_fail() -> bool {
+    matches!(field::<u64>(&BYTES, 9), Err(ErrorKind::InvalidOffset))
+        && matches!(field::<f64>(&FLOATS, 9), Err(ErrorKind::InvalidOffset))
 }
 
 // A reference to the string `Hi` at 0, and one to damage at 4.
@@ -168,7 +154,7 @@ fn reads(place: Place<'_>, text: &str) -> bool {
 pub fn texts_are_items() -> bool {
     let place = item::<Place<'_>>(&TEXTS, 0).map(|place| place.read::<u32>());
     let outside = field::<Place<'_>>(&TEXTS, 99).map(|place| place.read::<u8>());
-    stride::<&str>() == 4
+    <&str as Stride>::stride() == 4
         && matches!(inner_item::<&str>(&TEXTS, 0), Some(Ok("Hi")))
         && matches!(item::<Result<&str, Error>>(&TEXTS, 0), Some(Ok("Hi")))
         && matches!(place, Some(Ok(8)))
@@ -213,32 +199,21 @@ fn is_hi(union: TaggedPlace<'_>, tag: u8) -> bool {
 }
 
 fn heads_are_read() -> bool {
-    match union_vector_field::<Heads<'_>>(&UNIONS, 12, 16) {
-        Ok(heads) => heads.tags.1 == 2 && heads.values.1 == 2,
-        Err(_) => false,
-    }
-}
-
-fn head_past_the_end_fails() -> bool {
-    match union_vector_field::<Heads<'_>>(&UNIONS, 12, 77) {
-        Ok(_) => false,
-        Err(kind) => same_kind(kind, ErrorKind::InvalidOffset),
-    }
-}
-
-fn unknown_tag_fails() -> bool {
-    let unknown = ErrorKind::UnknownUnionTag { tag: 9 };
-    fails_with(union_item::<OneText<'_>>(&TEXTS, 9, 0), unknown)
+    matches!(
+        union_vector_field::<Heads<'_>>(&UNIONS, 12, 16),
+        Ok(heads) if heads.tags.1 == 2 && heads.values.1 == 2
+    ) && matches!(
+        union_vector_field::<Heads<'_>>(&UNIONS, 12, 77),
+        Err(ErrorKind::InvalidOffset)
+    )
 }
 
 pub fn unions_are_read() -> bool {
-    vector_name::<TaggedPlace<'_>>() == "[union]"
+    <TaggedPlace<'_> as VectorReadUnion<'_>>::vector_name() == "[union]"
         && matches!(union_field::<TaggedPlace<'_>>(&TEXTS, 7, 0), Ok(union) if is_hi(union, 7))
         && matches!(union_item::<TaggedPlace<'_>>(&TEXTS, 3, 0), Ok(union) if is_hi(union, 3))
         && matches!(union_item::<OneText<'_>>(&TEXTS, 1, 0), Ok(OneText("Hi")))
-        && unknown_tag_fails()
         && heads_are_read()
-        && head_past_the_end_fails()
 }
 
 #[derive(Clone, Copy)]
@@ -268,29 +243,24 @@ pub fn roots_are_read() -> bool {
         && matches!(nested.access_required::<u8>(0, "Root", "n"), Ok(24))
 }
 
-fn item_fails(alloc: Global) -> bool {
-    match item::<Result<&str, Error>>(&TEXTS, 4) {
-        Some(text) => fails_printing(alloc, text, "In <[str]@0>::get(): Invalid offset"),
-        None => false,
-    }
-}
-
 fn union_fails(alloc: Global, tag: u8, offset: usize, text: &str) -> bool {
     fails_printing(alloc, union_item::<OneText<'_>>(&TEXTS, tag, offset), text)
 }
 
-fn root_fails(alloc: Global) -> bool {
-    let text = "In <[Root]@0>::read_as_root(): Invalid offset";
-    fails_printing(alloc, read_root::<Root<'_>>(&[]), text)
+fn errors_print(alloc: Global) -> bool {
+    let unknown = "In <[OneText]@3e8>::get(): Unknown union (tag = 9)";
+    let outside = "In <[OneText]@3e8>::get(): Invalid offset";
+    let root = "In <[Root]@0>::read_as_root(): Invalid offset";
+    let item = match item::<Result<&str, Error>>(&TEXTS, 4) {
+        Some(text) => fails_printing(alloc, text, "In <[str]@0>::get(): Invalid offset"),
+        None => false,
+    };
+    item && union_fails(alloc, 9, 0, unknown)
+        && union_fails(alloc, 1, 4, outside)
+        && fails_printing(alloc, read_root::<Root<'_>>(&[]), root)
 }
 
 #[test]
 fn errors_of_traits(rt: HostRuntime) {
-    check(&rt, item_fails(rt.alloc()), "an item");
-    let unknown = "In <[OneText]@3e8>::get(): Unknown union (tag = 9)";
-    let outside = "In <[OneText]@3e8>::get(): Invalid offset";
-    for (tag, offset, text) in [(9, 0, unknown), (1, 4, outside)] {
-        check(&rt, union_fails(rt.alloc(), tag, offset, text), text);
-    }
-    check(&rt, root_fails(rt.alloc()), "a root");
+    check(&rt, errors_print(rt.alloc()), "an item, unions and a root");
 }

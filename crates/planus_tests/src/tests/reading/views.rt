@@ -3,6 +3,7 @@ mod no_memory;
 mod unions;
 mod vectors;
 
+use planus_view::{ReadView, VectorOf};
 use std::alloc::{AllocError, Global};
 use std::fmt::Debug;
 
@@ -11,6 +12,17 @@ fn shows<T: Debug>(alloc: Global, parts: &T) -> bool {
         Ok(text) => text.as_str().starts_with("SubViews { whole: "),
         Err(_) => false,
     }
+}
+
+fn parts_are_shown<V: ReadView>(alloc: Global, whole: VectorOf<V>) -> bool
+where
+    V::Item: Debug + Drop,
+{
+    shows(alloc, &whole.chunks(2))
+        && shows(alloc, &whole.rchunks(2))
+        && shows(alloc, &whole.chunks_exact(2))
+        && shows(alloc, &whole.rchunks_exact(2))
+        && shows(alloc, &whole.windows(2))
 }
 
 fn push_numbers(bytes: &mut Vec<u8>, behind: &[u8]) -> Result<(), AllocError> {

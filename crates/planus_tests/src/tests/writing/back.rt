@@ -17,23 +17,14 @@ fn is_too_large(size: usize) -> bool {
 }
 
 #[test]
-fn greatest_place_is_the_last(rt: HostRuntime) {
-    check(
-        &rt,
-        matches!(Promises::new().request(2147483640, 7, 0), Ok((_, 0))),
-        "the last place",
-    );
-    check(&rt, is_too_large(8) && is_too_large(usize::MAX), "past it");
-}
-
-#[test]
-fn promises_by_default(rt: HostRuntime) {
+fn promises(rt: HostRuntime) {
+    let greatest = matches!(Promises::new().request(2147483640, 7, 0), Ok((_, 0)))
+        && is_too_large(8)
+        && is_too_large(usize::MAX);
+    check(&rt, greatest, "the greatest place is the last");
     let none = Promises::default();
-    check(
-        &rt,
-        none == Promises::new() && none.mask() == 0 && none.delayed() == 0,
-        "no promise",
-    );
+    let by_default = none == Promises::new() && none.mask() == 0 && none.delayed() == 0;
+    check(&rt, by_default, "none by default");
 }
 
 fn holds(vector: &BackVec, bytes: &[u8], room: usize) -> bool {
@@ -228,20 +219,31 @@ fn finds_signed(cache: &Cache<ByteVec>, bytes: &[u8], key: &[i8], want: Option<u
 
 const TWO_KEYS: &[u8] = b"\x02\0\0\0H\xfe\x02\0\0\0Hi";
 
+fn the_first_is_found(cache: &Cache<ByteVec>, bytes: &[u8]) -> bool
+    requires { Fits bytes_in cache.now bytes.now }
+{
+    finds(cache, bytes, b"Hi", Some(6))
+        && finds_signed(cache, bytes, &[72, 105], Some(6))
+        && finds_signed(cache, bytes, &SIGNED, None)
+}
+
+fn both_are_found(cache: &Cache<ByteVec>, bytes: &[u8]) -> bool
+    requires { Fits bytes_in cache.now bytes.now }
+{
+    finds(cache, bytes, b"Hi", Some(6))
+        && finds(cache, bytes, b"H\xfe", Some(12))
+        && finds_signed(cache, bytes, &SIGNED, Some(12))
+        && finds(cache, bytes, b"H", None)
+}
+
 fn keys_are_found(cache: &mut Cache<ByteVec>, bytes: &[u8]) -> Result<bool, Fail>
     requires { Fits bytes_in cache.old bytes.now }
 {
     let none = finds(cache, bytes, b"Hi", None);
     add(cache, bytes, b"Hi", 6)?;
-    let first = finds(cache, bytes, b"Hi", Some(6))
-        && finds_signed(cache, bytes, &[72, 105], Some(6))
-        && finds_signed(cache, bytes, &SIGNED, None);
+    let first = the_first_is_found(cache, bytes);
     add_signed(cache, bytes, 12)?;
-    let second = finds(cache, bytes, b"Hi", Some(6))
-        && finds(cache, bytes, b"H\xfe", Some(12))
-        && finds_signed(cache, bytes, &SIGNED, Some(12))
-        && finds(cache, bytes, b"H", None);
-    Ok(none && first && second)
+    Ok(none && first && both_are_found(cache, bytes))
 }
 
 #[test]
@@ -249,9 +251,10 @@ fn caches_find_equal_keys(rt: HostRuntime) -> Result<(), Fail> {
     laws::empty_caches_fit::<ByteVec>();
     for mask in [u64::MAX, 1, 0] {
         let mut cache: Cache<ByteVec> = Cache::new(rt.alloc(), mask)?;
-        assert!(rt; keys_are_found(&mut cache, TWO_KEYS)?, "{mask}");
+        let found = keys_are_found(&mut cache, TWO_KEYS)?;
         cache.clear();
-        assert!(rt; cache.get(TWO_KEYS, b"Hi").is_none(), "{mask}");
+        let cleared = cache.get(TWO_KEYS, b"Hi").is_none();
+        check(&rt, found && cleared, "keys");
     }
     Ok(())
 }

@@ -1,28 +1,21 @@
-use super::{calls_in_builder, holds, in_builder, prepared, stands_at};
+use super::{holds, in_builder, prepared, stands_at};
 use crate::tests::check;
 use planus_write::{BuildError, Builder, ByteList, Caches, SignedList, Text};
 
-fn a_text_twice_in(builder: &mut Builder, on: bool) -> Result<bool, BuildError> {
+// Each distance, and the bytes that there are then.
+fn texts_are_found(builder: &mut Builder, on: bool) -> Result<bool, BuildError> {
     let first = prepared::<Text, &str>(builder, &"Hi")?;
-    let after_first = stands_at(builder, first, 7, 7);
-    let second = builder.create_string("Hi")?;
-    let (distance, len) = if on { (7, 7) } else { (15, 15) };
-    Ok(after_first && stands_at(builder, second, distance, len))
-}
-
-fn a_text_after_another(builder: &mut Builder, on: bool) -> Result<bool, BuildError> {
-    builder.create_string("Hi")?;
-    let other = builder.create_string("Ho")?;
-    let after_other = stands_at(builder, other, 15, 15);
-    let third = builder.create_string("Hi")?;
-    let (distance, len) = if on { (7, 15) } else { (23, 23) };
-    Ok(after_other && stands_at(builder, third, distance, len))
-}
-
-fn texts_are_found(builder: &mut Builder, on: bool) -> bool {
-    let twice = holds(a_text_twice_in(builder, on));
-    builder.clear();
-    twice && holds(a_text_after_another(builder, on))
+    let mut all = stands_at(builder, first, 7, 7);
+    let rows = if on {
+        [("Hi", 7, 7), ("Ho", 15, 15), ("Hi", 7, 15)]
+    } else {
+        [("Hi", 15, 15), ("Ho", 23, 23), ("Hi", 31, 31)]
+    };
+    for (text, distance, len) in rows {
+        let found = builder.create_string(text)?;
+        all = all && stands_at(builder, found, distance, len);
+    }
+    Ok(all)
 }
 
 #[test]
@@ -36,9 +29,9 @@ fn a_text_twice(rt: HostRuntime) {
         let found = in_builder(
             rt.alloc(),
             caches,
-            |builder| texts_are_found(builder, texts),
+            |builder| holds(texts_are_found(builder, texts)),
         );
-        assert!(rt; found, "{caches:?}");
+        check(&rt, found, "texts");
     }
 }
 
@@ -55,10 +48,14 @@ fn equal_byte_lists_are_one(builder: &mut Builder) -> Result<bool, BuildError> {
     Ok(bytes.distance() == 6 && signed.distance() == 6)
 }
 
+fn byte_lists_are_found(builder: &mut Builder) -> bool {
+    let apart = holds(byte_lists_and_texts_are_apart(builder));
+    builder.clear();
+    apart && holds(equal_byte_lists_are_one(builder))
+}
+
 #[test]
 fn byte_lists(rt: HostRuntime) {
-    let apart = calls_in_builder(rt.alloc(), Caches::all(), byte_lists_and_texts_are_apart);
-    check(&rt, apart, "and texts");
-    let one = calls_in_builder(rt.alloc(), Caches::all(), equal_byte_lists_are_one);
-    check(&rt, one, "equal ones");
+    let found = in_builder(rt.alloc(), Caches::all(), byte_lists_are_found);
+    check(&rt, found, "byte lists");
 }

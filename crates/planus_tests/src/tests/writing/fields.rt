@@ -1,7 +1,7 @@
 ghost use Rattle.std.specs.Prelude.{◌≤◌, length};
 ghost use Rattle.planus_write.specs.Unions.{union_reach};
 
-use super::{NO_CACHES, calls_in_builder, in_builder};
+use super::{NO_CACHES, holds, in_builder};
 use crate::tests::check;
 use planus_fields::{
     DefaultValue, WriteAs, WriteAsDefault, WriteAsDefaultUnionVector, WriteAsOptional,
@@ -11,7 +11,7 @@ use planus_write::{
     BuildError, Builder, ByRef, ByteList, List, Offset, Primitive, SignedList, Text, UnionOffset,
     UnionVectorOffset,
 };
-use std::alloc::{AllocError, Global};
+use std::alloc::Global;
 
 pub struct Drinks;
 
@@ -168,18 +168,6 @@ fn texts_are_there(builder: &mut Builder, owned: &String) -> bool {
         && builder.len() == 32
 }
 
-fn owned_texts_are_there(alloc: Global, builder: &mut Builder) -> Result<bool, AllocError> {
-    let owned = String::from_str(alloc, "Axe")?;
-    Ok(texts_are_there(builder, &owned))
-}
-
-fn boxed_texts_are_there(alloc: Global, builder: &mut Builder) -> bool {
-    match Box::new(alloc, "Axe") {
-        Ok(boxed) => written::<Text, Box<&str>>(builder, &boxed, 8),
-        Err(_) => false,
-    }
-}
-
 fn texts_of_before_are_there(builder: &mut Builder) -> Result<bool, BuildError> {
     builder.create_string("Axe")?;
     let last = builder.current_offset::<Text>();
@@ -193,23 +181,11 @@ fn texts_of_before_are_there(builder: &mut Builder) -> Result<bool, BuildError> 
     Ok(same && there && by_default && builder.len() == 8)
 }
 
-#[test]
-fn texts(rt: HostRuntime) {
-    let alloc = rt.alloc();
-    let owned = calls_in_builder(
-        alloc,
-        NO_CACHES,
-        |builder| owned_texts_are_there(alloc, builder),
-    );
-    check(&rt, owned, "there");
-    let boxed = in_builder(
-        alloc,
-        NO_CACHES,
-        |builder| boxed_texts_are_there(alloc, builder),
-    );
-    check(&rt, boxed, "boxed");
-    let before = calls_in_builder(alloc, NO_CACHES, texts_of_before_are_there);
-    check(&rt, before, "of before");
+fn all_texts_are_there(alloc: Global, builder: &mut Builder) -> Result<bool, BuildError> {
+    let owned = String::from_str(alloc, "Axe")?;
+    let there = texts_are_there(builder, &owned);
+    builder.clear();
+    Ok(there && holds(texts_of_before_are_there(builder)))
 }
 
 pub fn empty_lists_are_left_out(builder: &mut Builder, owned: &Vec<u16>) -> bool {
@@ -250,34 +226,16 @@ fn lists_are_prepared(builder: &mut Builder, owned: &Vec<u16>) -> bool {
     written::<List<u16>, [u16; 1]>(builder, &[1], 6)
         && written::<List<u16>, Vec<u16>>(builder, owned, 10)
         && written::<List<u16>, &[u16]>(builder, &one, 18)
+        && written::<List<u8>, ByteList<'_>>(builder, &ByteList(&[1]), 26)
+        && written::<List<i8>, SignedList<'_>>(builder, &SignedList(&[1]), 34)
 }
 
-fn lists_of_bytes_are_prepared(builder: &mut Builder) -> bool {
-    written::<List<u8>, ByteList<'_>>(builder, &ByteList(&[1]), 5)
-        && written::<List<i8>, SignedList<'_>>(builder, &SignedList(&[1]), 13)
-}
-
-#[test]
-fn lists(rt: HostRuntime) {
-    let (alloc, owned) = (rt.alloc(), Vec::new(rt.alloc()));
-    let empty = in_builder(
-        alloc,
-        NO_CACHES,
-        |builder| empty_lists_are_there(builder, &owned),
-    );
-    check(&rt, empty, "empty ones");
-    check(&rt, in_builder(alloc, NO_CACHES, lists_are_there), "there");
-    let prepared = in_builder(
-        alloc,
-        NO_CACHES,
-        |builder| lists_are_prepared(builder, &owned),
-    );
-    check(&rt, prepared, "prepared");
-    check(
-        &rt,
-        in_builder(alloc, NO_CACHES, lists_of_bytes_are_prepared),
-        "bytes",
-    );
+fn all_lists_are_there(builder: &mut Builder, owned: &Vec<u16>) -> bool {
+    let empty = empty_lists_are_there(builder, owned);
+    builder.clear();
+    let there = lists_are_there(builder);
+    builder.clear();
+    empty && there && lists_are_prepared(builder, owned)
 }
 
 pub fn unions_are_left_out(builder: &mut Builder) -> bool {
@@ -291,19 +249,15 @@ fn last_as_union(builder: &Builder, tag: u8) -> UnionOffset<Drinks>
     UnionOffset::new(tag, builder.current_offset())
 }
 
-fn unions_are_there(alloc: Global, builder: &mut Builder) -> Result<bool, BuildError> {
+fn unions_are_there(builder: &mut Builder) -> Result<bool, BuildError> {
     builder.create_string("A")?;
     let one = last_as_union(builder, 1);
     let plain = drink_is(builder, &one, Some(1));
     let one = last_as_union(builder, 2);
     let optional = drink_is(builder, &Some(one), Some(2));
-    let Ok(one) = Box::new(alloc, last_as_union(builder, 3)) else {
-        return Ok(false);
-    };
-    let boxed = drink_is(builder, &one, Some(3));
     let one = last_as_union(builder, 4);
     let by_ref = drink_is(builder, &ByRef(&one), Some(4));
-    Ok(plain && optional && boxed && by_ref && builder.len() == 6)
+    Ok(plain && optional && by_ref && builder.len() == 6)
 }
 
 pub fn union_vectors_are_left_out(builder: &mut Builder) -> bool {
@@ -332,16 +286,27 @@ fn written_union_vectors_are_there(builder: &mut Builder) -> Result<bool, BuildE
     Ok(order_is(builder, &vector, Some((4, 8))) && builder.len() == 8)
 }
 
+fn all_unions_are_there(builder: &mut Builder) -> bool {
+    let empty = empty_union_vectors_are_there(builder);
+    builder.clear();
+    let written = holds(written_union_vectors_are_there(builder));
+    builder.clear();
+    empty && written && holds(unions_are_there(builder))
+}
+
 #[test]
-fn unions(rt: HostRuntime) {
-    let alloc = rt.alloc();
-    check(
-        &rt,
-        in_builder(alloc, NO_CACHES, empty_union_vectors_are_there),
-        "empty lists",
+fn fields(rt: HostRuntime) {
+    let (alloc, owned) = (rt.alloc(), Vec::new(rt.alloc()));
+    let texts = in_builder(alloc, NO_CACHES, |builder| {
+        holds(all_texts_are_there(alloc, builder))
+    });
+    check(&rt, texts, "texts");
+    let lists = in_builder(
+        alloc,
+        NO_CACHES,
+        |builder| all_lists_are_there(builder, &owned),
     );
-    let there = calls_in_builder(alloc, NO_CACHES, |builder| unions_are_there(alloc, builder));
-    check(&rt, there, "there");
-    let written = calls_in_builder(alloc, NO_CACHES, written_union_vectors_are_there);
-    check(&rt, written, "written lists");
+    check(&rt, lists, "lists");
+    let unions = in_builder(alloc, NO_CACHES, all_unions_are_there);
+    check(&rt, unions, "unions");
 }

@@ -1,12 +1,12 @@
-use super::{calls_in_builder, finishes, in_builder, prepared};
+use super::{finishes, holds, in_builder, prepared};
 use crate::tests::check;
+use planus_testing::plain;
 use planus_write::{
     BuildError, Builder, ByRef, ByteList, Caches, List, Offset, Primitive, SignedList, Text,
     VectorWrite,
 };
 use std::alloc::{AllocError, Global};
 use std::fmt;
-use std::test::Fail;
 
 // The builder is empty afterwards.
 fn list_is<P: Primitive, T: VectorWrite<P>>(builder: &mut Builder, items: &[T], want: &[u8]) -> bool
@@ -49,7 +49,7 @@ fn lists_of_wide_numbers(builder: &mut Builder) -> Result<bool, BuildError> {
     Ok(of_slice && finishes(builder, array, None, wide))
 }
 
-fn lists_of_owned_texts(alloc: Global, builder: &mut Builder) -> Result<bool, AllocError> {
+fn lists_of_owned_texts(alloc: Global, builder: &mut Builder) -> Result<bool, BuildError> {
     let owned = [String::from_str(alloc, "A")?, String::from_str(alloc, "B")?];
     Ok(list_is::<Offset<Text>, String>(builder, &owned, TEXTS))
 }
@@ -61,53 +61,48 @@ fn lists_of_bytes(builder: &mut Builder) -> Result<bool, BuildError> {
     Ok(bytes.distance() == 6 && signed.distance() == 14 && builder.as_slice() == written)
 }
 
+fn many_numbers(alloc: Global, count: u32) -> Result<Vec<u32>, AllocError> {
+    let mut numbers: Vec<u32> = Vec::new(alloc);
+    for number in 0..count {
+        numbers.push(number)?;
+    }
+    Ok(numbers)
+}
+
+fn are_many_numbers(bytes: &[u8], count: u32) -> bool {
+    let mut position: usize = 8;
+    for number in 0..count {
+        if plain::number_at(bytes, position) != Some(number) {
+            return false;
+        }
+        position = position.wrapping_add(4);
+    }
+    bytes.starts_with(b"\x04\0\0\0\xa3\x86\x01\0") && bytes.len() == position
+}
+
+fn a_list_of_100003_numbers(alloc: Global, builder: &mut Builder) -> Result<bool, BuildError> {
+    let numbers = many_numbers(alloc, 100003)?;
+    let list = builder.create_vector::<u32, Vec<u32>>(numbers)?;
+    if list.distance() as usize > builder.len() {
+        return Ok(false);
+    }
+    Ok(are_many_numbers(builder.finish(list, None)?, 100003))
+}
+
+fn all_lists(alloc: Global, builder: &mut Builder) -> bool {
+    let numbers = lists_of_numbers(builder) && holds(lists_of_wide_numbers(builder));
+    builder.clear();
+    let texts = holds(lists_of_owned_texts(alloc, builder));
+    let bytes = holds(lists_of_bytes(builder));
+    builder.clear();
+    numbers && texts && bytes && holds(a_list_of_100003_numbers(alloc, builder))
+}
+
 #[test]
 fn lists(rt: HostRuntime) {
-    let (alloc, caches) = (rt.alloc(), Caches::all());
-    let numbers = in_builder(alloc, caches, lists_of_numbers);
-    check(&rt, numbers, "numbers and texts");
-    let wide = calls_in_builder(alloc, caches, lists_of_wide_numbers);
-    check(&rt, wide, "wide numbers");
-    let owned = calls_in_builder(
-        alloc,
-        caches,
-        |builder| lists_of_owned_texts(alloc, builder),
-    );
-    check(&rt, owned, "owned texts");
-    check(
-        &rt,
-        calls_in_builder(alloc, caches, lists_of_bytes),
-        "bytes",
-    );
-}
-
-fn many_numbers(alloc: Global) -> Result<(Vec<u32>, Vec<u8>), AllocError> {
-    let mut items: Vec<u32> = Vec::new(alloc);
-    let mut want: Vec<u8> = Vec::from_slice(alloc, b"\x04\0\0\0\xa3\x86\x01\0")?;
-    for index in 0..100003u32 {
-        items.push(index)?;
-        want.extend_from_slice(&index.to_le_bytes())?;
-    }
-    Ok((items, want))
-}
-
-fn a_list_of_many_numbers_in(
-    builder: &mut Builder,
-    items: Vec<u32>,
-    want: &[u8],
-) -> Result<bool, BuildError> {
-    let list = builder.create_vector::<u32, Vec<u32>>(items)?;
-    Ok(finishes(builder, list, None, want))
-}
-
-#[test]
-fn a_list_of_100003_numbers(rt: HostRuntime) -> Result<(), Fail> {
-    let (items, want) = many_numbers(rt.alloc())?;
-    let found = calls_in_builder(rt.alloc(), Caches::all(), |builder| {
-        a_list_of_many_numbers_in(builder, items, want.as_slice())
-    });
-    check(&rt, found, "holds");
-    Ok(())
+    let alloc = rt.alloc();
+    let written = in_builder(alloc, Caches::all(), |builder| all_lists(alloc, builder));
+    check(&rt, written, "numbers, texts, bytes and many numbers");
 }
 
 fn shows<T: fmt::Debug>(alloc: Global, value: &T, text: &str) -> bool {

@@ -1,4 +1,4 @@
-use super::{calls_in_builder, finishes};
+use super::{finishes, holds, in_builder};
 use crate::tests::check;
 use planus_write::{BuildError, Builder, Caches, List, Offset};
 
@@ -30,12 +30,10 @@ fn texts_are_finished(builder: &mut Builder) -> Result<bool, BuildError> {
     let alone = builder.finish_size_prefixed("Axe", None)? == AXE;
     builder.clear();
     let text = builder.create_string("Axe")?;
-    Ok(alone && finishes_sized(builder, text, None, AXE) && finishes(builder, text, None, AGAIN))
-}
-
-fn a_named_text_is_finished(builder: &mut Builder) -> Result<bool, BuildError> {
+    let twice = finishes_sized(builder, text, None, AXE) && finishes(builder, text, None, AGAIN);
+    builder.clear();
     let text = builder.create_string("Axe")?;
-    Ok(finishes_sized(builder, text, Some(*b"TEST"), NAMED))
+    Ok(alone && twice && finishes_sized(builder, text, Some(*b"TEST"), NAMED))
 }
 
 // The number of 8 bytes is at a multiple of 8 from the size on.
@@ -45,22 +43,14 @@ fn a_list_is_finished(builder: &mut Builder) -> Result<bool, BuildError> {
     Ok(finishes_sized(builder, list, None, U64))
 }
 
+fn all_are_finished(builder: &mut Builder) -> bool {
+    let texts = holds(texts_are_finished(builder));
+    builder.clear();
+    texts && holds(a_list_is_finished(builder))
+}
+
 #[test]
 fn sizes_in_front(rt: HostRuntime) {
-    let (alloc, caches) = (rt.alloc(), Caches::all());
-    check(
-        &rt,
-        calls_in_builder(alloc, caches, texts_are_finished),
-        "texts",
-    );
-    check(
-        &rt,
-        calls_in_builder(alloc, caches, a_named_text_is_finished),
-        "a named text",
-    );
-    check(
-        &rt,
-        calls_in_builder(alloc, caches, a_list_is_finished),
-        "a list",
-    );
+    let finished = in_builder(rt.alloc(), Caches::all(), all_are_finished);
+    check(&rt, finished, "texts and a list");
 }

@@ -1,13 +1,11 @@
 ghost use Rattle.std.specs.Prelude.{◌-◌, ◌++◌, []};
 ghost use Rattle.std.specs.Int.{w8, w16, w32, w64, to_le_bytes, cast_unsigned};
 
-use super::calls_in_builder;
+use super::{holds, in_builder};
 use crate::tests::check;
 use planus_write::{
     BuildError, Builder, Caches, ObjectFill, ObjectWriter, Offset, TableWriter, Text,
 };
-use std::alloc::{AllocError, Global};
-use std::test::Fail;
 
 #[derive(Drop)]
 struct Wide {
@@ -105,56 +103,14 @@ fn a_table_with_a_text(builder: &mut Builder) -> Result<bool, BuildError> {
     Ok(last_is(builder, want))
 }
 
-// One has the greatest slot of all.
-fn a_table_with_the_greatest_slot(builder: &mut Builder, want: &[u8]) -> Result<bool, BuildError> {
-    let mut writer: TableWriter<65534> = TableWriter::default();
-    writer.write_entry::<u64>(32764);
-    writer.write_entry::<u8>(2);
-    let wide = Wide {
-        first: 1,
-        second: 2,
-    };
-    writer.finish(builder, &wide)?;
-    Ok(last_is(builder, want))
-}
-
-// The vtable has 65534 bytes.
-fn its_bytes(alloc: Global) -> Result<Vec<u8>, AllocError> {
-    let front = b"\x04\0\0\0\xf2\xff\xff\xff\x01\0\0\0\0\0\0\0\x02\0\
-        \xfe\xff\x0d\0\0\0\0\0\x0c\0";
-    let mut bytes: Vec<u8> = Vec::from_slice(alloc, front)?;
-    let free_slots = vec![in alloc; 0; 65522]?;
-    bytes.extend_from_slice(free_slots.as_slice())?;
-    bytes.extend_from_slice(b"\x04\0")?;
-    Ok(bytes)
-}
-
-#[test]
-fn the_greatest_slot(rt: HostRuntime) -> Result<(), Fail> {
-    let want = its_bytes(rt.alloc())?;
-    let found = calls_in_builder(rt.alloc(), Caches::all(), |builder| {
-        a_table_with_the_greatest_slot(builder, want.as_slice())
-    });
-    check(&rt, found, "holds");
-    Ok(())
+fn all_tables(builder: &mut Builder) -> bool {
+    holds(an_empty_table(builder))
+        && holds(a_table_with_numbers(builder))
+        && holds(a_table_with_a_text(builder))
 }
 
 #[test]
 fn tables(rt: HostRuntime) {
-    let (alloc, caches) = (rt.alloc(), Caches::all());
-    check(
-        &rt,
-        calls_in_builder(alloc, caches, an_empty_table),
-        "an empty one",
-    );
-    check(
-        &rt,
-        calls_in_builder(alloc, caches, a_table_with_numbers),
-        "numbers",
-    );
-    check(
-        &rt,
-        calls_in_builder(alloc, caches, a_table_with_a_text),
-        "a text",
-    );
+    let written = in_builder(rt.alloc(), Caches::all(), all_tables);
+    check(&rt, written, "none, numbers and a text");
 }

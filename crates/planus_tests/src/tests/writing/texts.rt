@@ -1,40 +1,28 @@
-use super::{NO_CACHES, calls_in_builder, finishes, holds, prepared};
+use super::{NO_CACHES, finishes, holds, in_builder, prepared};
 use crate::tests::check;
 use planus_write::{BuildError, Builder, ByRef, Caches, Text};
 use std::alloc::{AllocError, Global};
-use std::test::Fail;
 
 const AXE: &[u8] = b"\x04\0\0\0\x03\0\0\0Axe\0";
+
+const NAMED: &[u8] = b"\x08\0\0\0TEST\x03\0\0\0Axe\0";
 
 fn texts_are_finished(builder: &mut Builder) -> Result<bool, BuildError> {
     let alone = builder.finish("Axe", None)? == AXE;
     builder.clear();
     let text = builder.create_string("Axe")?;
     let again = b"\x08\0\0\0\x04\0\0\0\x03\0\0\0Axe\0";
-    Ok(alone && finishes(builder, text, None, AXE) && finishes(builder, text, None, again))
-}
-
-fn a_named_text_is_finished(builder: &mut Builder) -> Result<bool, BuildError> {
-    builder.finish("Axe", None)?;
+    let twice = finishes(builder, text, None, AXE) && finishes(builder, text, None, again);
     builder.clear();
     let text = builder.create_string("Axe")?;
-    let named = b"\x08\0\0\0TEST\x03\0\0\0Axe\0";
-    Ok(finishes(builder, text, Some(*b"TEST"), named))
+    Ok(alone && twice && finishes(builder, text, Some(*b"TEST"), NAMED))
 }
 
-#[test]
-fn texts(rt: HostRuntime) {
-    let (alloc, caches) = (rt.alloc(), Caches::all());
-    check(
-        &rt,
-        calls_in_builder(alloc, caches, texts_are_finished),
-        "texts",
-    );
-    check(
-        &rt,
-        calls_in_builder(alloc, caches, a_named_text_is_finished),
-        "a named text",
-    );
+// A box is prepared in `without_memory`.
+fn wrapped_texts_are_prepared(alloc: Global, builder: &mut Builder) -> Result<bool, BuildError> {
+    let by_ref = prepared::<Text, ByRef<'_, &str>>(builder, &ByRef(&"Ho"))?;
+    let owned = prepared::<Text, String>(builder, &String::from_str(alloc, "Ha")?)?;
+    Ok(by_ref.distance() == 7 && owned.distance() == 15)
 }
 
 fn letters(alloc: Global, times: usize) -> Result<String, AllocError> {
@@ -64,20 +52,11 @@ fn a_long_text_is_finished(
     Ok(finishes(builder, root, None, want))
 }
 
-fn a_text_of_one_mebibyte_in(alloc: Global, builder: &mut Builder) -> Result<bool, AllocError> {
+fn a_text_of_one_mebibyte(alloc: Global, builder: &mut Builder) -> Result<bool, BuildError> {
     let text = letters(alloc, 65536)?;
     let want = one_mebibyte(alloc, text.as_str())?;
     let same = holds(a_long_text_is_finished(builder, text.as_str(), want.as_slice()));
     Ok(same && want.len() == 1048593)
-}
-
-#[test]
-fn a_text_of_one_mebibyte(rt: HostRuntime) {
-    let alloc = rt.alloc();
-    let found = calls_in_builder(alloc, Caches::all(), |builder| {
-        a_text_of_one_mebibyte_in(alloc, builder)
-    });
-    check(&rt, found, "a text of one mebibyte");
 }
 
 // A string of 524336 bytes takes 524341, and after the first three more for its alignment.
@@ -88,33 +67,26 @@ fn texts_are_repeated(builder: &mut Builder, text: &str, count: usize) -> Result
     Ok(text.len() == 524336 && builder.len() == 68689061)
 }
 
-#[test]
-fn texts_of_more_than_64_mebibytes(rt: HostRuntime) -> Result<(), Fail> {
-    let text = letters(rt.alloc(), 32771)?;
-    let found = calls_in_builder(rt.alloc(), NO_CACHES, |builder| {
-        texts_are_repeated(builder, text.as_str(), 131)
-    });
-    check(&rt, found, "holds");
-    Ok(())
+fn more_than_64_mebibytes(alloc: Global, builder: &mut Builder) -> Result<bool, BuildError> {
+    let text = letters(alloc, 32771)?;
+    Ok(holds(texts_are_repeated(builder, text.as_str(), 131)))
 }
 
-fn wrapped_texts_in(alloc: Global, builder: &mut Builder) -> Result<bool, BuildError> {
-    let Ok(boxed) = Box::new(alloc, "Hi") else {
-        return Ok(false);
-    };
-    let boxed = prepared::<Text, Box<&str>>(builder, &boxed)?;
-    let by_ref = prepared::<Text, ByRef<'_, &str>>(builder, &ByRef(&"Ho"))?;
-    let owned = prepared::<Text, String>(builder, &String::from_str(alloc, "Ha")?)?;
-    Ok(boxed.distance() == 7 && by_ref.distance() == 15 && owned.distance() == 23)
+fn all_texts(alloc: Global, builder: &mut Builder) -> bool {
+    let finished = holds(texts_are_finished(builder));
+    builder.clear();
+    let wrapped = holds(wrapped_texts_are_prepared(alloc, builder));
+    builder.clear();
+    finished && wrapped && holds(a_text_of_one_mebibyte(alloc, builder))
 }
 
 #[test]
-fn wrapped_texts(rt: HostRuntime) {
+fn texts(rt: HostRuntime) {
     let alloc = rt.alloc();
-    let found = calls_in_builder(
-        alloc,
-        Caches::all(),
-        |builder| wrapped_texts_in(alloc, builder),
-    );
-    check(&rt, found, "holds");
+    let written = in_builder(alloc, Caches::all(), |builder| all_texts(alloc, builder));
+    check(&rt, written, "short texts, and one of a mebibyte");
+    let many = in_builder(alloc, NO_CACHES, |builder| {
+        holds(more_than_64_mebibytes(alloc, builder))
+    });
+    check(&rt, many, "texts of more than 64 mebibytes");
 }

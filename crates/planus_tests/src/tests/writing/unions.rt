@@ -2,7 +2,7 @@ ghost use Rattle.std.specs.Prelude.{◌≤◌, length, IsTrue, IfOk};
 ghost use Rattle.planus_write.specs.Preparing.{AllMay};
 ghost use Rattle.planus_write.specs.Unions.{union_reach};
 
-use super::{calls_in_builder, in_builder};
+use super::{holds, in_builder};
 use crate::tests::check;
 use planus_write::{
     BuildError, Builder, ByRef, Caches, UnionOffset, WriteAsUnion, WriteAsUnionVector,
@@ -55,20 +55,15 @@ fn two_unions(builder: &mut Builder) -> Result<[UnionOffset<()>; 2], BuildError>
 const TWO_UNIONS: &[u8] =
     b"\x02\0\0\0\x01\x02\0\0\x02\0\0\0\x10\0\0\0\x04\0\0\0\x01\0\0\0B\0\0\0\x01\0\0\0A\0";
 
-fn a_list_of_no_unions(builder: &mut Builder) -> bool {
+fn lists_of_unions_are_written(builder: &mut Builder) -> Result<bool, BuildError> {
     let no_unions: [UnionOffset<()>; 0] = [];
-    list_stands(builder, no_unions, (4, 8), b"\0\0\0\0\0\0\0\0")
-}
-
-fn a_list_of_unions(builder: &mut Builder) -> Result<bool, BuildError> {
+    let none = list_stands(builder, no_unions, (4, 8), b"\0\0\0\0\0\0\0\0");
+    builder.clear();
     let unions = two_unions(builder)?;
-    let tag = unions[0].tag();
-    Ok(tag == 1 && list_stands(builder, unions, (26, 34), TWO_UNIONS))
-}
-
-fn a_list_of_unions_by_reference(builder: &mut Builder) -> Result<bool, BuildError> {
+    let two = unions[0].tag() == 1 && list_stands(builder, unions, (26, 34), TWO_UNIONS);
+    builder.clear();
     let unions = two_unions(builder)?;
-    Ok(list_stands(builder, ByRef(&unions), (26, 34), TWO_UNIONS))
+    Ok(none && two && list_stands(builder, ByRef(&unions), (26, 34), TWO_UNIONS))
 }
 
 fn an_owned_list_of_unions(alloc: Global, builder: &mut Builder) -> Result<bool, BuildError> {
@@ -88,30 +83,6 @@ fn a_written_list_of_unions(builder: &mut Builder) -> Result<bool, BuildError> {
     Ok(list_stands(builder, vector, (26, 34), TWO_UNIONS))
 }
 
-#[test]
-fn lists_of_unions(rt: HostRuntime) {
-    let (alloc, caches) = (rt.alloc(), Caches::all());
-    check(&rt, in_builder(alloc, caches, a_list_of_no_unions), "none");
-    check(
-        &rt,
-        calls_in_builder(alloc, caches, a_list_of_unions),
-        "two",
-    );
-    let by_reference = calls_in_builder(alloc, caches, a_list_of_unions_by_reference);
-    check(&rt, by_reference, "by reference");
-    let owned = calls_in_builder(
-        alloc,
-        caches,
-        |builder| an_owned_list_of_unions(alloc, builder),
-    );
-    check(&rt, owned, "owned");
-    check(
-        &rt,
-        calls_in_builder(alloc, caches, a_written_list_of_unions),
-        "written",
-    );
-}
-
 pub fn union_stands<T, X: WriteAsUnion<T>>(builder: &mut Builder, value: &X) -> bool
     requires { X.may value.now builder.old }
 {
@@ -121,28 +92,25 @@ pub fn union_stands<T, X: WriteAsUnion<T>>(builder: &mut Builder, value: &X) -> 
     }
 }
 
-fn wrapped_unions_in(alloc: Global, builder: &mut Builder) -> Result<bool, BuildError> {
+// A box is prepared in `without_memory`.
+fn a_union_is_prepared_by_reference(builder: &mut Builder) -> Result<bool, BuildError> {
     let union = tagged(builder, 7, "A")?;
-    if !are_written(builder, union, union) || !union_stands(builder, &ByRef(&union)) {
-        return Ok(false);
-    }
-    let again = tagged(builder, 7, "A")?;
-    if !are_written(builder, again, again) {
-        return Ok(false);
-    }
-    match Box::new(alloc, again) {
-        Ok(boxed) => Ok(union_stands(builder, &boxed)),
-        Err(_) => Ok(false),
-    }
+    Ok(are_written(builder, union, union) && union_stands(builder, &ByRef(&union)))
+}
+
+fn all_unions(alloc: Global, builder: &mut Builder) -> bool {
+    let lists = holds(lists_of_unions_are_written(builder));
+    builder.clear();
+    let owned = holds(an_owned_list_of_unions(alloc, builder));
+    builder.clear();
+    let written = holds(a_written_list_of_unions(builder));
+    builder.clear();
+    lists && owned && written && holds(a_union_is_prepared_by_reference(builder))
 }
 
 #[test]
-fn wrapped_unions(rt: HostRuntime) {
+fn unions(rt: HostRuntime) {
     let alloc = rt.alloc();
-    let found = calls_in_builder(
-        alloc,
-        Caches::all(),
-        |builder| wrapped_unions_in(alloc, builder),
-    );
-    check(&rt, found, "holds");
+    let written = in_builder(alloc, Caches::all(), |builder| all_unions(alloc, builder));
+    check(&rt, written, "unions and lists of unions");
 }

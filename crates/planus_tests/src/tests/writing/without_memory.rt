@@ -7,7 +7,7 @@ use super::fields::{
 };
 use super::unions::union_stands;
 use super::{NO_CACHES, prepared};
-use crate::tests::check;
+use crate::tests::{check, first_wrong_of, holds_without_memory};
 use planus_testing::{exhaust, holds_or_says};
 use planus_write::{BuildError, Builder, ByRef, Offset, Text, UnionOffset, VectorWrite};
 use std::alloc::{AllocError, Global};
@@ -73,38 +73,18 @@ fn has(builder: &Builder, distance: u32) -> bool
 
 // An offset is that of the string that was written first.
 fn boxed_offsets_are_prepared(builder: &mut Builder, values: &Values) -> bool {
-    if !has(builder, values.last.distance()) {
-        return false;
-    }
-    matches!(
-        prepared::<Text, Box<Offset<Text>>>(builder, &values.last),
-        Ok(text) if text.distance() == 6
-    )
+    has(builder, values.last.distance())
+        && matches!(
+            prepared::<Text, Box<Offset<Text>>>(builder, &values.last),
+            Ok(text) if text.distance() == 6
+        )
 }
 
 fn boxed_unions_are_prepared(builder: &mut Builder, values: &Values) -> bool {
-    if !has(builder, values.union.offset().distance()) {
-        return false;
-    }
-    union_stands::<Drinks, Box<UnionOffset<Drinks>>>(builder, &values.union)
-}
-
-fn boxed_unions_are_there(builder: &mut Builder, values: &Values) -> bool {
-    if !has(builder, values.union.offset().distance()) {
-        return false;
-    }
-    drink_is(builder, &values.union, Some(7))
-}
-
-type Row = (&'static str, bool);
-
-fn first_wrong_of(rows: &[Row]) -> Option<&'static str> {
-    for (name, holds) in rows {
-        if !*holds {
-            return Some(*name);
-        }
-    }
-    None
+    has(builder, values.union.offset().distance())
+        && union_stands::<Drinks, Box<UnionOffset<Drinks>>>(builder, &values.union)
+        && has(builder, values.union.offset().distance())
+        && drink_is(builder, &values.union, Some(7))
 }
 
 fn first_wrong(builder: &mut Builder, values: &Values) -> Option<&'static str> {
@@ -129,10 +109,6 @@ fn first_wrong(builder: &mut Builder, values: &Values) -> Option<&'static str> {
         ("boxed texts", boxed_texts_are_prepared(builder, values)),
         ("boxed offsets", boxed_offsets_are_prepared(builder, values)),
         ("boxed unions", boxed_unions_are_prepared(builder, values)),
-        (
-            "boxed unions that are there",
-            boxed_unions_are_there(builder, values),
-        ),
     ])
 }
 
@@ -166,11 +142,7 @@ fn first_wrong_in_64_bytes(alloc: Global) -> Result<(bool, Option<&'static str>)
 #[test]
 fn no_preparing_asks_for_memory(rt: HostRuntime) -> Result<(), Fail> {
     let (exhausted, wrong) = first_wrong_in_64_bytes(rt.alloc())?;
-    let holds = match wrong {
-        None if !exhausted => None,
-        None => Some(true),
-        Some(_) => Some(false),
-    };
+    let holds = holds_without_memory(exhausted, wrong);
     check(&rt, holds_or_says(&rt, holds)?, wrong.unwrap_or(""));
     Ok(())
 }

@@ -1,6 +1,6 @@
 ghost use Rattle.std.specs.Prelude.{replicate, ⊤};
 
-use super::{calls_in_builder, holds};
+use super::{holds, in_builder};
 use crate::tests::check;
 use crate::tests::writing::PlaceWord;
 use planus_back::{Fill, Overwrite};
@@ -92,17 +92,6 @@ fn written_in_64_bytes(alloc: Global) -> bool {
     }
 }
 
-#[test]
-fn writes(rt: HostRuntime) {
-    check(
-        &rt,
-        written_in_64_bytes(rt.alloc()),
-        "lengths and what is last",
-    );
-    let places = calls_in_builder(rt.alloc(), Caches::all(), places);
-    check(&rt, places, "places");
-}
-
 fn has_room(alloc: Global, room: usize) -> bool {
     match Builder::with_capacity(alloc, room) {
         Ok(builder) => builder.room() >= room,
@@ -111,6 +100,14 @@ fn has_room(alloc: Global, room: usize) -> bool {
 }
 
 #[test]
-fn more_than_16_mebibytes_of_room(rt: HostRuntime) {
-    check(&rt, has_room(rt.alloc(), 16777259), "room");
+fn writes(rt: HostRuntime) {
+    let alloc = rt.alloc();
+    check(&rt, written_in_64_bytes(alloc), "lengths and what is last");
+    let places = in_builder(alloc, Caches::all(), |builder| holds(places(builder)));
+    check(&rt, places, "places");
+    check(
+        &rt,
+        has_room(alloc, 16777259),
+        "more than 16 mebibytes of room",
+    );
 }

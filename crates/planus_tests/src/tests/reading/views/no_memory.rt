@@ -3,41 +3,26 @@
 use super::unions::calls::union_calls_agree;
 use super::vectors::calls::vector_calls_agree;
 use super::vectors::copies::{copies_are_refused, numbers_are_copied};
-use crate::tests::check;
-use planus_testing::exhaust;
-use std::alloc::{AllocError, Global};
+use crate::tests::{check, first_wrong_of, holds_without_memory, without_memory};
+use planus_testing::holds_or_says;
+use std::alloc::Global;
 use std::test::Fail;
 
-#[derive(Clone, Copy)]
-struct Refused {
-    exhausted: bool,
-    vectors: bool,
-    unions: bool,
-    copies: bool,
-}
-
-fn without_memory(alloc: Global) -> Result<Refused, AllocError> {
-    let mut held: Vec<Vec<u8>> = Vec::with_capacity(alloc, 262144)?;
-    let exhausted = exhaust(alloc, &mut held)?;
-    let refused = Refused {
-        exhausted,
-        vectors: vector_calls_agree(),
-        unions: union_calls_agree(),
-        copies: copies_are_refused(alloc),
-    };
-    drop(held);
-    Ok(refused)
+fn first_wrong(alloc: Global) -> (Option<&'static str>, bool) {
+    let wrong = first_wrong_of(&[
+        ("vectors", vector_calls_agree()),
+        ("vectors of unions", union_calls_agree()),
+    ]);
+    (wrong, copies_are_refused(alloc))
 }
 
 #[test]
 fn only_copies_ask_for_memory(rt: HostRuntime) -> Result<(), Fail> {
-    let refused = without_memory(rt.alloc())?;
-    if !refused.exhausted {
-        println!(rt; "memory was left: this test does not apply")?;
-    }
-    check(&rt, refused.vectors, "vectors");
-    check(&rt, refused.unions, "vectors of unions");
-    check(&rt, refused.copies || !refused.exhausted, "copies");
-    check(&rt, numbers_are_copied(rt.alloc()), "copies, made again");
+    let alloc = rt.alloc();
+    let (exhausted, (wrong, refused)) = without_memory(alloc, || first_wrong(alloc))?;
+    let holds = holds_without_memory(exhausted, wrong);
+    check(&rt, holds_or_says(&rt, holds)?, wrong.unwrap_or(""));
+    check(&rt, refused || !exhausted, "copies");
+    check(&rt, numbers_are_copied(alloc), "copies, made again");
     Ok(())
 }

@@ -3,9 +3,10 @@
 ghost use Rattle.std.specs.Prelude.{◌≡◌, ⊤, codes};
 
 use super::super::calls::{item_calls_agree, part_calls_agree};
-use super::super::{push_numbers, shows};
+use super::super::{parts_are_shown, push_numbers};
 use super::unions;
 use crate::tests::check;
+use crate::tests::reading::prints;
 use planus_read::errors::ErrorKind;
 use planus_read::{Error, SliceWithStartOffset, TableRead, TableReadUnion, VectorReadUnion};
 use planus_unions::UnionVector;
@@ -96,22 +97,11 @@ pub fn union_calls_agree() -> bool {
         && matches!(unions(&FIVE, 0, 4), Ok(five) if last_chunk_begins(five, 13))
 }
 
-fn parts_are_shown(alloc: Global, five: UnionVector<'_, Number>) -> bool {
-    shows(alloc, &five.chunks(2))
-        && shows(alloc, &five.rchunks(2))
-        && shows(alloc, &five.chunks_exact(2))
-        && shows(alloc, &five.rchunks_exact(2))
-        && shows(alloc, &five.windows(2))
-}
-
-#[test]
-fn five_unions_are_shown(rt: HostRuntime) -> Result<(), Fail> {
-    check(
-        &rt,
-        parts_are_shown(rt.alloc(), unions(&FIVE, 0, 4)?),
-        "parts are shown",
-    );
-    Ok(())
+fn five_are_shown(alloc: Global) -> bool {
+    match unions::<Number>(&FIVE, 0, 4) {
+        Ok(five) => parts_are_shown(alloc, five),
+        Err(_) => false,
+    }
 }
 
 // The second and the fourth tag are unknown.
@@ -137,10 +127,13 @@ fn five_are_copied(alloc: Global) -> bool {
 
 fn damaged_are_refused(alloc: Global) -> bool {
     match copies_of(alloc, &DAMAGED) {
-        Err(CopyError::Read(error)) => match error.to_string(alloc) {
-            Ok(text) => text.as_str() == "In <[Number]@1c>::get(): Unknown union (tag = 7)",
-            Err(_) => false,
-        },
+        Err(CopyError::Read(error)) => {
+            prints(
+                alloc,
+                &error,
+                "In <[Number]@1c>::get(): Unknown union (tag = 7)",
+            )
+        }
         _ => false,
     }
 }
@@ -154,15 +147,20 @@ fn many_unions(alloc: Global) -> Result<Vec<u8>, AllocError> {
     Ok(bytes)
 }
 
+fn are_counted(copies: &[Number]) -> bool {
+    let mut want = 0;
+    for number in copies {
+        if number.0 != want {
+            return false;
+        }
+        want = want.wrapping_add(1);
+    }
+    want == 5003
+}
+
 fn many_are_copied(alloc: Global, bytes: &[u8]) -> bool {
     match copies_of(alloc, bytes) {
-        Ok(copies) => {
-            copies.len() == 5003
-                && copies
-                    .iter()
-                    .zip(0..5003u32)
-                    .all(|(number, want)| number.0 == want)
-        }
+        Ok(copies) => are_counted(copies.as_slice()),
         Err(_) => false,
     }
 }
@@ -179,7 +177,9 @@ fn copies_of_5003_unions(rt: HostRuntime) -> Result<(), Fail> {
 }
 
 #[test]
-fn copies(rt: HostRuntime) {
-    check(&rt, five_are_copied(rt.alloc()), "five");
-    check(&rt, damaged_are_refused(rt.alloc()), "damaged");
+fn five_unions(rt: HostRuntime) {
+    let alloc = rt.alloc();
+    check(&rt, five_are_shown(alloc), "shown");
+    let copied = five_are_copied(alloc) && damaged_are_refused(alloc);
+    check(&rt, copied, "copied");
 }

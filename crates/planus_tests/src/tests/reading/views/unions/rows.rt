@@ -1,11 +1,11 @@
 use super::{Choice, unions};
 use crate::tests::check;
+use crate::tests::reading::fails_printing;
 use planus_read::errors::ErrorKind;
 use planus_read::table_reader::Table;
 use planus_read::{Error, SliceWithStartOffset, TaggedPlace};
 use planus_unions::UnionVector;
 use std::alloc::Global;
-use std::test::Fail;
 
 // Slots 0 and 1 hold the tags 1 and 2, at 24, and the strings `A` and `B`, with references at 32.
 const UNIONS: &[u8] = b"\x04\0\0\0\xf4\xff\xff\xff\x10\0\0\0\x14\0\0\0\x08\0\x0c\0\x04\0\x08\0\
@@ -25,7 +25,10 @@ fn is_text(item: Option<Result<TaggedPlace<'_>, Error>>, tag: u8, text: &str) ->
     }
 }
 
-fn loot_is_read(table: Table<'_>) -> bool {
+fn loot_is_read() -> bool {
+    let Ok(table) = Table::from_buffer(SliceWithStartOffset::new(UNIONS, 0), 0) else {
+        return false;
+    };
     let loot = table.access_union_vector::<UnionVector<'_, TaggedPlace<'_>>>(0, "Monster", "loot");
     let behind = table.access_union_vector::<UnionVector<'_, TaggedPlace<'_>>>(
         2, "Monster", "none",
@@ -60,17 +63,6 @@ fn fails_with(bytes: &[u8], values: usize, kind: ErrorKind) -> bool {
     }
 }
 
-#[test]
-fn a_field_of_a_table(rt: HostRuntime) -> Result<(), Fail> {
-    let whole = SliceWithStartOffset::new(UNIONS, 0);
-    check(
-        &rt,
-        loot_is_read(Table::from_buffer(whole, 0)?),
-        "loot is read",
-    );
-    Ok(())
-}
-
 // The second of two references would pass the end.
 const LONGER: [u8; 24] = [
     8, 0, 0, 0, 12, 0, 0, 0, 2, 0, 0, 0, 1, 1, 0, 0, 2, 0, 0, 0, 4, 0, 0, 0,
@@ -95,7 +87,7 @@ fn counts_and_lengths(rt: HostRuntime) {
         (&TAGS, 23, ErrorKind::InvalidOffset),
         (&TAGS, 4, ErrorKind::InvalidLength),
     ] {
-        assert!(rt; fails_with(bytes, values, kind), "{kind}");
+        check(&rt, fails_with(bytes, values, kind), "counts and lengths");
     }
 }
 
@@ -103,35 +95,30 @@ fn counts_and_lengths(rt: HostRuntime) {
 const UNKNOWN: &[u8] = b"\x04\0\0\0\xf4\xff\xff\xff\x10\0\0\0\x14\0\0\0\x08\0\x0c\0\x04\0\x08\0\
     \x02\0\0\0\x01\x09\0\0\x02\0\0\0\x10\0\0\0\x04\0\0\0\x01\0\0\0B\0\0\0\x01\0\0\0A\0";
 
-fn prints(alloc: Global, item: Option<Result<Choice<'_>, Error>>, text: &str) -> bool {
+fn item_fails(alloc: Global, item: Option<Result<Choice<'_>, Error>>, text: &str) -> bool {
     match item {
-        Some(Err(error)) => match error.to_string(alloc) {
-            Ok(printed) => printed.as_str() == text,
-            Err(_) => false,
-        },
-        _ => false,
+        Some(answer) => fails_printing(alloc, answer, text),
+        None => false,
     }
 }
 
 // An item's error has the start of its vector's references.
-fn errors_have_starts<'a>(alloc: Global, choices: UnionVector<'a, Choice<'a>>) -> bool {
+fn errors_have_starts(alloc: Global) -> bool {
+    let Ok(choices) = unions::<Choice<'_>>(UNKNOWN, 8, 12) else {
+        return false;
+    };
     let whole = "In <[Choice]@24>::get(): Unknown union (tag = 9)";
     let rest = "In <[Choice]@28>::get(): Unknown union (tag = 9)";
     let mut items = choices.iter();
     matches!(items.next(), Some(Ok(Choice::Text("A"))))
         && matches!(choices.first(), Some(Ok(Choice::Text("A"))))
-        && prints(alloc, choices.get(1usize), whole)
-        && prints(alloc, items.next(), rest)
-        && prints(alloc, choices.last(), whole)
+        && item_fails(alloc, choices.get(1usize), whole)
+        && item_fails(alloc, items.next(), rest)
+        && item_fails(alloc, choices.last(), whole)
 }
 
 #[test]
-fn errors_of_items(rt: HostRuntime) -> Result<(), Fail> {
-    let choices = unions::<Choice<'_>>(UNKNOWN, 8, 12)?;
-    check(
-        &rt,
-        errors_have_starts(rt.alloc(), choices),
-        "errors have starts",
-    );
-    Ok(())
+fn items(rt: HostRuntime) {
+    check(&rt, loot_is_read(), "a field of a table");
+    check(&rt, errors_have_starts(rt.alloc()), "errors");
 }

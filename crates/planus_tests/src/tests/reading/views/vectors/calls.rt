@@ -43,29 +43,25 @@ fn bytes_agree<'buf, T: VectorRead<'buf> + Drop>(bytes: &'buf [u8], len: usize) 
     }
 }
 
-fn calls_of_numbers_agree() -> bool {
-    calls_agree(Vector::<'_, u16>::new_empty(), 0)
-        && bytes_agree::<u16>(&ONE, 1)
-        && bytes_agree::<u16>(&FIVE, 5)
+fn all_agree<'buf, T: VectorRead<'buf> + Drop>(one: &'buf [u8], five: &'buf [u8]) -> bool
+    requires { (length one.now < 2 ^ 63) × (length five.now < 2 ^ 63) }
+{
+    calls_agree(Vector::<'buf, T>::new_empty(), 0)
+        && bytes_agree::<T>(one, 1)
+        && bytes_agree::<T>(five, 5)
 }
 
-fn calls_of_texts_agree() -> bool {
-    calls_agree(Vector::<'_, Result<&str, Error>>::new_empty(), 0)
-        && bytes_agree::<Result<&str, Error>>(&ONE_TEXT, 1)
-        && bytes_agree::<Result<&str, Error>>(&FIVE_TEXTS, 5)
-}
-
-fn calls_of_seconds_agree() -> bool {
+fn seconds_are_read() -> bool {
     let five: Result<Vector<'_, Second>, _> = Vector::from_buffer(
         SliceWithStartOffset::new(&FIVE, 0),
         0,
     );
-    calls_agree(Vector::<'_, Second>::new_empty(), 0)
-        && bytes_agree::<Second>(&ONE, 1)
-        && bytes_agree::<Second>(&FIVE, 5)
-        && matches!(five, Ok(five) if matches!(five.get(4), Some(Second(0))))
+    matches!(five, Ok(five) if matches!(five.get(4), Some(Second(0))))
 }
 
 pub fn vector_calls_agree() -> bool {
-    calls_of_numbers_agree() && calls_of_texts_agree() && calls_of_seconds_agree()
+    all_agree::<u16>(&ONE, &FIVE)
+        && all_agree::<Result<&str, Error>>(&ONE_TEXT, &FIVE_TEXTS)
+        && all_agree::<Second>(&ONE, &FIVE)
+        && seconds_are_read()
 }

@@ -1,8 +1,9 @@
 ghost use Rattle.std.specs.Prelude.{◌<◌};
 
-use super::super::shows;
+use super::super::parts_are_shown;
 use super::{five, has, numbers, some_has};
 use crate::tests::check;
+use crate::tests::reading::prints;
 use planus_read::errors::ErrorKind;
 use planus_read::{Error, SliceWithStartOffset, TableRead};
 use planus_view::{Cut, SubViews, Vector};
@@ -21,22 +22,9 @@ pub const DAMAGED: [u8; 30] = [
 
 const ALL: [u16; 5] = [1, 2, 3, 4, 5];
 
-#[test]
-fn limits(rt: HostRuntime) {
+fn a_short_list_fails() -> bool {
     let short = [4, 0, 0, 0, 3, 0, 0, 0, 1, 0];
-    check(
-        &rt,
-        matches!(numbers(&short), Err(ErrorKind::InvalidLength)),
-        "numbers",
-    );
-}
-
-fn same(part: Option<Vector<'_, u16>>, want: Option<&[u16]>) -> bool {
-    match (part, want) {
-        (Some(part), Some(want)) => has(part, want),
-        (None, None) => true,
-        _ => false,
-    }
+    matches!(numbers(&short), Err(ErrorKind::InvalidLength))
 }
 
 fn gives<C: Cut>(mut parts: SubViews<Vector<'_, u16>, C>, want: &[&[u16]]) -> bool {
@@ -63,68 +51,88 @@ fn five_are_cut(five: Vector<'_, u16>) -> bool {
         && some_has(five.chunks(2).nth(1), &[3, 4])
         && some_has(five.chunks(2).nth_back(1), &[3, 4])
         && some_has(five.rchunks(2).nth_back(1), &[2, 3])
-        && has(five.chunks_exact(2).remainder(), &[5])
 }
 
-fn items_end(five: Vector<'_, u16>) -> bool {
+fn items_are_read(five: Vector<'_, u16>, max: usize) -> bool {
     let mut items = five.iter();
-    items.nth(9).is_none() && items.next().is_none()
+    items.nth(9).is_none()
+        && items.next().is_none()
+        && five.iter().nth(max).is_none()
+        && five.get(2) == Some(3)
+        && five.get(5).is_none()
+}
+
+// By each cut: the first of as many parts, and none past the end.
+fn are<C: Cut>(mut parts: SubViews<Vector<'_, u16>, C>, count: usize, first: &[u16]) -> bool {
+    let all = parts.clone().unwrap();
+    all.count() == count
+        && match parts.next() {
+            Some(part) => has(part, first),
+            None => count == 0,
+        }
+        && parts.nth(usize::MAX).is_none()
+}
+
+struct Cuts<'a> {
+    chunks: usize,
+    exact: usize,
+    windows: usize,
+    front: &'a [u16],
+    back: &'a [u16],
+    remainder: &'a [u16],
+}
+
+fn are_cut(five: Vector<'_, u16>, size: usize, cuts: &Cuts<'_>) -> bool
+    requires { 0 < size }
+{
+    are(five.chunks(size), cuts.chunks, cuts.front)
+        && are(five.rchunks(size), cuts.chunks, cuts.back)
+        && are(five.chunks_exact(size), cuts.exact, cuts.front)
+        && are(five.rchunks_exact(size), cuts.exact, cuts.back)
+        && are(five.windows(size), cuts.windows, cuts.front)
+        && has(five.chunks_exact(size).remainder(), cuts.remainder)
+}
+
+const OF_TWO: Cuts<'static> = Cuts {
+    chunks: 3,
+    exact: 2,
+    windows: 4,
+    front: &[1, 2],
+    back: &[4, 5],
+    remainder: &[5],
+};
+
+const LONGER_THAN_ALL: Cuts<'static> = Cuts {
+    chunks: 1,
+    exact: 0,
+    windows: 0,
+    front: &ALL,
+    back: &ALL,
+    remainder: &ALL,
+};
+
+fn parts_are_read(five: Vector<'_, u16>, max: usize) -> bool
+    requires { 0 < max }
+{
+    are_cut(five, 2, &OF_TWO)
+        && are_cut(five, 6, &LONGER_THAN_ALL)
+        && are_cut(five, max, &LONGER_THAN_ALL)
+        && five.split_at(6).is_none()
+        && a_short_list_fails()
 }
 
 #[test]
 fn five_u16(rt: HostRuntime) {
-    check(&rt, five_are_cut(five()), "parts");
-    check(&rt, items_end(five()), "items");
-    check(&rt, five().split_at(6).is_none(), "a split past the end");
-}
-
-fn are<C: Cut>(
-    mut parts: SubViews<Vector<'_, u16>, C>,
-    count: usize,
-    first: Option<&[u16]>,
-) -> bool {
-    let all = parts.clone().unwrap();
-    all.count() == count && same(parts.next(), first) && parts.nth(usize::MAX).is_none()
-}
-
-fn are_at_the_limits(five: Vector<'_, u16>, size: usize) -> bool
-    requires { 0 < size }
-{
-    are(five.chunks(size), 1, Some(&ALL))
-        && are(five.rchunks(size), 1, Some(&ALL))
-        && are(five.chunks_exact(size), 0, None)
-        && are(five.rchunks_exact(size), 0, None)
-        && are(five.windows(size), 0, None)
-        && has(five.chunks_exact(size).remainder(), &ALL)
-}
-
-fn are_of_two(five: Vector<'_, u16>) -> bool {
-    are(five.chunks(2), 3, Some(&[1, 2]))
-        && are(five.rchunks(2), 3, Some(&[4, 5]))
-        && are(five.chunks_exact(2), 2, Some(&[1, 2]))
-        && are(five.rchunks_exact(2), 2, Some(&[4, 5]))
-        && are(five.windows(2), 4, Some(&[1, 2]))
-}
-
-fn parts_are_shown(alloc: Global, five: Vector<'_, u16>) -> bool {
-    shows(alloc, &five.chunks(2))
-        && shows(alloc, &five.rchunks(2))
-        && shows(alloc, &five.chunks_exact(2))
-        && shows(alloc, &five.rchunks_exact(2))
-        && shows(alloc, &five.windows(2))
+    let five = five();
+    check(&rt, five_are_cut(five), "some parts");
+    check(&rt, parts_are_read(five, usize::MAX), "all parts");
+    check(&rt, ranges_agree(five, usize::MAX), "ranges");
+    check(&rt, items_are_read(five, usize::MAX), "items");
 }
 
 #[test]
 fn five_u16_are_shown(rt: HostRuntime) {
     check(&rt, parts_are_shown(rt.alloc(), five()), "parts are shown");
-}
-
-#[test]
-fn five_u16_at_the_limits(rt: HostRuntime) {
-    for size in [6, usize::MAX] {
-        assert!(rt; are_at_the_limits(five(), size), "{size}");
-    }
-    check(&rt, are_of_two(five()), "are of two");
 }
 
 fn ranges_agree(five: Vector<'_, u16>, max: usize) -> bool {
@@ -142,64 +150,34 @@ fn ranges_agree(five: Vector<'_, u16>, max: usize) -> bool {
         && five.get((Bound::Excluded(max), Bound::Unbounded)).is_none()
 }
 
-#[test]
-fn five_u16_by_each_index(rt: HostRuntime) {
-    let five = five();
-    check(&rt, ranges_agree(five, usize::MAX), "ranges");
-    check(
-        &rt,
-        five.get(2) == Some(3) && five.get(5).is_none(),
-        "items",
-    );
-    check(
-        &rt,
-        five.iter().nth(usize::MAX).is_none(),
-        "the farthest item",
-    );
-}
-
 pub fn texts<'buf>(bytes: &'buf [u8]) -> Result<Vector<'buf, Result<&'buf str, Error>>, ErrorKind> {
     Vector::from_buffer(SliceWithStartOffset::new(bytes, 0), 0)
 }
 
-fn prints(alloc: Global, item: Option<Result<&str, Error>>, text: &str) -> bool {
+fn shows_text(alloc: Global, item: Option<Result<&str, Error>>, text: &str) -> bool {
     match item {
         Some(Ok(item)) => item == text,
-        Some(Err(error)) => match error.to_string(alloc) {
-            Ok(printed) => printed.as_str() == text,
-            Err(_) => false,
-        },
+        Some(Err(error)) => prints(alloc, &error, text),
         None => false,
     }
 }
 
 fn texts_are_read(alloc: Global) -> bool {
-    match texts(&TEXTS) {
-        Ok(whole) => {
-            prints(alloc, whole.get(0), "A") && prints(alloc, whole.iter().next_back(), "B")
-        }
-        Err(_) => false,
-    }
-}
-
-fn damaged_texts_are_read(alloc: Global) -> bool {
-    let Ok(damaged) = texts(&DAMAGED) else {
+    let (Ok(whole), Ok(damaged)) = (texts(&TEXTS), texts(&DAMAGED)) else {
         return false;
     };
     let error = "In <[str]@8>::get(): Missing null terminator";
+    let rest = "In <[str]@c>::get(): Missing null terminator";
     let mut items = damaged.iter();
-    prints(alloc, damaged.get(1), error)
-        && prints(alloc, damaged.iter().next_back(), error)
-        && prints(alloc, items.next(), "A")
-        && prints(
-            alloc,
-            items.next(),
-            "In <[str]@c>::get(): Missing null terminator",
-        )
+    shows_text(alloc, whole.get(0), "A")
+        && shows_text(alloc, whole.iter().next_back(), "B")
+        && shows_text(alloc, damaged.get(1), error)
+        && shows_text(alloc, damaged.iter().next_back(), error)
+        && shows_text(alloc, items.next(), "A")
+        && shows_text(alloc, items.next(), rest)
 }
 
 #[test]
 fn list_of_texts(rt: HostRuntime) {
-    check(&rt, texts_are_read(rt.alloc()), "whole");
-    check(&rt, damaged_texts_are_read(rt.alloc()), "damaged");
+    check(&rt, texts_are_read(rt.alloc()), "texts are read");
 }
