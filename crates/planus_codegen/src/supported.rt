@@ -47,12 +47,23 @@ fn unsupported_table(one: &Table) -> Option<&'static str> {
     None
 }
 
+/// How many values of an enum the checker takes: fewer where their numbers are wide.
+fn most_values(one: &Enum) -> usize {
+    if one.scalar.size() <= 2 { 40 } else { 17 }
+}
+
 fn unsupported_enum(one: &Enum) -> Option<&'static str> {
     if one.scalar.is_bool() {
         return Some("an enum of bool");
     }
+    if one.flags {
+        return None;
+    }
+    if one.values.len() > most_values(one) {
+        return Some("an enum with more values than the checker takes");
+    }
     for value in &one.values {
-        if !one.flags && value.number.magnitude > GREATEST_NUMBER && !value.number.negative {
+        if value.number.magnitude > GREATEST_NUMBER && !value.number.negative {
             return Some("an enum with a value above 9223372036854775807");
         }
     }
