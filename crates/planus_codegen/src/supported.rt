@@ -2,7 +2,7 @@
 
 use crate::refusal::Refusal;
 use crate::types::has_default;
-use planus_layout::{Base, Body, Declared, Enum, Table, TableField, Value};
+use planus_layout::{Base, Body, Declared, Enum, Scalar, Table, TableField, Value};
 use std::alloc::Global;
 
 /// How much of a list of fields the checker takes, in the shares of its fields.
@@ -47,9 +47,14 @@ fn unsupported_table(one: &Table) -> Option<&'static str> {
     None
 }
 
-/// How many values of an enum the checker takes: fewer where their numbers are wide.
-fn most_values(one: &Enum) -> usize {
-    if one.scalar.size() <= 2 { 40 } else { 17 }
+/// How many values of an enum the checker takes: fewer where their numbers are wide or signed.
+fn most_values(scalar: Scalar) -> usize {
+    match scalar {
+        Scalar::UByte => 40,
+        Scalar::Byte | Scalar::Short => 16,
+        Scalar::Long => 12,
+        _ => 17,
+    }
 }
 
 fn unsupported_enum(one: &Enum) -> Option<&'static str> {
@@ -59,7 +64,7 @@ fn unsupported_enum(one: &Enum) -> Option<&'static str> {
     if one.flags {
         return None;
     }
-    if one.values.len() > most_values(one) {
+    if one.values.len() > most_values(one.scalar) {
         return Some("an enum with more values than the checker takes");
     }
     for value in &one.values {
