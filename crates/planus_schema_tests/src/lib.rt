@@ -1,4 +1,4 @@
-//! Tests of schemas: what texts mean that `flatc` took, random texts, and printed code.
+//! Tests of schemas: what texts mean that `flatc` took, and printed code.
 #![tactic(auto)]
 
 #[cfg(test)]
@@ -12,10 +12,6 @@ mod meaning;
 #[cfg(test)]
 mod meaning_rows;
 #[cfg(test)]
-mod numbers;
-#[cfg(test)]
 mod orc;
 #[cfg(test)]
 mod printed;
-#[cfg(test)]
-mod random;

@@ -4,7 +4,6 @@ use crate::meaning_rows::{
     DEFAULTS, ENUMS, FIELDS, INCLUDED, Including, NAMESPACES, Row, SETTLED_HERE, STATEMENTS,
     STRUCTS, TAKEN_HERE, UNIONS,
 };
-use crate::random::{TEXTS, are_answered};
 use std::alloc::Global;
 
 /// Returns whether these texts mean a schema with these facts.
@@ -25,6 +24,16 @@ fn first_wrong(alloc: Global, rows: &[Row]) -> Option<&'static str> {
     None
 }
 
+/// Returns the first text of any of these sets that means anything else.
+fn first_wrong_of(alloc: Global, sets: &[&[Row]]) -> Option<&'static str> {
+    for rows in sets {
+        if let Some(text) = first_wrong(alloc, *rows) {
+            return Some(text);
+        }
+    }
+    None
+}
+
 /// Returns the first text that means anything else, with the file that it includes.
 fn first_wrong_including(alloc: Global, rows: &[Including]) -> Option<&'static str> {
     for (file, text, facts) in rows {
@@ -35,23 +44,19 @@ fn first_wrong_including(alloc: Global, rows: &[Including]) -> Option<&'static s
     None
 }
 
-#[test]
-fn types(rt: HostRuntime) {
-    assert!(rt; first_wrong(rt.alloc(), &STRUCTS).is_none());
-    assert!(rt; first_wrong(rt.alloc(), &ENUMS).is_none());
-    assert!(rt; first_wrong(rt.alloc(), &UNIONS).is_none());
-}
+const TAKEN: [&[Row]; 7] = [
+    &STRUCTS,
+    &ENUMS,
+    &UNIONS,
+    &DEFAULTS,
+    &FIELDS,
+    &NAMESPACES,
+    &STATEMENTS,
+];
 
 #[test]
-fn tables(rt: HostRuntime) {
-    assert!(rt; first_wrong(rt.alloc(), &DEFAULTS).is_none());
-    assert!(rt; first_wrong(rt.alloc(), &FIELDS).is_none());
-}
-
-#[test]
-fn files(rt: HostRuntime) {
-    assert!(rt; first_wrong(rt.alloc(), &NAMESPACES).is_none());
-    assert!(rt; first_wrong(rt.alloc(), &STATEMENTS).is_none());
+fn taken(rt: HostRuntime) {
+    assert!(rt; first_wrong_of(rt.alloc(), &TAKEN).is_none());
     assert!(rt; first_wrong_including(rt.alloc(), &INCLUDED).is_none());
 }
 
@@ -59,10 +64,4 @@ fn files(rt: HostRuntime) {
 fn settled_here(rt: HostRuntime) {
     assert!(rt; first_wrong(rt.alloc(), &TAKEN_HERE).is_none());
     assert!(rt; first_wrong_including(rt.alloc(), &SETTLED_HERE).is_none());
-}
-
-#[test]
-fn random(rt: HostRuntime) {
-    assert!(rt; are_answered(rt.alloc(), &STRUCTS, TEXTS) == Ok(true));
-    assert!(rt; are_answered(rt.alloc(), &UNIONS, TEXTS) == Ok(true));
 }
