@@ -103,6 +103,17 @@ impl<T: Drop> From<AllocFailed<T>> for ReadError {
     }
 }
 
+/// The value that was read, or a return of the error: `?` without a conversion of the error, which
+/// is cheaper to prove.
+macro_rules! read {
+    ($read:expr) => {
+        match $read {
+            Ok(value) => value,
+            Err(error) => return Err(error),
+        }
+    };
+}
+
 fn begins_mark(tokens: &[Token], mark: u8) -> bool
     ensures { result ≡ begins_mark_lem mark (pieces_of tokens.now) }
 {
@@ -250,7 +261,7 @@ fn dotted_at(alloc: Global, tokens: &[Token]) -> Result<(Vec<u8>, &[Token]), Rea
     ensures { Gives (λ x. (x.0.items, pieces_of x.1.now)) result
         (dotted_at_lem (pieces_of tokens.now)) }
 {
-    let rest = mark_at(tokens, b'.')?;
+    let rest = read!(mark_at(tokens, b'.'));
     word_at(alloc, rest)
 }
 
@@ -261,7 +272,7 @@ fn dotted(alloc: Global, tokens: &[Token]) -> Result<(Vec<Vec<u8>>, &[Token]), R
     let mut items = Vec::new(alloc);
     let mut rest = tokens;
     'items: while begins_mark(rest, b'.') {
-        let (item, after) = dotted_at(alloc, rest)?;
+        let (item, after) = read!(dotted_at(alloc, rest));
         items.push(item)?;
         rest = after;
     }
@@ -272,8 +283,8 @@ fn path_at(alloc: Global, tokens: &[Token]) -> Result<(Path, &[Token]), ReadErro
     ensures { Gives (λ x. (path_of x.0, pieces_of x.1.now)) result
         (path_at_lem (pieces_of tokens.now)) }
 {
-    let (first, rest) = word_at(alloc, tokens)?;
-    let (more, rest) = dotted(alloc, rest)?;
+    let (first, rest) = read!(word_at(alloc, tokens));
+    let (more, rest) = read!(dotted(alloc, rest));
     Ok((
         Path {
             left: tokens.len(),
@@ -290,12 +301,12 @@ fn kind_at(alloc: Global, tokens: &[Token]) -> Result<(Kind, &[Token]), ReadErro
 {
     match after_mark(tokens, b'[') {
         Some(rest) => {
-            let (path, rest) = path_at(alloc, rest)?;
-            let rest = mark_at(rest, b']')?;
+            let (path, rest) = read!(path_at(alloc, rest));
+            let rest = read!(mark_at(rest, b']'));
             Ok((Kind::Vector(path), rest))
         }
         None => {
-            let (path, rest) = path_at(alloc, tokens)?;
+            let (path, rest) = read!(path_at(alloc, tokens));
             Ok((Kind::Single(path), rest))
         }
     }
@@ -305,8 +316,8 @@ fn brackets_at(tokens: &[Token]) -> Result<(Literal, &[Token]), ReadError>
     ensures { Gives (λ x. (literal_of x.0, pieces_of x.1.now)) result
         (brackets_at_lem (pieces_of tokens.now)) }
 {
-    let rest = mark_at(tokens, b'[')?;
-    let rest = mark_at(rest, b']')?;
+    let rest = read!(mark_at(tokens, b'['));
+    let rest = read!(mark_at(rest, b']'));
     Ok((Literal::EmptyVector, rest))
 }
 
@@ -314,7 +325,7 @@ fn name_at(alloc: Global, tokens: &[Token]) -> Result<(Literal, &[Token]), ReadE
     ensures { Gives (λ x. (literal_of x.0, pieces_of x.1.now)) result
         (name_at_lem (pieces_of tokens.now)) }
 {
-    let (path, rest) = path_at(alloc, tokens)?;
+    let (path, rest) = read!(path_at(alloc, tokens));
     Ok((Literal::Name(path), rest))
 }
 
@@ -348,7 +359,7 @@ fn literal_after(
 {
     match after_mark(tokens, mark) {
         Some(rest) => {
-            let (value, rest) = literal_at(alloc, rest)?;
+            let (value, rest) = read!(literal_at(alloc, rest));
             Ok((Some(value), rest))
         }
         None => Ok((None, tokens)),
@@ -361,7 +372,7 @@ fn value_at(alloc: Global, tokens: &[Token]) -> Result<(Option<Vec<u8>>, &[Token
 {
     match after_mark(tokens, b'=') {
         Some(rest) => {
-            let (value, rest) = number_at(alloc, rest)?;
+            let (value, rest) = read!(number_at(alloc, rest));
             Ok((Some(value), rest))
         }
         None => Ok((None, tokens)),
@@ -374,7 +385,7 @@ fn target_at(alloc: Global, tokens: &[Token]) -> Result<(Option<Path>, &[Token])
 {
     match after_mark(tokens, b':') {
         Some(rest) => {
-            let (value, rest) = path_at(alloc, rest)?;
+            let (value, rest) = read!(path_at(alloc, rest));
             Ok((Some(value), rest))
         }
         None => Ok((None, tokens)),
@@ -385,8 +396,8 @@ fn attribute_at(alloc: Global, tokens: &[Token]) -> Result<(Attribute, &[Token])
     ensures { Gives (λ x. (attribute_of x.0, pieces_of x.1.now)) result
         (attribute_at_lem (pieces_of tokens.now)) }
 {
-    let (label, rest) = label_at(alloc, tokens)?;
-    let (value, rest) = literal_after(alloc, b':', rest)?;
+    let (label, rest) = read!(label_at(alloc, tokens));
+    let (value, rest) = read!(literal_after(alloc, b':', rest));
     Ok((Attribute { label, value }, rest))
 }
 
@@ -394,7 +405,7 @@ fn next_attribute_at(alloc: Global, tokens: &[Token]) -> Result<(Attribute, &[To
     ensures { Gives (λ x. (attribute_of x.0, pieces_of x.1.now)) result
         (next_attribute_at_lem (pieces_of tokens.now)) }
 {
-    let rest = mark_at(tokens, b',')?;
+    let rest = read!(mark_at(tokens, b','));
     attribute_at(alloc, rest)
 }
 
@@ -411,7 +422,7 @@ fn more_attributes(
     items.push(first)?;
     let mut rest = tokens;
     'items: while begins_mark(rest, b',') {
-        let (item, after) = next_attribute_at(alloc, rest)?;
+        let (item, after) = read!(next_attribute_at(alloc, rest));
         items.push(item)?;
         rest = after;
     }
@@ -425,9 +436,9 @@ fn attributes_at(alloc: Global, tokens: &[Token]) -> Result<(Vec<Attribute>, &[T
 {
     match after_mark(tokens, b'(') {
         Some(rest) => {
-            let (first, rest) = attribute_at(alloc, rest)?;
-            let (items, rest) = more_attributes(alloc, first, rest)?;
-            let rest = mark_at(rest, b')')?;
+            let (first, rest) = read!(attribute_at(alloc, rest));
+            let (items, rest) = read!(more_attributes(alloc, first, rest));
+            let rest = read!(mark_at(rest, b')'));
             Ok((items, rest))
         }
         None => Ok((Vec::new(alloc), tokens)),
@@ -441,7 +452,7 @@ fn docs_at(alloc: Global, tokens: &[Token]) -> Result<(Vec<Vec<u8>>, &[Token]), 
     let mut items = Vec::new(alloc);
     let mut rest = tokens;
     'items: while begins_doc(rest) {
-        let (item, after) = doc_at(alloc, rest)?;
+        let (item, after) = read!(doc_at(alloc, rest));
         items.push(item)?;
         rest = after;
     }
@@ -452,13 +463,13 @@ fn field_at(alloc: Global, tokens: &[Token]) -> Result<(Field, &[Token]), ReadEr
     ensures { Gives (λ x. (field_of x.0, pieces_of x.1.now)) result
         (field_at_lem (pieces_of tokens.now)) }
 {
-    let (docs, start) = docs_at(alloc, tokens)?;
-    let (name, rest) = word_at(alloc, start)?;
-    let rest = mark_at(rest, b':')?;
-    let (kind, rest) = kind_at(alloc, rest)?;
-    let (default, rest) = literal_after(alloc, b'=', rest)?;
-    let (attributes, rest) = attributes_at(alloc, rest)?;
-    let rest = mark_at(rest, b';')?;
+    let (docs, start) = read!(docs_at(alloc, tokens));
+    let (name, rest) = read!(word_at(alloc, start));
+    let rest = read!(mark_at(rest, b':'));
+    let (kind, rest) = read!(kind_at(alloc, rest));
+    let (default, rest) = read!(literal_after(alloc, b'=', rest));
+    let (attributes, rest) = read!(attributes_at(alloc, rest));
+    let rest = read!(mark_at(rest, b';'));
     Ok((
         Field {
             docs,
@@ -479,7 +490,7 @@ fn fields(alloc: Global, tokens: &[Token]) -> Result<(Vec<Field>, &[Token]), Rea
     let mut items = Vec::new(alloc);
     let mut rest = tokens;
     'items: while inside(rest) {
-        let (item, after) = field_at(alloc, rest)?;
+        let (item, after) = read!(field_at(alloc, rest));
         items.push(item)?;
         rest = after;
     }
@@ -490,11 +501,11 @@ fn record_at(alloc: Global, tokens: &[Token]) -> Result<(Record, &[Token]), Read
     ensures { Gives (λ x. (record_of x.0, pieces_of x.1.now)) result
         (record_at_lem (pieces_of tokens.now)) }
 {
-    let (name, rest) = word_at(alloc, tokens)?;
-    let (attributes, rest) = attributes_at(alloc, rest)?;
-    let rest = mark_at(rest, b'{')?;
-    let (fields, rest) = fields(alloc, rest)?;
-    let rest = mark_at(rest, b'}')?;
+    let (name, rest) = read!(word_at(alloc, tokens));
+    let (attributes, rest) = read!(attributes_at(alloc, rest));
+    let rest = read!(mark_at(rest, b'{'));
+    let (fields, rest) = read!(fields(alloc, rest));
+    let rest = read!(mark_at(rest, b'}'));
     Ok((
         Record {
             name,
@@ -518,9 +529,9 @@ fn variant_at(alloc: Global, tokens: &[Token]) -> Result<(Variant, &[Token]), Re
     ensures { Gives (λ x. (variant_of x.0, pieces_of x.1.now)) result
         (variant_at_lem (pieces_of tokens.now)) }
 {
-    let (docs, start) = docs_at(alloc, tokens)?;
-    let (name, rest) = word_at(alloc, start)?;
-    let (value, rest) = value_at(alloc, rest)?;
+    let (docs, start) = read!(docs_at(alloc, tokens));
+    let (name, rest) = read!(word_at(alloc, start));
+    let (value, rest) = read!(value_at(alloc, rest));
     Ok((
         Variant {
             docs,
@@ -536,7 +547,7 @@ fn next_variant_at(alloc: Global, tokens: &[Token]) -> Result<(Variant, &[Token]
     ensures { Gives (λ x. (variant_of x.0, pieces_of x.1.now)) result
         (next_variant_at_lem (pieces_of tokens.now)) }
 {
-    let rest = mark_at(tokens, b',')?;
+    let rest = read!(mark_at(tokens, b','));
     variant_at(alloc, rest)
 }
 
@@ -553,7 +564,7 @@ fn more_variants(
     items.push(first)?;
     let mut rest = tokens;
     'items: while begins_next(rest) {
-        let (item, after) = next_variant_at(alloc, rest)?;
+        let (item, after) = read!(next_variant_at(alloc, rest));
         items.push(item)?;
         rest = after;
     }
@@ -564,7 +575,7 @@ fn variants_at(alloc: Global, tokens: &[Token]) -> Result<(Vec<Variant>, &[Token
     ensures { Gives (λ x. (map variant_of x.0.items, pieces_of x.1.now)) result
         (variants_at_lem (pieces_of tokens.now)) }
 {
-    let (first, rest) = variant_at(alloc, tokens)?;
+    let (first, rest) = read!(variant_at(alloc, tokens));
     more_variants(alloc, first, rest)
 }
 
@@ -572,14 +583,14 @@ fn enumeration_at(alloc: Global, tokens: &[Token]) -> Result<(Item, &[Token]), R
     ensures { Gives (λ x. (item_of x.0, pieces_of x.1.now)) result
         (as_item enumeration_item (enumeration_at_lem (pieces_of tokens.now))) }
 {
-    let (name, rest) = word_at(alloc, tokens)?;
-    let rest = mark_at(rest, b':')?;
-    let (base, rest) = path_at(alloc, rest)?;
-    let (attributes, rest) = attributes_at(alloc, rest)?;
-    let rest = mark_at(rest, b'{')?;
-    let (variants, rest) = variants_at(alloc, rest)?;
-    let (comma, rest) = comma_at(rest)?;
-    let rest = mark_at(rest, b'}')?;
+    let (name, rest) = read!(word_at(alloc, tokens));
+    let rest = read!(mark_at(rest, b':'));
+    let (base, rest) = read!(path_at(alloc, rest));
+    let (attributes, rest) = read!(attributes_at(alloc, rest));
+    let rest = read!(mark_at(rest, b'{'));
+    let (variants, rest) = read!(variants_at(alloc, rest));
+    let (comma, rest) = read!(comma_at(rest));
+    let rest = read!(mark_at(rest, b'}'));
     Ok((
         Item::Enum(Enumeration {
             name,
@@ -596,10 +607,10 @@ fn member_at(alloc: Global, tokens: &[Token]) -> Result<(Member, &[Token]), Read
     ensures { Gives (λ x. (member_of x.0, pieces_of x.1.now)) result
         (member_at_lem (pieces_of tokens.now)) }
 {
-    let (docs, rest) = docs_at(alloc, tokens)?;
-    let (path, rest) = path_at(alloc, rest)?;
-    let (target, rest) = target_at(alloc, rest)?;
-    let (value, rest) = value_at(alloc, rest)?;
+    let (docs, rest) = read!(docs_at(alloc, tokens));
+    let (path, rest) = read!(path_at(alloc, rest));
+    let (target, rest) = read!(target_at(alloc, rest));
+    let (value, rest) = read!(value_at(alloc, rest));
     Ok((
         Member {
             docs,
@@ -615,7 +626,7 @@ fn next_member_at(alloc: Global, tokens: &[Token]) -> Result<(Member, &[Token]),
     ensures { Gives (λ x. (member_of x.0, pieces_of x.1.now)) result
         (next_member_at_lem (pieces_of tokens.now)) }
 {
-    let rest = mark_at(tokens, b',')?;
+    let rest = read!(mark_at(tokens, b','));
     member_at(alloc, rest)
 }
 
@@ -632,7 +643,7 @@ fn more_members(
     items.push(first)?;
     let mut rest = tokens;
     'items: while begins_next(rest) {
-        let (item, after) = next_member_at(alloc, rest)?;
+        let (item, after) = read!(next_member_at(alloc, rest));
         items.push(item)?;
         rest = after;
     }
@@ -643,7 +654,7 @@ fn members_at(alloc: Global, tokens: &[Token]) -> Result<(Vec<Member>, &[Token])
     ensures { Gives (λ x. (map member_of x.0.items, pieces_of x.1.now)) result
         (members_at_lem (pieces_of tokens.now)) }
 {
-    let (first, rest) = member_at(alloc, tokens)?;
+    let (first, rest) = read!(member_at(alloc, tokens));
     more_members(alloc, first, rest)
 }
 
@@ -651,12 +662,12 @@ fn union_at(alloc: Global, tokens: &[Token]) -> Result<(Item, &[Token]), ReadErr
     ensures { Gives (λ x. (item_of x.0, pieces_of x.1.now)) result
         (as_item union_item (union_at_lem (pieces_of tokens.now))) }
 {
-    let (name, rest) = word_at(alloc, tokens)?;
-    let (attributes, rest) = attributes_at(alloc, rest)?;
-    let rest = mark_at(rest, b'{')?;
-    let (members, rest) = members_at(alloc, rest)?;
-    let (comma, rest) = comma_at(rest)?;
-    let rest = mark_at(rest, b'}')?;
+    let (name, rest) = read!(word_at(alloc, tokens));
+    let (attributes, rest) = read!(attributes_at(alloc, rest));
+    let rest = read!(mark_at(rest, b'{'));
+    let (members, rest) = read!(members_at(alloc, rest));
+    let (comma, rest) = read!(comma_at(rest));
+    let rest = read!(mark_at(rest, b'}'));
     Ok((
         Item::Union(UnionBody {
             name,
@@ -672,15 +683,15 @@ fn method_at(alloc: Global, tokens: &[Token]) -> Result<(Method, &[Token]), Read
     ensures { Gives (λ x. (method_of x.0, pieces_of x.1.now)) result
         (method_at_lem (pieces_of tokens.now)) }
 {
-    let (docs, start) = docs_at(alloc, tokens)?;
-    let (name, rest) = word_at(alloc, start)?;
-    let rest = mark_at(rest, b'(')?;
-    let (request, rest) = path_at(alloc, rest)?;
-    let rest = mark_at(rest, b')')?;
-    let rest = mark_at(rest, b':')?;
-    let (response, rest) = path_at(alloc, rest)?;
-    let (attributes, rest) = attributes_at(alloc, rest)?;
-    let rest = mark_at(rest, b';')?;
+    let (docs, start) = read!(docs_at(alloc, tokens));
+    let (name, rest) = read!(word_at(alloc, start));
+    let rest = read!(mark_at(rest, b'('));
+    let (request, rest) = read!(path_at(alloc, rest));
+    let rest = read!(mark_at(rest, b')'));
+    let rest = read!(mark_at(rest, b':'));
+    let (response, rest) = read!(path_at(alloc, rest));
+    let (attributes, rest) = read!(attributes_at(alloc, rest));
+    let rest = read!(mark_at(rest, b';'));
     Ok((
         Method {
             docs,
@@ -701,7 +712,7 @@ fn methods(alloc: Global, tokens: &[Token]) -> Result<(Vec<Method>, &[Token]), R
     let mut items = Vec::new(alloc);
     let mut rest = tokens;
     'items: while inside(rest) {
-        let (item, after) = method_at(alloc, rest)?;
+        let (item, after) = read!(method_at(alloc, rest));
         items.push(item)?;
         rest = after;
     }
@@ -712,10 +723,10 @@ fn service_at(alloc: Global, tokens: &[Token]) -> Result<(Item, &[Token]), ReadE
     ensures { Gives (λ x. (item_of x.0, pieces_of x.1.now)) result
         (as_item service_item (service_at_lem (pieces_of tokens.now))) }
 {
-    let (name, rest) = word_at(alloc, tokens)?;
-    let rest = mark_at(rest, b'{')?;
-    let (methods, rest) = methods(alloc, rest)?;
-    let rest = mark_at(rest, b'}')?;
+    let (name, rest) = read!(word_at(alloc, tokens));
+    let rest = read!(mark_at(rest, b'{'));
+    let (methods, rest) = read!(methods(alloc, rest));
+    let rest = read!(mark_at(rest, b'}'));
     Ok((Item::Service(Service { name, methods }), rest))
 }
 
@@ -723,8 +734,8 @@ fn quoted_at(alloc: Global, tokens: &[Token]) -> Result<(Vec<u8>, &[Token]), Rea
     ensures { Gives (λ x. (x.0.items, pieces_of x.1.now)) result
         (quoted_at_lem (pieces_of tokens.now)) }
 {
-    let (text, rest) = text_at(alloc, tokens)?;
-    let rest = mark_at(rest, b';')?;
+    let (text, rest) = read!(text_at(alloc, tokens));
+    let rest = read!(mark_at(rest, b';'));
     Ok((text, rest))
 }
 
@@ -732,8 +743,8 @@ fn rooted_at(alloc: Global, tokens: &[Token]) -> Result<(Path, &[Token]), ReadEr
     ensures { Gives (λ x. (path_of x.0, pieces_of x.1.now)) result
         (rooted_at_lem (pieces_of tokens.now)) }
 {
-    let (path, rest) = path_at(alloc, tokens)?;
-    let rest = mark_at(rest, b';')?;
+    let (path, rest) = read!(path_at(alloc, tokens));
+    let rest = read!(mark_at(rest, b';'));
     Ok((path, rest))
 }
 
@@ -744,7 +755,7 @@ fn namespace_at(alloc: Global, tokens: &[Token]) -> Result<(Item, &[Token]), Rea
     match after_mark(tokens, b';') {
         Some(rest) => Ok((Item::Namespace(None), rest)),
         None => {
-            let (path, rest) = rooted_at(alloc, tokens)?;
+            let (path, rest) = read!(rooted_at(alloc, tokens));
             Ok((Item::Namespace(Some(path)), rest))
         }
     }
@@ -754,8 +765,8 @@ fn declared_at(alloc: Global, tokens: &[Token]) -> Result<(Item, &[Token]), Read
     ensures { Gives (λ x. (item_of x.0, pieces_of x.1.now)) result
         (as_item attribute_item (declared_at_lem (pieces_of tokens.now))) }
 {
-    let (label, rest) = label_at(alloc, tokens)?;
-    let rest = mark_at(rest, b';')?;
+    let (label, rest) = read!(label_at(alloc, tokens));
+    let rest = read!(mark_at(rest, b';'));
     Ok((Item::Attribute(label), rest))
 }
 
@@ -776,20 +787,20 @@ fn statement_at<'a>(
         (statement_at_lem key.now left (pieces_of tokens.now)) }
 {
     if is_word(key, b"include") {
-        let (held, rest) = quoted_at(alloc, tokens)?;
+        let (held, rest) = read!(quoted_at(alloc, tokens));
         Ok((Item::Include(held), rest))
     } else if is_word(key, b"namespace") {
         namespace_at(alloc, tokens)
     } else if is_word(key, b"attribute") {
         declared_at(alloc, tokens)
     } else if is_word(key, b"root_type") {
-        let (held, rest) = rooted_at(alloc, tokens)?;
+        let (held, rest) = read!(rooted_at(alloc, tokens));
         Ok((Item::RootType(held), rest))
     } else if is_word(key, b"file_identifier") {
-        let (held, rest) = quoted_at(alloc, tokens)?;
+        let (held, rest) = read!(quoted_at(alloc, tokens));
         Ok((Item::FileIdentifier(held), rest))
     } else if is_word(key, b"file_extension") {
-        let (held, rest) = quoted_at(alloc, tokens)?;
+        let (held, rest) = read!(quoted_at(alloc, tokens));
         Ok((Item::FileExtension(held), rest))
     } else {
         Err(ReadError::Fault {
@@ -809,10 +820,10 @@ fn item_at<'a>(
         (item_at_lem key.now left (pieces_of tokens.now)) }
 {
     if is_word(key, b"table") {
-        let (held, rest) = record_at(alloc, tokens)?;
+        let (held, rest) = read!(record_at(alloc, tokens));
         Ok((Item::Table(held), rest))
     } else if is_word(key, b"struct") {
-        let (held, rest) = record_at(alloc, tokens)?;
+        let (held, rest) = read!(record_at(alloc, tokens));
         Ok((Item::Struct(held), rest))
     } else if is_word(key, b"enum") {
         enumeration_at(alloc, tokens)
@@ -829,9 +840,9 @@ fn declaration_at(alloc: Global, tokens: &[Token]) -> Result<(Declaration, &[Tok
     ensures { Gives (λ x. (declaration_of x.0, pieces_of x.1.now)) result
         (declaration_at_lem (pieces_of tokens.now)) }
 {
-    let (docs, start) = docs_at(alloc, tokens)?;
-    let (key, rest) = word_at(alloc, start)?;
-    let (item, rest) = item_at(alloc, &key, start.len(), rest)?;
+    let (docs, start) = read!(docs_at(alloc, tokens));
+    let (key, rest) = read!(word_at(alloc, start));
+    let (item, rest) = read!(item_at(alloc, &key, start.len(), rest));
     Ok((
         Declaration {
             docs,
@@ -849,7 +860,7 @@ fn schema_at(alloc: Global, tokens: &[Token]) -> Result<Vec<Declaration>, ReadEr
     let mut items = Vec::new(alloc);
     let mut rest = tokens;
     'items: while is_some(rest) {
-        let (item, after) = declaration_at(alloc, rest)?;
+        let (item, after) = read!(declaration_at(alloc, rest));
         items.push(item)?;
         rest = after;
     }

@@ -1,21 +1,16 @@
 use Rattle.std.proofs.Common.{refl}
-use Rattle.std.proofs.lemmas.Result.{err_from_is_err_and}
 use Rattle.planus_syntax.specs.Reading.{attribute_at}
 use Rattle.planus_syntax.proofs.Steps.{fails_here, fails_later, reads_on}
 use Rattle.planus_syntax.proofs.parse.attribute_at.Goals as goal
 
-pub returns-in_err-label : goal.returns-in_err-label
+pub returns-in-Err : goal.returns-in-Err
 unfolding attribute_at
-returns-in_err-label c =
-    let p = err_from_is_err_and c.from_residual.result c.from_residual.ensures.1 in
-    rw (p.1, p.2) (fails_here _ _ _ c.in_err-label.ensures)
+returns-in-Err c = fails_here _ _ _ c.in-Err.ensures
 
-pub returns-in_err-value : goal.returns-in_err-value
+pub returns-in-Err-literal_after : goal.returns-in-Err-literal_after
 unfolding attribute_at
-returns-in_err-value c =
-    let p = err_from_is_err_and c.from_residual-in_err-value.result c.from_residual-in_err-value.ensures.1 in
-    rw (p.1, p.2) (fails_later _ _ _ _ c.in_ok-label.ensures (fails_here _ _ _ c.in_err-value.ensures))
+returns-in-Err-literal_after c = fails_later _ _ _ _ c.in-Ok.ensures (fails_here _ _ _ c.in-Err-literal_after.ensures)
 
 pub returns : goal.returns
 unfolding attribute_at
-returns c = reads_on _ _ _ _ c.in_ok-label.ensures (reads_on _ _ _ _ c.in_ok-value.ensures refl)
+returns c = reads_on _ _ _ _ c.in-Ok.ensures (reads_on _ _ _ _ c.in-Ok-literal_after.ensures refl)

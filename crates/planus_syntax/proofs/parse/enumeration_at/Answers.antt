@@ -1,57 +1,40 @@
 use Rattle.std.proofs.Common.{refl}
-use Rattle.std.proofs.lemmas.Result.{err_from_is_err_and}
 use Rattle.planus_syntax.specs.Reading.{enumeration_at}
 use Rattle.planus_syntax.proofs.Steps.{fails_here, fails_later, reads_on}
 use Rattle.planus_syntax.proofs.parse.enumeration_at.Goals as goal
 
-pub returns-in_err-name : goal.returns-in_err-name
+pub returns-in-Err : goal.returns-in-Err
 unfolding enumeration_at
-returns-in_err-name c =
-    let p = err_from_is_err_and c.from_residual.result c.from_residual.ensures.1 in
-    rw (p.1, p.2) (fails_here _ _ _ (fails_here _ _ _ c.in_err-name.ensures))
+returns-in-Err c = fails_here _ _ _ (fails_here _ _ _ c.in-Err.ensures)
 
-pub returns-in_err-rest : goal.returns-in_err-rest
+pub returns-in-Err-mark_at : goal.returns-in-Err-mark_at
 unfolding enumeration_at
-returns-in_err-rest c =
-    let p = err_from_is_err_and c.from_residual-in_err-rest.result c.from_residual-in_err-rest.ensures.1 in
-    rw (p.1, p.2) (fails_here _ _ _ (fails_later _ _ _ _ c.in_ok-name.ensures (fails_here _ _ _ c.in_err-rest.ensures)))
+returns-in-Err-mark_at c = fails_here _ _ _ (fails_later _ _ _ _ c.in-Ok.ensures (fails_here _ _ _ c.in-Err-mark_at.ensures))
 
-pub returns-in_err-base : goal.returns-in_err-base
+pub returns-in-Err-path_at : goal.returns-in-Err-path_at
 unfolding enumeration_at
-returns-in_err-base c =
-    let p = err_from_is_err_and c.from_residual-in_err-base.result c.from_residual-in_err-base.ensures.1 in
-    rw (p.1, p.2) (fails_here _ _ _ (fails_later _ _ _ _ c.in_ok-name.ensures (fails_later _ _ _ _ c.in_ok-rest.ensures (fails_here _ _ _ c.in_err-base.ensures))))
+returns-in-Err-path_at c = fails_here _ _ _ (fails_later _ _ _ _ c.in-Ok.ensures (fails_later _ _ _ _ c.in-Ok-mark_at.ensures (fails_here _ _ _ c.in-Err-path_at.ensures)))
 
-pub returns-in_err-attributes : goal.returns-in_err-attributes
+pub returns-in-Err-attributes_at : goal.returns-in-Err-attributes_at
 unfolding enumeration_at
-returns-in_err-attributes c =
-    let p = err_from_is_err_and c.from_residual-in_err-attributes.result c.from_residual-in_err-attributes.ensures.1 in
-    rw (p.1, p.2) (fails_here _ _ _ (fails_later _ _ _ _ c.in_ok-name.ensures (fails_later _ _ _ _ c.in_ok-rest.ensures (fails_later _ _ _ _ c.in_ok-base.ensures (fails_here _ _ _ c.in_err-attributes.ensures)))))
+returns-in-Err-attributes_at c = fails_here _ _ _ (fails_later _ _ _ _ c.in-Ok.ensures (fails_later _ _ _ _ c.in-Ok-mark_at.ensures (fails_later _ _ _ _ c.in-Ok-path_at.ensures (fails_here _ _ _ c.in-Err-attributes_at.ensures))))
 
-pub returns-in_err-rest-2 : goal.returns-in_err-rest-2
+pub returns-in-Err-mark_at-2 : goal.returns-in-Err-mark_at-2
 unfolding enumeration_at
-returns-in_err-rest-2 c =
-    let p = err_from_is_err_and c.from_residual-in_err-rest-2.result c.from_residual-in_err-rest-2.ensures.1 in
-    rw (p.1, p.2) (fails_here _ _ _ (fails_later _ _ _ _ c.in_ok-name.ensures (fails_later _ _ _ _ c.in_ok-rest.ensures (fails_later _ _ _ _ c.in_ok-base.ensures (fails_later _ _ _ _ c.in_ok-attributes.ensures (fails_here _ _ _ c.in_err-rest-2.ensures))))))
+returns-in-Err-mark_at-2 c = fails_here _ _ _ (fails_later _ _ _ _ c.in-Ok.ensures (fails_later _ _ _ _ c.in-Ok-mark_at.ensures (fails_later _ _ _ _ c.in-Ok-path_at.ensures (fails_later _ _ _ _ c.in-Ok-attributes_at.ensures (fails_here _ _ _ c.in-Err-mark_at-2.ensures)))))
 
-pub returns-in_err-variants : goal.returns-in_err-variants
+pub returns-in-Err-variants_at : goal.returns-in-Err-variants_at
 unfolding enumeration_at
-returns-in_err-variants c =
-    let p = err_from_is_err_and c.from_residual-in_err-variants.result c.from_residual-in_err-variants.ensures.1 in
-    rw (p.1, p.2) (fails_here _ _ _ (fails_later _ _ _ _ c.in_ok-name.ensures (fails_later _ _ _ _ c.in_ok-rest.ensures (fails_later _ _ _ _ c.in_ok-base.ensures (fails_later _ _ _ _ c.in_ok-attributes.ensures (fails_later _ _ _ _ c.in_ok-rest-2.ensures (fails_here _ _ _ c.in_err-variants.ensures)))))))
+returns-in-Err-variants_at c = fails_here _ _ _ (fails_later _ _ _ _ c.in-Ok.ensures (fails_later _ _ _ _ c.in-Ok-mark_at.ensures (fails_later _ _ _ _ c.in-Ok-path_at.ensures (fails_later _ _ _ _ c.in-Ok-attributes_at.ensures (fails_later _ _ _ _ c.in-Ok-mark_at-2.ensures (fails_here _ _ _ c.in-Err-variants_at.ensures))))))
 
-pub returns-in_err-comma : goal.returns-in_err-comma
+pub returns-in-Err-comma_at : goal.returns-in-Err-comma_at
 unfolding enumeration_at
-returns-in_err-comma c =
-    let p = err_from_is_err_and c.from_residual-in_err-comma.result c.from_residual-in_err-comma.ensures.1 in
-    rw (p.1, p.2) (fails_here _ _ _ (fails_later _ _ _ _ c.in_ok-name.ensures (fails_later _ _ _ _ c.in_ok-rest.ensures (fails_later _ _ _ _ c.in_ok-base.ensures (fails_later _ _ _ _ c.in_ok-attributes.ensures (fails_later _ _ _ _ c.in_ok-rest-2.ensures (fails_later _ _ _ _ c.in_ok-variants.ensures (fails_here _ _ _ c.in_err-comma.ensures))))))))
+returns-in-Err-comma_at c = fails_here _ _ _ (fails_later _ _ _ _ c.in-Ok.ensures (fails_later _ _ _ _ c.in-Ok-mark_at.ensures (fails_later _ _ _ _ c.in-Ok-path_at.ensures (fails_later _ _ _ _ c.in-Ok-attributes_at.ensures (fails_later _ _ _ _ c.in-Ok-mark_at-2.ensures (fails_later _ _ _ _ c.in-Ok-variants_at.ensures (fails_here _ _ _ c.in-Err-comma_at.ensures)))))))
 
-pub returns-in_err-rest-3 : goal.returns-in_err-rest-3
+pub returns-in-Err-mark_at-3 : goal.returns-in-Err-mark_at-3
 unfolding enumeration_at
-returns-in_err-rest-3 c =
-    let p = err_from_is_err_and c.from_residual-in_err-rest-3.result c.from_residual-in_err-rest-3.ensures.1 in
-    rw (p.1, p.2) (fails_here _ _ _ (fails_later _ _ _ _ c.in_ok-name.ensures (fails_later _ _ _ _ c.in_ok-rest.ensures (fails_later _ _ _ _ c.in_ok-base.ensures (fails_later _ _ _ _ c.in_ok-attributes.ensures (fails_later _ _ _ _ c.in_ok-rest-2.ensures (fails_later _ _ _ _ c.in_ok-variants.ensures (fails_later _ _ _ _ c.in_ok-comma.ensures (fails_here _ _ _ c.in_err-rest-3.ensures)))))))))
+returns-in-Err-mark_at-3 c = fails_here _ _ _ (fails_later _ _ _ _ c.in-Ok.ensures (fails_later _ _ _ _ c.in-Ok-mark_at.ensures (fails_later _ _ _ _ c.in-Ok-path_at.ensures (fails_later _ _ _ _ c.in-Ok-attributes_at.ensures (fails_later _ _ _ _ c.in-Ok-mark_at-2.ensures (fails_later _ _ _ _ c.in-Ok-variants_at.ensures (fails_later _ _ _ _ c.in-Ok-comma_at.ensures (fails_here _ _ _ c.in-Err-mark_at-3.ensures))))))))
 
 pub returns : goal.returns
 unfolding enumeration_at
-returns c = reads_on _ _ _ _ (reads_on _ _ _ _ c.in_ok-name.ensures (reads_on _ _ _ _ c.in_ok-rest.ensures (reads_on _ _ _ _ c.in_ok-base.ensures (reads_on _ _ _ _ c.in_ok-attributes.ensures (reads_on _ _ _ _ c.in_ok-rest-2.ensures (reads_on _ _ _ _ c.in_ok-variants.ensures (reads_on _ _ _ _ c.in_ok-comma.ensures (reads_on _ _ _ _ c.in_ok-rest-3.ensures refl)))))))) refl
+returns c = reads_on _ _ _ _ (reads_on _ _ _ _ c.in-Ok.ensures (reads_on _ _ _ _ c.in-Ok-mark_at.ensures (reads_on _ _ _ _ c.in-Ok-path_at.ensures (reads_on _ _ _ _ c.in-Ok-attributes_at.ensures (reads_on _ _ _ _ c.in-Ok-mark_at-2.ensures (reads_on _ _ _ _ c.in-Ok-variants_at.ensures (reads_on _ _ _ _ c.in-Ok-comma_at.ensures (reads_on _ _ _ _ c.in-Ok-mark_at-3.ensures refl)))))))) refl

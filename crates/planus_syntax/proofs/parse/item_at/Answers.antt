@@ -1,28 +1,23 @@
 use Rattle.std.proofs.Common.{refl, sym, ◌∙◌}
-use Rattle.std.proofs.lemmas.Result.{err_from_is_err_and}
 use Rattle.planus_syntax.specs.Reading.{item_at}
 use Rattle.planus_syntax.proofs.Steps.{fails_here, reads_on, first_way, other_way, fails_first, fails_other, gives_first, gives_other}
 use Rattle.planus_syntax.proofs.parse.item_at.Goals as goal
 
-pub returns-in_err-held : goal.returns-in_err-held
+pub returns-in-Err : goal.returns-in-Err
 unfolding item_at
-returns-in_err-held c =
-    let p = err_from_is_err_and c.from_residual.result c.from_residual.ensures.1 in
-    rw (p.1, p.2) (fails_first _ _ _ _ (sym c.is_word.ensures ∙ c.if-is_word.true) (fails_here _ _ _ c.in_err-held.ensures))
+returns-in-Err c = fails_first _ _ _ _ (sym c.is_word.ensures ∙ c.if-is_word.true) (fails_here _ _ _ c.in-Err.ensures)
 
-pub returns-in_ok-held : goal.returns-in_ok-held
+pub returns-in-Ok : goal.returns-in-Ok
 unfolding item_at
-returns-in_ok-held c = first_way _ _ _ (sym c.is_word.ensures ∙ c.if-is_word.true) ∙ reads_on _ _ _ _ c.in_ok-held.ensures refl
+returns-in-Ok c = first_way _ _ _ (sym c.is_word.ensures ∙ c.if-is_word.true) ∙ reads_on _ _ _ _ c.in-Ok.ensures refl
 
-pub returns-in_err-held-2 : goal.returns-in_err-held-2
+pub returns-in-Err-record_at : goal.returns-in-Err-record_at
 unfolding item_at
-returns-in_err-held-2 c =
-    let p = err_from_is_err_and c.from_residual-in_err-held-2.result c.from_residual-in_err-held-2.ensures.1 in
-    rw (p.1, p.2) (fails_other _ _ _ _ (sym c.is_word.ensures ∙ c.if-is_word.false) (fails_first _ _ _ _ (sym c.is_word-else-is_word.ensures ∙ c.if-is_word-2.true) (fails_here _ _ _ c.in_err-held-2.ensures)))
+returns-in-Err-record_at c = fails_other _ _ _ _ (sym c.is_word.ensures ∙ c.if-is_word.false) (fails_first _ _ _ _ (sym c.is_word-else-is_word.ensures ∙ c.if-is_word-2.true) (fails_here _ _ _ c.in-Err-record_at.ensures))
 
-pub returns-in_ok-held-2 : goal.returns-in_ok-held-2
+pub returns-in-Ok-record_at : goal.returns-in-Ok-record_at
 unfolding item_at
-returns-in_ok-held-2 c = other_way _ _ _ (sym c.is_word.ensures ∙ c.if-is_word.false) ∙ first_way _ _ _ (sym c.is_word-else-is_word.ensures ∙ c.if-is_word-2.true) ∙ reads_on _ _ _ _ c.in_ok-held-2.ensures refl
+returns-in-Ok-record_at c = other_way _ _ _ (sym c.is_word.ensures ∙ c.if-is_word.false) ∙ first_way _ _ _ (sym c.is_word-else-is_word.ensures ∙ c.if-is_word-2.true) ∙ reads_on _ _ _ _ c.in-Ok-record_at.ensures refl
 
 pub returns-then-is_word-3 : goal.returns-then-is_word-3
 unfolding item_at

@@ -1,33 +1,24 @@
 use Rattle.std.proofs.Common.{refl}
-use Rattle.std.proofs.lemmas.Result.{err_from_is_err_and}
 use Rattle.planus_syntax.specs.Reading.{member_at}
 use Rattle.planus_syntax.proofs.Steps.{fails_here, fails_later, reads_on}
 use Rattle.planus_syntax.proofs.parse.member_at.Goals as goal
 
-pub returns-in_err-docs : goal.returns-in_err-docs
+pub returns-in-Err : goal.returns-in-Err
 unfolding member_at
-returns-in_err-docs c =
-    let p = err_from_is_err_and c.from_residual.result c.from_residual.ensures.1 in
-    rw (p.1, p.2) (fails_here _ _ _ c.in_err-docs.ensures)
+returns-in-Err c = fails_here _ _ _ c.in-Err.ensures
 
-pub returns-in_err-path : goal.returns-in_err-path
+pub returns-in-Err-path_at : goal.returns-in-Err-path_at
 unfolding member_at
-returns-in_err-path c =
-    let p = err_from_is_err_and c.from_residual-in_err-path.result c.from_residual-in_err-path.ensures.1 in
-    rw (p.1, p.2) (fails_later _ _ _ _ c.in_ok-docs.ensures (fails_here _ _ _ c.in_err-path.ensures))
+returns-in-Err-path_at c = fails_later _ _ _ _ c.in-Ok.ensures (fails_here _ _ _ c.in-Err-path_at.ensures)
 
-pub returns-in_err-target : goal.returns-in_err-target
+pub returns-in-Err-target_at : goal.returns-in-Err-target_at
 unfolding member_at
-returns-in_err-target c =
-    let p = err_from_is_err_and c.from_residual-in_err-target.result c.from_residual-in_err-target.ensures.1 in
-    rw (p.1, p.2) (fails_later _ _ _ _ c.in_ok-docs.ensures (fails_later _ _ _ _ c.in_ok-path.ensures (fails_here _ _ _ c.in_err-target.ensures)))
+returns-in-Err-target_at c = fails_later _ _ _ _ c.in-Ok.ensures (fails_later _ _ _ _ c.in-Ok-path_at.ensures (fails_here _ _ _ c.in-Err-target_at.ensures))
 
-pub returns-in_err-value : goal.returns-in_err-value
+pub returns-in-Err-value_at : goal.returns-in-Err-value_at
 unfolding member_at
-returns-in_err-value c =
-    let p = err_from_is_err_and c.from_residual-in_err-value.result c.from_residual-in_err-value.ensures.1 in
-    rw (p.1, p.2) (fails_later _ _ _ _ c.in_ok-docs.ensures (fails_later _ _ _ _ c.in_ok-path.ensures (fails_later _ _ _ _ c.in_ok-target.ensures (fails_here _ _ _ c.in_err-value.ensures))))
+returns-in-Err-value_at c = fails_later _ _ _ _ c.in-Ok.ensures (fails_later _ _ _ _ c.in-Ok-path_at.ensures (fails_later _ _ _ _ c.in-Ok-target_at.ensures (fails_here _ _ _ c.in-Err-value_at.ensures)))
 
 pub returns : goal.returns
 unfolding member_at
-returns c = reads_on _ _ _ _ c.in_ok-docs.ensures (reads_on _ _ _ _ c.in_ok-path.ensures (reads_on _ _ _ _ c.in_ok-target.ensures (reads_on _ _ _ _ c.in_ok-value.ensures refl)))
+returns c = reads_on _ _ _ _ c.in-Ok.ensures (reads_on _ _ _ _ c.in-Ok-path_at.ensures (reads_on _ _ _ _ c.in-Ok-target_at.ensures (reads_on _ _ _ _ c.in-Ok-value_at.ensures refl)))

@@ -1,21 +1,16 @@
 use Rattle.std.proofs.Common.{refl}
-use Rattle.std.proofs.lemmas.Result.{err_from_is_err_and}
 use Rattle.planus_syntax.specs.Reading.{rooted_at}
 use Rattle.planus_syntax.proofs.Steps.{fails_here, fails_later, reads_on}
 use Rattle.planus_syntax.proofs.parse.rooted_at.Goals as goal
 
-pub returns-in_err-path : goal.returns-in_err-path
+pub returns-in-Err : goal.returns-in-Err
 unfolding rooted_at
-returns-in_err-path c =
-    let p = err_from_is_err_and c.from_residual.result c.from_residual.ensures.1 in
-    rw (p.1, p.2) (fails_here _ _ _ c.in_err-path.ensures)
+returns-in-Err c = fails_here _ _ _ c.in-Err.ensures
 
-pub returns-in_err-rest : goal.returns-in_err-rest
+pub returns-in-Err-mark_at : goal.returns-in-Err-mark_at
 unfolding rooted_at
-returns-in_err-rest c =
-    let p = err_from_is_err_and c.from_residual-in_err-rest.result c.from_residual-in_err-rest.ensures.1 in
-    rw (p.1, p.2) (fails_later _ _ _ _ c.in_ok-path.ensures (fails_here _ _ _ c.in_err-rest.ensures))
+returns-in-Err-mark_at c = fails_later _ _ _ _ c.in-Ok.ensures (fails_here _ _ _ c.in-Err-mark_at.ensures)
 
 pub returns : goal.returns
 unfolding rooted_at
-returns c = reads_on _ _ _ _ c.in_ok-path.ensures (reads_on _ _ _ _ c.in_ok-rest.ensures refl)
+returns c = reads_on _ _ _ _ c.in-Ok.ensures (reads_on _ _ _ _ c.in-Ok-mark_at.ensures refl)

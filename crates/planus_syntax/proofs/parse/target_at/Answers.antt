@@ -1,18 +1,15 @@
 use Rattle.std.proofs.Common.{refl, ◌∙◌}
-use Rattle.std.proofs.lemmas.Result.{err_from_is_err_and}
 use Rattle.planus_syntax.specs.Reading.{optional_at}
 use Rattle.planus_syntax.proofs.Steps.{fails_here, fails_later, reads_on, first_way, other_way, fails_first}
 use Rattle.planus_syntax.proofs.parse.target_at.Goals as goal
 
-pub returns-in_err-value-in-Some : goal.returns-in_err-value-in-Some
+pub returns-in-Err : goal.returns-in-Err
 unfolding optional_at
-returns-in_err-value-in-Some c =
-    let p = err_from_is_err_and c.from_residual.result c.from_residual.ensures.1 in
-    rw (p.1, p.2) (fails_first _ _ _ _ c.in-Some.ensures.0 (fails_later _ _ _ _ c.in-Some.ensures.1 (fails_here _ _ _ c.in_err-value-in-Some.ensures)))
+returns-in-Err c = fails_first _ _ _ _ c.in-Some.ensures.0 (fails_later _ _ _ _ c.in-Some.ensures.1 (fails_here _ _ _ c.in-Err.ensures))
 
-pub returns-in_ok-value-in-Some : goal.returns-in_ok-value-in-Some
+pub returns-in-Ok : goal.returns-in-Ok
 unfolding optional_at
-returns-in_ok-value-in-Some c = first_way _ _ _ c.in-Some.ensures.0 ∙ reads_on _ _ _ _ c.in-Some.ensures.1 (reads_on _ _ _ _ c.in_ok-value-in-Some.ensures refl)
+returns-in-Ok c = first_way _ _ _ c.in-Some.ensures.0 ∙ reads_on _ _ _ _ c.in-Some.ensures.1 (reads_on _ _ _ _ c.in-Ok.ensures refl)
 
 pub returns-in-None : goal.returns-in-None
 unfolding optional_at

@@ -1,45 +1,32 @@
 use Rattle.std.proofs.Common.{refl}
-use Rattle.std.proofs.lemmas.Result.{err_from_is_err_and}
 use Rattle.planus_syntax.specs.Reading.{union_at}
 use Rattle.planus_syntax.proofs.Steps.{fails_here, fails_later, reads_on}
 use Rattle.planus_syntax.proofs.parse.union_at.Goals as goal
 
-pub returns-in_err-name : goal.returns-in_err-name
+pub returns-in-Err : goal.returns-in-Err
 unfolding union_at
-returns-in_err-name c =
-    let p = err_from_is_err_and c.from_residual.result c.from_residual.ensures.1 in
-    rw (p.1, p.2) (fails_here _ _ _ (fails_here _ _ _ c.in_err-name.ensures))
+returns-in-Err c = fails_here _ _ _ (fails_here _ _ _ c.in-Err.ensures)
 
-pub returns-in_err-attributes : goal.returns-in_err-attributes
+pub returns-in-Err-attributes_at : goal.returns-in-Err-attributes_at
 unfolding union_at
-returns-in_err-attributes c =
-    let p = err_from_is_err_and c.from_residual-in_err-attributes.result c.from_residual-in_err-attributes.ensures.1 in
-    rw (p.1, p.2) (fails_here _ _ _ (fails_later _ _ _ _ c.in_ok-name.ensures (fails_here _ _ _ c.in_err-attributes.ensures)))
+returns-in-Err-attributes_at c = fails_here _ _ _ (fails_later _ _ _ _ c.in-Ok.ensures (fails_here _ _ _ c.in-Err-attributes_at.ensures))
 
-pub returns-in_err-rest : goal.returns-in_err-rest
+pub returns-in-Err-mark_at : goal.returns-in-Err-mark_at
 unfolding union_at
-returns-in_err-rest c =
-    let p = err_from_is_err_and c.from_residual-in_err-rest.result c.from_residual-in_err-rest.ensures.1 in
-    rw (p.1, p.2) (fails_here _ _ _ (fails_later _ _ _ _ c.in_ok-name.ensures (fails_later _ _ _ _ c.in_ok-attributes.ensures (fails_here _ _ _ c.in_err-rest.ensures))))
+returns-in-Err-mark_at c = fails_here _ _ _ (fails_later _ _ _ _ c.in-Ok.ensures (fails_later _ _ _ _ c.in-Ok-attributes_at.ensures (fails_here _ _ _ c.in-Err-mark_at.ensures)))
 
-pub returns-in_err-members : goal.returns-in_err-members
+pub returns-in-Err-members_at : goal.returns-in-Err-members_at
 unfolding union_at
-returns-in_err-members c =
-    let p = err_from_is_err_and c.from_residual-in_err-members.result c.from_residual-in_err-members.ensures.1 in
-    rw (p.1, p.2) (fails_here _ _ _ (fails_later _ _ _ _ c.in_ok-name.ensures (fails_later _ _ _ _ c.in_ok-attributes.ensures (fails_later _ _ _ _ c.in_ok-rest.ensures (fails_here _ _ _ c.in_err-members.ensures)))))
+returns-in-Err-members_at c = fails_here _ _ _ (fails_later _ _ _ _ c.in-Ok.ensures (fails_later _ _ _ _ c.in-Ok-attributes_at.ensures (fails_later _ _ _ _ c.in-Ok-mark_at.ensures (fails_here _ _ _ c.in-Err-members_at.ensures))))
 
-pub returns-in_err-comma : goal.returns-in_err-comma
+pub returns-in-Err-comma_at : goal.returns-in-Err-comma_at
 unfolding union_at
-returns-in_err-comma c =
-    let p = err_from_is_err_and c.from_residual-in_err-comma.result c.from_residual-in_err-comma.ensures.1 in
-    rw (p.1, p.2) (fails_here _ _ _ (fails_later _ _ _ _ c.in_ok-name.ensures (fails_later _ _ _ _ c.in_ok-attributes.ensures (fails_later _ _ _ _ c.in_ok-rest.ensures (fails_later _ _ _ _ c.in_ok-members.ensures (fails_here _ _ _ c.in_err-comma.ensures))))))
+returns-in-Err-comma_at c = fails_here _ _ _ (fails_later _ _ _ _ c.in-Ok.ensures (fails_later _ _ _ _ c.in-Ok-attributes_at.ensures (fails_later _ _ _ _ c.in-Ok-mark_at.ensures (fails_later _ _ _ _ c.in-Ok-members_at.ensures (fails_here _ _ _ c.in-Err-comma_at.ensures)))))
 
-pub returns-in_err-rest-2 : goal.returns-in_err-rest-2
+pub returns-in-Err-mark_at-2 : goal.returns-in-Err-mark_at-2
 unfolding union_at
-returns-in_err-rest-2 c =
-    let p = err_from_is_err_and c.from_residual-in_err-rest-2.result c.from_residual-in_err-rest-2.ensures.1 in
-    rw (p.1, p.2) (fails_here _ _ _ (fails_later _ _ _ _ c.in_ok-name.ensures (fails_later _ _ _ _ c.in_ok-attributes.ensures (fails_later _ _ _ _ c.in_ok-rest.ensures (fails_later _ _ _ _ c.in_ok-members.ensures (fails_later _ _ _ _ c.in_ok-comma.ensures (fails_here _ _ _ c.in_err-rest-2.ensures)))))))
+returns-in-Err-mark_at-2 c = fails_here _ _ _ (fails_later _ _ _ _ c.in-Ok.ensures (fails_later _ _ _ _ c.in-Ok-attributes_at.ensures (fails_later _ _ _ _ c.in-Ok-mark_at.ensures (fails_later _ _ _ _ c.in-Ok-members_at.ensures (fails_later _ _ _ _ c.in-Ok-comma_at.ensures (fails_here _ _ _ c.in-Err-mark_at-2.ensures))))))
 
 pub returns : goal.returns
 unfolding union_at
-returns c = reads_on _ _ _ _ (reads_on _ _ _ _ c.in_ok-name.ensures (reads_on _ _ _ _ c.in_ok-attributes.ensures (reads_on _ _ _ _ c.in_ok-rest.ensures (reads_on _ _ _ _ c.in_ok-members.ensures (reads_on _ _ _ _ c.in_ok-comma.ensures (reads_on _ _ _ _ c.in_ok-rest-2.ensures refl)))))) refl
+returns c = reads_on _ _ _ _ (reads_on _ _ _ _ c.in-Ok.ensures (reads_on _ _ _ _ c.in-Ok-attributes_at.ensures (reads_on _ _ _ _ c.in-Ok-mark_at.ensures (reads_on _ _ _ _ c.in-Ok-members_at.ensures (reads_on _ _ _ _ c.in-Ok-comma_at.ensures (reads_on _ _ _ _ c.in-Ok-mark_at-2.ensures refl)))))) refl

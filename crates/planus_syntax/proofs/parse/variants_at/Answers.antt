@@ -1,14 +1,11 @@
-use Rattle.std.proofs.lemmas.Result.{err_from_is_err_and}
 use Rattle.planus_syntax.specs.Reading.{variants_at}
 use Rattle.planus_syntax.proofs.Steps.{fails_here, gives_later}
 use Rattle.planus_syntax.proofs.parse.variants_at.Goals as goal
 
-pub returns-in_err-first : goal.returns-in_err-first
+pub returns-in-Err : goal.returns-in-Err
 unfolding variants_at
-returns-in_err-first c =
-    let p = err_from_is_err_and c.from_residual.result c.from_residual.ensures.1 in
-    rw (p.1, p.2) (fails_here _ _ _ c.in_err-first.ensures)
+returns-in-Err c = fails_here _ _ _ c.in-Err.ensures
 
 pub returns : goal.returns
 unfolding variants_at
-returns c = gives_later _ _ _ _ _ c.in_ok-first.ensures c.more_variants.ensures
+returns c = gives_later _ _ _ _ _ c.in-Ok.ensures c.more_variants.ensures
