@@ -14,10 +14,9 @@ use Rattle.planus_write.specs.declared.offset.Offset.{Offset}
 use Rattle.planus_write.specs.lemmas.Staying.{kept_stays}
 use Rattle.planus_write.specs.Contents.{Content, Comes}
 use Rattle.planus.specs.Contents.{FieldsAre, there_of, TableIsKept, WritesRest}
-use Rattle.planus.specs.lemmas.ContentLaws.{fields_stay}
+use Rattle.planus.specs.lemmas.ContentLaws.{fields_stay, contents_both}
 use Rattle.planus.specs.Preparing.{WritesFields}
 use Rattle.planus.specs.TableFields.{all_of, field_in}
-use Rattle.planus.proofs.RuledTables.{contents_both}
 
 pub if_ok : {T E : Type 0} {P Q : T → Type 0} (r : Result T E) → ((x : T) → P x → Q x) → IfOk r P
     → IfOk r Q

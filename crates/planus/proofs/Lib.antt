@@ -8,6 +8,7 @@ pub mod ReadVectors
 pub mod ReadItems
 pub mod ReadUnions
 pub mod FieldSteps
+pub mod TwoParts
 pub mod RefusedTables
 pub mod Accessors
 pub mod ItemAccessors

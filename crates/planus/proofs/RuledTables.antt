@@ -22,7 +22,7 @@ use Rattle.planus_write.specs.lemmas.Laws.{extends_on, extends_itself}
 use Rattle.std.proofs.lemmas.List.{append-nil}
 use Rattle.planus_write.specs.Contents.{Content, Comes, named_at}
 use Rattle.planus.specs.Contents.{FieldsAre, there_of, StillKept, TableIsKept, WritesRest}
-use Rattle.planus.specs.lemmas.ContentLaws.{fields_stay}
+use Rattle.planus.specs.lemmas.ContentLaws.{fields_stay, contents_both}
 use Rattle.planus.specs.lemmas.PreparingLaws.{among_both, stand_both, entries_append}
 use Rattle.planus.proofs.FieldLists.{blank_unused}
 
@@ -136,17 +136,6 @@ others_unused before after all (other ∷ others) apart stays unused = (
   stays other.slot apart.0 unused.0,
   others_unused before after all others apart.1 stays unused.1,
 )
-
-pub contents_both : (past : Past) (contents tags : List (ℕ × Option Content)) (fields others : List (ℕ × Field))
-    → FieldsAre past (there_of contents) fields → FieldsAre past (there_of tags) others
-    → FieldsAre past (there_of (contents ++ tags)) (fields ++ others)
-contents_both past [] tags [] others first second = second
-contents_both past [] tags (field ∷ fields) others first second = elim first [ ]
-contents_both past ((slot, None) ∷ contents) tags fields others first second =
-    contents_both past contents tags fields others first second
-contents_both past ((slot, Some content) ∷ contents) tags [] others first second = elim first [ ]
-contents_both past ((slot, Some content) ∷ contents) tags (field ∷ fields) others first second =
-    (first.0, first.1, contents_both past contents tags fields others first.2 second)
 
 pub all_unused : (writer : Writer) (n : ℕ) (all : List Declared) → writer ≡ blank n
     → has_slots n all ≡ true → AllByRecursion (λ one. IsUnused writer one.slot) all

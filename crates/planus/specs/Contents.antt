@@ -1,12 +1,13 @@
 -- What the fields of a table hold.
 use Rattle.std.specs.Prelude.{◌≡◌, ℕ, List, [], ◌∷◌, ◌++◌, Option}
-use Rattle.std.specs.Prelude.{Some, None, ⊤}
+use Rattle.std.specs.Prelude.{Some, None, Ok, ⊤}
 use Rattle.std.specs.Int.{w8, to_le_bytes}
 use Rattle.planus_read.specs.Values.{Value, Field}
 use Rattle.planus_read.specs.Values.{table}
 use Rattle.planus_write.specs.Kept.{IsKept}
 use Rattle.planus_write.specs.Parts.{Named}
 use Rattle.planus_write.specs.Past.{Past}
+use Rattle.planus_write.specs.Placing.{Outcome}
 use Rattle.planus_write.specs.State.{State, IsPast}
 use Rattle.planus_write.specs.Contents.{Content, item}
 use Rattle.planus_write.specs.Contents.{named_at}
@@ -73,3 +74,11 @@ WritesRest there last contents last_contents old distance new =
     → FieldsAre past (there_of before) there → FieldsAre past (there_of last_before) last
     → Comes past new (λ after. StillKept past after
     × TableIsKept after ((before ++ contents) ++ (last_before ++ last_contents)) distance)
+
+-- Prepared fields hold these contents.
+pub record PreparesContents {X A : Type 0} (may : X → State → Type 0) (outcome : X → Outcome A)
+    (contents : X → List (ℕ × Option Content)) (there : A → List (ℕ × Field)) : Type 0 where
+  pub comes :
+      (x : X) (old : State) (prepared : A) (new : State) (past : Past) → may x old
+      → outcome x old (Ok prepared) new → IsPast old past
+      → Comes past new (λ after. FieldsAre after (there_of (contents x)) (there prepared))

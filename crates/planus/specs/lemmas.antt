@@ -1,4 +1,5 @@
 pub mod ContentLaws
+pub mod GroupLaws
 pub mod PreparingLaws
 pub mod UnionContentLaws
 pub mod VariantLaws

@@ -3,11 +3,16 @@
 mod create;
 mod field_at;
 mod field_chain;
+mod field_group;
 mod field_parts;
 mod fields;
+mod group;
+mod group_chain;
 mod lines;
 mod or_default;
 mod plain_fields;
+mod prepare_fields;
+mod prepared_at;
 mod prepared_fields;
 mod required;
 mod rest;
@@ -27,11 +32,14 @@ mod variant;
 
 pub use create::create_table;
 pub use field_at::FieldAt;
+pub use field_group::FieldGroup;
 pub use fields::Fields;
+pub use group::Group;
 pub use or_default::OrDefault;
 pub use plain_fields::{
     plain_field, plain_field_or, plain_item, plain_required, plain_vector, plain_vector_required,
 };
+pub use prepare_fields::PrepareFields;
 pub use required::Required;
 pub use table_fields::{
     read_root, read_view, table_field, table_item, table_required, table_vector,

@@ -1,5 +1,5 @@
--- The content of one field.
-use Rattle.std.specs.Prelude.{ℕ, [], ◌∷◌, Option, Some, None, List}
+-- The contents of fields.
+use Rattle.std.specs.Prelude.{ℕ, [], ◌∷◌, ◌++◌, Option, Some, None, List}
 use Rattle.std.proofs.Common.{refl}
 use Rattle.planus_read.specs.Values.{Field}
 use Rattle.planus_write.specs.Past.{Past}
@@ -20,6 +20,17 @@ fields_stay before after (content ∷ contents) (field ∷ fields) extends are =
 )
 fields_stay before after [] (field ∷ fields) extends are = are
 fields_stay before after (content ∷ contents) [] extends are = are
+
+pub contents_both : (past : Past) (contents tags : List (ℕ × Option Content)) (fields others : List (ℕ × Field))
+    → FieldsAre past (there_of contents) fields → FieldsAre past (there_of tags) others
+    → FieldsAre past (there_of (contents ++ tags)) (fields ++ others)
+contents_both past [] tags [] others first second = second
+contents_both past [] tags (field ∷ fields) others first second = elim first [ ]
+contents_both past ((slot, None) ∷ contents) tags fields others first second =
+    contents_both past contents tags fields others first second
+contents_both past ((slot, Some content) ∷ contents) tags [] others first second = elim first [ ]
+contents_both past ((slot, Some content) ∷ contents) tags (field ∷ fields) others first second =
+    (first.0, first.1, contents_both past contents tags fields others first.2 second)
 
 pub only_field
     : {A : Type 0} (past : Past) (slot : ℕ) (content : Option Content) (field : A → Field)

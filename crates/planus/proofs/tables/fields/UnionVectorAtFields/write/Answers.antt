@@ -5,11 +5,10 @@ use Rattle.planus_read.specs.Values.{tags, values}
 use Rattle.planus_write.specs.lemmas.Laws.{grows_on, extends_itself}
 use Rattle.planus_fields.specs.Contents.{HoldsIf}
 use Rattle.planus.specs.Contents.{tags_content, values_content}
-use Rattle.planus.specs.lemmas.ContentLaws.{only_field}
+use Rattle.planus.specs.lemmas.ContentLaws.{only_field, contents_both}
 use Rattle.planus.specs.Preparing.{WritesFields}
 use Rattle.planus.specs.TableFields.{field_in, list_tags_in, list_values_in}
 use Rattle.planus.specs.lemmas.UnionContentLaws.{list_tags_hold, list_values_hold}
-use Rattle.planus.proofs.RuledTables.{contents_both}
 use Rattle.planus.proofs.FieldSteps.{if_ok, goes_on, made_of, one_more, more_kept}
 use Rattle.planus.proofs.tables.fields.UnionVectorAtFields.write.Goals as goal
 

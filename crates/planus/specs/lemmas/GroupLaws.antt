@@ -1,0 +1,148 @@
+-- Laws for fields that are prepared by value.
+use Rattle.std.specs.Prelude.{◌≡◌, ℕ, ◌≤◌, max, List, [], ◌∷◌, ◌++◌, length, Option, Result, Ok, Err}
+use Rattle.std.specs.List.{AllByRecursion}
+use Rattle.std.proofs.Common.{subst, sym, arith, inl, inr}
+use Rattle.planus_read.specs.Values.{Field}
+use Rattle.planus_fields.specs.Contents.{PreparesOptional}
+use Rattle.planus_fields.specs.Fields.{reach_if}
+use Rattle.planus_write.specs.Contents.{Content, Comes}
+use Rattle.planus_write.specs.Past.{Past}
+use Rattle.planus_write.specs.Placing.{Outcome}
+use Rattle.planus_write.specs.Preparing.{IsLawful}
+use Rattle.planus_write.specs.State.{State, IsPast, Grows}
+use Rattle.planus_write.specs.Tables.{IsField, Declared, declared_of}
+use Rattle.planus_write.specs.declared.errors.BuildError.{BuildError}
+use Rattle.planus_write.specs.lemmas.Laws.{grows_on, extends_on, reached_still}
+use Rattle.planus.specs.Contents.{FieldsAre, there_of, PreparesContents}
+use Rattle.planus.specs.Preparing.{PreparesAs, PreparesBoth}
+use Rattle.planus.specs.TableFields.{field_in}
+use Rattle.planus.specs.TableRules.{Among}
+use Rattle.planus.specs.lemmas.ContentLaws.{fields_stay, contents_both, only_field}
+use Rattle.planus.specs.lemmas.PreparingLaws.{among_both, stand_both, entries_append}
+
+pub max_itself : (n bound : ℕ) → n ≤ bound → max n n ≤ bound
+max_itself n bound le = omega (arith, le)
+
+pub pair_stands : (fields others : List (ℕ × Field)) (reach others_reach before : ℕ)
+    → (reach ≤ before → AllByRecursion (λ entry. IsField before entry.1) fields)
+    → (others_reach ≤ before → AllByRecursion (λ entry. IsField before entry.1) others)
+    → max reach others_reach ≤ before
+    → AllByRecursion (λ entry. IsField before entry.1) (fields ++ others)
+pair_stands fields others reach others_reach before first second reached =
+    stand_both before fields others (first (omega (arith, reached))) (second (omega (arith, reached)))
+
+pub pair_among : (fields others : List (ℕ × Field)) (all others_all : List Declared)
+    → Among (declared_of fields) all → Among (declared_of others) others_all
+    → Among (declared_of (fields ++ others)) (all ++ others_all)
+pair_among fields others all others_all first second =
+    subst (λ some. Among some (all ++ others_all)) (sym (entries_append fields others))
+    (among_both (declared_of fields) (declared_of others) all others_all first second)
+
+pub field_is_lawful : {X Y A B : Type 0} {may : X → State → Type 0}
+    {outcome : X → Outcome (Option A)} {reach : A → ℕ} (of : Y → X) (value : B → Option A)
+    → IsLawful may outcome (reach_if reach)
+    → IsLawful (λ y old. may (of y) old)
+    (λ y old answer new. PreparesAs value (outcome (of y)) old answer new)
+    (λ prepared. reach_if reach (value prepared))
+field_is_lawful {X} {Y} {A} {B} {may} {outcome} {reach} of value lawful = record {
+  grows = grows;
+  reaches = λ y old prepared new may done.
+      lawful.reaches (of y) old (value prepared) new may done;
+  stays = λ y. lawful.stays (of y);
+}
+  where
+    grows : (y : Y) (old : State) (answer : Result B BuildError) (new : State) → may (of y) old
+        → PreparesAs value (outcome (of y)) old answer new → Grows old new
+    grows y old (Ok prepared) new may done =
+        lawful.grows (of y) old (Ok (value prepared)) new may done
+    grows y old (Err error) new may done = lawful.grows (of y) old (Err error) new may done
+
+pub field_has_contents : {X Y A B : Type 0} {may : X → State → Type 0}
+    {outcome : X → Outcome (Option A)} {content : X → Option Content} {field : A → Field}
+    (of : Y → X) (value : B → Option A) (slot : ℕ) → PreparesOptional may outcome content field
+    → PreparesContents (λ y old. may (of y) old)
+    (λ y old answer new. PreparesAs value (outcome (of y)) old answer new)
+    (λ y. (slot, content (of y)) ∷ []) (λ prepared. field_in slot field (value prepared))
+field_has_contents {X} {Y} {A} {B} {may} {outcome} {content} {field} of value slot prepares = record {
+  comes = λ y old prepared new past may done is_past.
+      let near = prepares.comes (of y) old (value prepared) new past may done is_past in (
+        near.0,
+        near.1,
+        near.2,
+        only_field near.0 slot (content (of y)) field (value prepared) near.3,
+      );
+}
+
+module _ {X Y A B : Type 0} {may : X → State → Type 0} {others_may : Y → State → Type 0}
+    {outcome : X → Outcome A} {others : Y → Outcome B} {reach : A → ℕ} {others_reach : B → ℕ}
+    (first : IsLawful may outcome reach) (second : IsLawful others_may others others_reach) where
+  both_grow : (x : X) (y : Y) (old : State) (answer : Result (A × B) BuildError) (new : State)
+      → may x old → others_may y old → PreparesBoth (outcome x) (others y) old answer new
+      → Grows old new
+  both_grow x y old (Ok prepared) new may also done =
+      let near = first.grows x old (Ok done.0) done.1 may done.2 in
+      let far = second.grows y done.1 (Ok done.3.0) done.3.1
+      (second.stays y old done.1 near also) done.3.2 in
+      grows_on old done.1 new near
+      (subst (λ state. Grows done.1 state) (sym done.3.3.1) far)
+  both_grow x y old (Err error) new may also (inl refused) =
+      first.grows x old (Err error) new may refused
+  both_grow x y old (Err error) new may also (inr (a, between, done, inl refused)) =
+      let near = first.grows x old (Ok a) between may done in
+      grows_on old between new near
+      (second.grows y between (Err error) new (second.stays y old between near also) refused)
+  both_grow x y old (Err error) new may also (inr (a, between, done, inr answered)) =
+      absurd (let same = answered.3.0 in cc)
+
+  pub both_are_lawful
+      : IsLawful {X = X × Y} {A = A × B} (λ both old. may both.0 old × others_may both.1 old)
+      (λ both old answer new. PreparesBoth (outcome both.0) (others both.1) old answer new)
+      (λ prepared. max (reach prepared.0) (others_reach prepared.1))
+  both_are_lawful = record {
+    grows = λ both old answer new may done.
+        both_grow both.0 both.1 old answer new may.0 may.1 done;
+    reaches = λ both old prepared new may done.
+        let near = first.grows both.0 old (Ok done.0) done.1 may.0 done.2 in
+        let also = second.stays both.1 old done.1 near may.1 in
+        let far = second.grows both.1 done.1 (Ok done.3.0) done.3.1 also done.3.2 in
+        let one = reached_still (reach done.0) done.1 done.3.1 far
+        (first.reaches both.0 old done.0 done.1 may.0 done.2) in
+        let two = second.reaches both.1 done.1 done.3.0 done.3.1 also done.3.2 in
+        let same : prepared ≡ (done.0, done.3.0) = let h = done.3.3.0 in cc in
+        subst (λ state. max (reach prepared.0) (others_reach prepared.1) ≤ length state.bytes)
+        (sym done.3.3.1)
+        (subst (λ prepared. max (reach prepared.0) (others_reach prepared.1) ≤ length done.3.1.bytes)
+        (sym same) (omega (arith, one, two)));
+    stays = λ both old new grows may. (
+      first.stays both.0 old new grows may.0,
+      second.stays both.1 old new grows may.1,
+    );
+  }
+
+  pub both_have_contents : {contents : X → List (ℕ × Option Content)}
+      {others_contents : Y → List (ℕ × Option Content)} {there : A → List (ℕ × Field)}
+      {others_there : B → List (ℕ × Field)} → PreparesContents may outcome contents there
+      → PreparesContents others_may others others_contents others_there
+      → PreparesContents {X = X × Y} {A = A × B} (λ both old. may both.0 old × others_may both.1 old)
+      (λ both old answer new. PreparesBoth (outcome both.0) (others both.1) old answer new)
+      (λ both. contents both.0 ++ others_contents both.1)
+      (λ prepared. there prepared.0 ++ others_there prepared.1)
+  both_have_contents {contents} {others_contents} {there} {others_there} holds others_hold = record {
+    comes = λ both old prepared new past may done is_past.
+        let near = holds.comes both.0 old done.0 done.1 past may.0 done.2 is_past in
+        let grown = first.grows both.0 old (Ok done.0) done.1 may.0 done.2 in
+        let far = others_hold.comes both.1 done.1 done.3.0 done.3.1 near.0
+        (second.stays both.1 old done.1 grown may.1) done.3.2 near.1 in
+        let same : prepared ≡ (done.0, done.3.0) = let h = done.3.3.0 in cc in (
+          far.0,
+          subst (λ state. IsPast state far.0) (sym done.3.3.1) far.1,
+          extends_on past near.0 far.0 near.2 far.2,
+          subst
+          (λ prepared. FieldsAre far.0 (there_of (contents both.0 ++ others_contents both.1))
+          (there prepared.0 ++ others_there prepared.1))
+          (sym same)
+          (contents_both far.0 (contents both.0) (others_contents both.1) (there done.0)
+          (others_there done.3.0)
+          (fields_stay near.0 far.0 (there_of (contents both.0)) (there done.0) far.2 near.3) far.3),
+        );
+  }
