@@ -138,11 +138,11 @@ module _ {X Y A B : Type 0} {may : X → State → Type 0} {others_may : Y → S
           subst (λ state. IsPast state far.0) (sym done.3.3.1) far.1,
           extends_on past near.0 far.0 near.2 far.2,
           subst
-          (λ prepared. FieldsAre far.0 (there_of (contents both.0 ++ others_contents both.1))
-          (there prepared.0 ++ others_there prepared.1))
-          (sym same)
-          (contents_both far.0 (contents both.0) (others_contents both.1) (there done.0)
-          (others_there done.3.0)
-          (fields_stay near.0 far.0 (there_of (contents both.0)) (there done.0) far.2 near.3) far.3),
+              (λ prepared. FieldsAre far.0 (there_of (contents both.0 ++ others_contents both.1))
+              (there prepared.0 ++ others_there prepared.1))
+              (sym same)
+              (contents_both far.0 (contents both.0) (others_contents both.1) (there done.0)
+              (others_there done.3.0)
+              (fields_stay near.0 far.0 (there_of (contents both.0)) (there done.0) far.2 near.3) far.3),
         );
   }

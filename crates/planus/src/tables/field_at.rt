@@ -16,6 +16,7 @@ pub struct FieldAt<const SLOT: usize, P, V> {
 /// - `SLOT: last KIND = VALUE`, a [`TrailingField`](crate::TrailingField)
 /// - `(TAG, VALUE): union KIND = VALUE`, a union
 /// - `(TAGS, VALUES): unions KIND = VALUE`, a union vector
+/// - `group VALUE`, the lines of a [`FieldGroup`](crate::FieldGroup)
 #[macro_export]
 macro_rules! fields {
     (@at $slot:literal, $kind:ty, $value:expr) => {
@@ -68,6 +69,9 @@ macro_rules! fields {
                 _marker: std::marker::PhantomData,
             }
         )] $($($rest)*)?)
+    };
+    (@lines [$($lines:tt)*] group $value:expr $(, $($rest:tt)*)?) => {
+        $crate::fields!(@lines [$($lines)* ($crate::Group { value: $value })] $($($rest)*)?)
     };
     (@pairs []) => { () };
     (@pairs [] $only:tt) => { $only };

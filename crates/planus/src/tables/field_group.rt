@@ -11,11 +11,17 @@ use crate::tables::prepare_fields::PrepareFields;
 /// The ghost member `lines_of` has the lines of a value.
 pub trait FieldGroup {
     /// The lines, as [`fields`](crate::fields) makes them, without unions and lines marked `last`.
-    type Lines: PrepareFields + Drop;
+    type Lines: PrepareFields;
 
     ghost lines_of: { Self → Self.Lines };
 
-    /// Returns the lines of this value.
-    fn lines(&self) -> Self::Lines
-        ensures { result ≡ lines_of self.now };
+    /// Returns the lines.
+    fn lines(&self) -> &Self::Lines
+        ensures { result.now ≡ lines_of self.now };
 }
+
+/// Sixteen lines, nested as [`fields`](crate::fields) nests them.
+pub type Lines16<A, B, C, D, E, F, G, H, I, J, K, L, M, N, O, P> = (
+    (((A, B), (C, D)), ((E, F), (G, H))),
+    (((I, J), (K, L)), ((M, N), (O, P))),
+);

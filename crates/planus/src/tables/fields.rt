@@ -27,7 +27,7 @@ use planus_fields::{WriteAsOptional, WriteAsOptionalUnion, WriteAsOptionalUnionV
 use planus_write::{BuildError, Builder, List as ListOf, Offset, Primitive};
 use std::marker::PhantomData;
 
-/// The fields of a table: `()`, one line of [`fields`](crate::fields), or a pair of fields.
+/// The fields of a table: `()`, a line of [`fields`](crate::fields), a group, or a pair of fields.
 ///
 /// Lines are nested as pairs of pairs, so that the depth of the type is logarithmic. No pair has a
 /// constant parameter, which would double a caller's cost of proof per field.

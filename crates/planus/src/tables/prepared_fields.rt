@@ -12,7 +12,7 @@ ghost use Rattle.planus.specs.TableRules.{Among, has_slots, is_apart};
 use crate::tables::table_write::TableWrite;
 use planus_write::ObjectWriter;
 
-/// Prepared fields: `()`, or a [`FieldChain`](crate::FieldChain).
+/// Prepared fields, in a chain or a group.
 ///
 /// The ghost member `all` has the entries of all fields, `there` the present fields, and `reach` is
 /// the greatest distance in bytes from the end that they refer to.

@@ -1,4 +1,5 @@
 mod fleets;
 mod floats;
+mod groups;
 mod sites;
 mod streams;

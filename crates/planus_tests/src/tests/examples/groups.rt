@@ -1,0 +1,143 @@
+//! A table with a group of fields has the bytes of one whose fields are listed one by one.
+
+ghost use Rattle.std.specs.Prelude.{codes};
+
+use crate::tests::check;
+use crate::tests::writing::{holds, in_builder};
+use planus::{
+    BuildError, Builder, Caches, FieldAt, FieldGroup, Lines16, Offset, OrDefault, TableKind,
+    TableWriter, Text, create_table, fields,
+};
+use std::alloc::Global;
+
+struct Sounding;
+
+impl TableKind for Sounding {
+    type Writer = TableWriter<38>;
+
+    ghost name = { codes "[Sounding]" };
+
+    fn name() -> &'static str {
+        "[Sounding]"
+    }
+}
+
+type Depth<const SLOT: usize> = FieldAt<SLOT, u8, OrDefault<u8, u8>>;
+
+#[derive(Drop)]
+struct Depths {
+    lines: Lines16<
+        Depth<1>,
+        Depth<2>,
+        Depth<3>,
+        Depth<4>,
+        Depth<5>,
+        Depth<6>,
+        Depth<7>,
+        Depth<8>,
+        Depth<9>,
+        Depth<10>,
+        Depth<11>,
+        Depth<12>,
+        Depth<13>,
+        Depth<14>,
+        Depth<15>,
+        Depth<16>,
+    >,
+}
+
+impl FieldGroup for Depths {
+    type Lines = Lines16<
+        Depth<1>,
+        Depth<2>,
+        Depth<3>,
+        Depth<4>,
+        Depth<5>,
+        Depth<6>,
+        Depth<7>,
+        Depth<8>,
+        Depth<9>,
+        Depth<10>,
+        Depth<11>,
+        Depth<12>,
+        Depth<13>,
+        Depth<14>,
+        Depth<15>,
+        Depth<16>,
+    >;
+
+    ghost lines_of = { λ depths. depths.lines };
+
+    fn lines(&self) -> &Self::Lines {
+        &self.lines
+    }
+}
+
+fn in_group(builder: &mut Builder, x: u8) -> Result<Offset<Sounding>, BuildError> {
+    let depths = Depths {
+        lines: fields![
+            1: u8 = OrDefault { value: x, default: 7 },
+            2: u8 = OrDefault { value: 2, default: 7 },
+            3: u8 = OrDefault { value: x, default: 7 },
+            4: u8 = OrDefault { value: 4, default: 7 },
+            5: u8 = OrDefault { value: x, default: 7 },
+            6: u8 = OrDefault { value: 6, default: 7 },
+            7: u8 = OrDefault { value: x, default: 7 },
+            8: u8 = OrDefault { value: 8, default: 7 },
+            9: u8 = OrDefault { value: x, default: 7 },
+            10: u8 = OrDefault { value: 10, default: 7 },
+            11: u8 = OrDefault { value: x, default: 7 },
+            12: u8 = OrDefault { value: 12, default: 7 },
+            13: u8 = OrDefault { value: x, default: 7 },
+            14: u8 = OrDefault { value: 14, default: 7 },
+            15: u8 = OrDefault { value: x, default: 7 },
+            16: u8 = OrDefault { value: 16, default: 7 },
+        ],
+    };
+    create_table::<Sounding, _>(builder, fields![0: Offset<Text> = "Fastnet", group depths])
+}
+
+fn one_by_one(builder: &mut Builder, x: u8) -> Result<Offset<Sounding>, BuildError> {
+    let lines = fields![
+        0: Offset<Text> = "Fastnet",
+        1: u8 = OrDefault { value: x, default: 7 },
+        2: u8 = OrDefault { value: 2, default: 7 },
+        3: u8 = OrDefault { value: x, default: 7 },
+        4: u8 = OrDefault { value: 4, default: 7 },
+        5: u8 = OrDefault { value: x, default: 7 },
+        6: u8 = OrDefault { value: 6, default: 7 },
+        7: u8 = OrDefault { value: x, default: 7 },
+        8: u8 = OrDefault { value: 8, default: 7 },
+        9: u8 = OrDefault { value: x, default: 7 },
+        10: u8 = OrDefault { value: 10, default: 7 },
+        11: u8 = OrDefault { value: x, default: 7 },
+        12: u8 = OrDefault { value: 12, default: 7 },
+        13: u8 = OrDefault { value: x, default: 7 },
+        14: u8 = OrDefault { value: 14, default: 7 },
+        15: u8 = OrDefault { value: x, default: 7 },
+        16: u8 = OrDefault { value: 16, default: 7 },
+    ];
+    create_table::<Sounding, _>(builder, lines)
+}
+
+fn are_same(alloc: Global, builder: &mut Builder, x: u8) -> Result<bool, BuildError> {
+    builder.clear();
+    let root = one_by_one(builder, x)?;
+    let bytes = Vec::from_slice(alloc, builder.finish(root, None)?)?;
+    builder.clear();
+    let root = in_group(builder, x)?;
+    Ok(builder.finish(root, None)? == bytes.as_slice())
+}
+
+fn all_are_same(alloc: Global, builder: &mut Builder) -> bool {
+    holds(are_same(alloc, builder, 0))
+        && holds(are_same(alloc, builder, 7))
+        && holds(are_same(alloc, builder, 255))
+}
+
+#[test]
+fn groups_are_written_as_their_fields(rt: HostRuntime) {
+    let alloc = rt.alloc();
+    let same = in_builder(alloc, Caches::all(), |builder| all_are_same(alloc, builder));
+    check(&rt, same, "soundings");
+}
