@@ -97,7 +97,7 @@ pub use tables::FieldAt;
 pub use tables::FieldGroup;
 pub use tables::Fields;
 pub use tables::Group;
-pub use tables::Lines16;
+pub use tables::Lines8;
 pub use tables::OrDefault;
 pub use tables::PrepareFields;
 pub use tables::Required;

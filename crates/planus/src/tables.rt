@@ -32,7 +32,7 @@ mod variant;
 
 pub use create::create_table;
 pub use field_at::FieldAt;
-pub use field_group::{FieldGroup, Lines16};
+pub use field_group::{FieldGroup, Lines8};
 pub use fields::Fields;
 pub use group::Group;
 pub use or_default::OrDefault;

@@ -20,8 +20,5 @@ pub trait FieldGroup {
         ensures { result.now ≡ lines_of self.now };
 }
 
-/// Sixteen lines, nested as [`fields`](crate::fields) nests them.
-pub type Lines16<A, B, C, D, E, F, G, H, I, J, K, L, M, N, O, P> = (
-    (((A, B), (C, D)), ((E, F), (G, H))),
-    (((I, J), (K, L)), ((M, N), (O, P))),
-);
+/// Eight lines, nested as [`fields`](crate::fields) nests them.
+pub type Lines8<A, B, C, D, E, F, G, H> = (((A, B), (C, D)), ((E, F), (G, H)));

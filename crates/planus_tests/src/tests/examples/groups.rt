@@ -5,7 +5,7 @@ ghost use Rattle.std.specs.Prelude.{codes};
 use crate::tests::check;
 use crate::tests::writing::{holds, in_builder};
 use planus::{
-    BuildError, Builder, Caches, FieldAt, FieldGroup, Lines16, Offset, OrDefault, TableKind,
+    BuildError, Builder, Caches, FieldAt, FieldGroup, Lines8, Offset, OrDefault, TableKind,
     TableWriter, Text, create_table, fields,
 };
 use std::alloc::Global;
@@ -13,7 +13,7 @@ use std::alloc::Global;
 struct Sounding;
 
 impl TableKind for Sounding {
-    type Writer = TableWriter<38>;
+    type Writer = TableWriter<22>;
 
     ghost name = { codes "[Sounding]" };
 
@@ -26,28 +26,11 @@ type Depth<const SLOT: usize> = FieldAt<SLOT, u8, OrDefault<u8, u8>>;
 
 #[derive(Drop)]
 struct Depths {
-    lines: Lines16<
-        Depth<1>,
-        Depth<2>,
-        Depth<3>,
-        Depth<4>,
-        Depth<5>,
-        Depth<6>,
-        Depth<7>,
-        Depth<8>,
-        Depth<9>,
-        Depth<10>,
-        Depth<11>,
-        Depth<12>,
-        Depth<13>,
-        Depth<14>,
-        Depth<15>,
-        Depth<16>,
-    >,
+    lines: Lines8<Depth<1>, Depth<2>, Depth<3>, Depth<4>, Depth<5>, Depth<6>, Depth<7>, Depth<8>>,
 }
 
 impl FieldGroup for Depths {
-    type Lines = Lines16<
+    type Lines = Lines8<
         Depth<1>,
         Depth<2>,
         Depth<3>,
@@ -56,14 +39,6 @@ impl FieldGroup for Depths {
         Depth<6>,
         Depth<7>,
         Depth<8>,
-        Depth<9>,
-        Depth<10>,
-        Depth<11>,
-        Depth<12>,
-        Depth<13>,
-        Depth<14>,
-        Depth<15>,
-        Depth<16>,
     >;
 
     ghost lines_of = { λ depths. depths.lines };
@@ -84,14 +59,6 @@ fn in_group(builder: &mut Builder, x: u8) -> Result<Offset<Sounding>, BuildError
             6: u8 = OrDefault { value: 6, default: 7 },
             7: u8 = OrDefault { value: x, default: 7 },
             8: u8 = OrDefault { value: 8, default: 7 },
-            9: u8 = OrDefault { value: x, default: 7 },
-            10: u8 = OrDefault { value: 10, default: 7 },
-            11: u8 = OrDefault { value: x, default: 7 },
-            12: u8 = OrDefault { value: 12, default: 7 },
-            13: u8 = OrDefault { value: x, default: 7 },
-            14: u8 = OrDefault { value: 14, default: 7 },
-            15: u8 = OrDefault { value: x, default: 7 },
-            16: u8 = OrDefault { value: 16, default: 7 },
         ],
     };
     create_table::<Sounding, _>(builder, fields![0: Offset<Text> = "Fastnet", group depths])
@@ -108,14 +75,6 @@ fn one_by_one(builder: &mut Builder, x: u8) -> Result<Offset<Sounding>, BuildErr
         6: u8 = OrDefault { value: 6, default: 7 },
         7: u8 = OrDefault { value: x, default: 7 },
         8: u8 = OrDefault { value: 8, default: 7 },
-        9: u8 = OrDefault { value: x, default: 7 },
-        10: u8 = OrDefault { value: 10, default: 7 },
-        11: u8 = OrDefault { value: x, default: 7 },
-        12: u8 = OrDefault { value: 12, default: 7 },
-        13: u8 = OrDefault { value: x, default: 7 },
-        14: u8 = OrDefault { value: 14, default: 7 },
-        15: u8 = OrDefault { value: x, default: 7 },
-        16: u8 = OrDefault { value: 16, default: 7 },
     ];
     create_table::<Sounding, _>(builder, lines)
 }
