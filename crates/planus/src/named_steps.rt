@@ -3,7 +3,8 @@ ghost use Rattle.std.specs.Prelude.{◌≡◌, map};
 ghost use Rattle.std.specs.Option.{option_map};
 ghost use Rattle.planus.specs.Steps.{content_of};
 ghost use Rattle.planus.specs.Kinds.{a_value, a_union_vector};
-ghost use Rattle.planus.specs.inner.Names.{name_of, offset_named, vector_named, written_at, FindsNamed};
+ghost use Rattle.planus.specs.inner.Names.{name_of, offset_named, vector_named, written_at};
+ghost use Rattle.planus.specs.inner.Names.{FindsNamed};
 ghost use Rattle.planus.specs.inner.Prepared.{PreparesField, PreparesUnion};
 
 use crate::faults::Why;

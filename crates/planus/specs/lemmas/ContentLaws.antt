@@ -21,8 +21,8 @@ fields_stay before after (content ∷ contents) (field ∷ fields) extends are =
 fields_stay before after [] (field ∷ fields) extends are = are
 fields_stay before after (content ∷ contents) [] extends are = are
 
-pub contents_both : (past : Past) (contents tags : List (ℕ × Option Content)) (fields others : List (ℕ × Field))
-    → FieldsAre past (there_of contents) fields → FieldsAre past (there_of tags) others
+pub contents_both : (past : Past) (contents tags : List (ℕ × Option Content))
+    (fields others : List (ℕ × Field)) → FieldsAre past (there_of contents) fields → FieldsAre past (there_of tags) others
     → FieldsAre past (there_of (contents ++ tags)) (fields ++ others)
 contents_both past [] tags [] others first second = second
 contents_both past [] tags (field ∷ fields) others first second = elim first [ ]

@@ -1,5 +1,6 @@
 -- Laws for fields that are prepared by value.
-use Rattle.std.specs.Prelude.{◌≡◌, ℕ, ◌≤◌, max, List, [], ◌∷◌, ◌++◌, length, Option, Result, Ok, Err}
+use Rattle.std.specs.Prelude.{◌≡◌, ℕ, ◌≤◌, max, List, [], ◌∷◌, ◌++◌, length, Option, Result, Ok}
+use Rattle.std.specs.Prelude.{Err}
 use Rattle.std.specs.List.{AllByRecursion}
 use Rattle.std.proofs.Common.{subst, sym, arith, inl, inr}
 use Rattle.planus_read.specs.Values.{Field}
@@ -29,7 +30,8 @@ pub pair_stands : (fields others : List (ℕ × Field)) (reach others_reach befo
     → max reach others_reach ≤ before
     → AllByRecursion (λ entry. IsField before entry.1) (fields ++ others)
 pair_stands fields others reach others_reach before first second reached =
-    stand_both before fields others (first (omega (arith, reached))) (second (omega (arith, reached)))
+    stand_both before fields others (first (omega (arith, reached)))
+    (second (omega (arith, reached)))
 
 pub pair_among : (fields others : List (ℕ × Field)) (all others_all : List Declared)
     → Among (declared_of fields) all → Among (declared_of others) others_all

@@ -18,7 +18,8 @@ pub struct GroupChain<'a, B, G: FieldGroup> {
 impl<'a, B: PreparedFields, G: FieldGroup> PreparedFields for GroupChain<'a, B, G> {
     ghost all = { B.all ++ G.Lines.Prepared.all };
 
-    ghost there = { λ fields. B.there fields.before.now ++ G.Lines.Prepared.there fields.group.now };
+    ghost there = { λ fields.
+        B.there fields.before.now ++ G.Lines.Prepared.there fields.group.now };
 
     ghost reach = { λ fields.
         max (B.reach fields.before.now) (G.Lines.Prepared.reach fields.group.now) };

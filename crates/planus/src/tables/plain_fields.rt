@@ -79,8 +79,8 @@ pub fn plain_vector_required<'a, 'n, T: Stride + 'a>(
 
 /// Returns an item of a fixed layout, or `None` out of bounds.
 pub fn plain_item<T: PlainTotal>(vector: &Vector<'_, T>, index: usize) -> Option<T>
-    ensures item { GetsItem (λ v. count_of v) (λ v i x. (T.shape).There (view_of v).bytes (i * T.SIZE) x)
-        vector.now index result }
+    ensures item { GetsItem (λ v. count_of v)
+        (λ v i x. (T.shape).There (view_of v).bytes (i * T.SIZE) x) vector.now index result }
     ensures read_back { (B : List ℕ) (xs : List T) (x : T) → ArePlain B xs vector.now
         → slice_get xs index ≡ Some x → (T.shape).fits x → result ≡ Some x }
 {

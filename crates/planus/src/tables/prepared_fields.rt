@@ -32,9 +32,10 @@ pub trait PreparedFields {
         requires fits { (W.at writer.old).object_size + total_size all ≤ 65535 }
         ensures told { (fields : List (ℕ × Field)) → WasTold (W.at writer.old) (declared_of fields)
             → WasTold (W.at writer.new) (declared_of (fields ++ there self.now)) }
-        ensures others { (other : ℕ) → IsTrue (is_apart other all) → IsUnused (W.at writer.old) other
-            → IsUnused (W.at writer.new) other }
-        ensures size { (W.at writer.new).object_size ≤ (W.at writer.old).object_size + total_size all };
+        ensures others { (other : ℕ) → IsTrue (is_apart other all)
+            → IsUnused (W.at writer.old) other → IsUnused (W.at writer.new) other }
+        ensures size { (W.at writer.new).object_size
+            ≤ (W.at writer.old).object_size + total_size all };
 
     /// Writes the fields that are present. Requires room for their bytes, and that what they refer
     /// to is after these.
