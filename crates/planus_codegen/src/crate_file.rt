@@ -128,7 +128,7 @@ impl<'a> Files<'a> {
         match &declared.body {
             Body::Table(one) => {
                 let plan = Plan::of(context.alloc, context.declared, at.index, one)?;
-                let code = print_table(context, &plan, declared);
+                let code = print_table(context, &plan, declared)?;
                 self.put_code("//! Tables `$T`.\n", at, &code)
             }
             Body::Struct(one) => {

@@ -11,7 +11,7 @@ const ESCAPED: &str = "axiom infix infixl infixr mutual open unfold";
 /// Types that code has anyway, and a file of definitions.
 const KNOWN_TYPES: &str =
     "Bool BuildError Builder Built ByteList Clone Copy Create Debug Default Drop Err ErrorKind \
-     FieldLine Float Lib List None Numbered Offset Ok Option OrDefault PartialEq Plain PlainField \
+     FieldAt FieldLine Float Lib Lines8 List None Numbered Offset Ok Option OrDefault PartialEq Plain PlainField \
      PlainTotal Result Shape SliceWithStartOffset Some Stride String Table TableKind \
      TableReadUnion TableView TableWriter Text Type UnionOffset UnionVariant UnionVector Unit Vec \
      Vector VectorReadUnion";
@@ -43,7 +43,12 @@ pub(crate) fn is_known_module(name: &[u8]) -> bool {
     has_word(KNOWN_MODULES, name)
 }
 
-/// Whether code has such a type anyway. Those of fields and views end in `Fields` and `Ref`.
+/// Whether code has such a type anyway. Those of fields, groups and views end in `Fields`,
+/// `FieldGroup`, `FieldLines` and `Ref`.
 pub(crate) fn is_known_type(name: &[u8]) -> bool {
-    has_word(KNOWN_TYPES, name) || name.ends_with(b"Ref") || name.ends_with(b"Fields")
+    has_word(KNOWN_TYPES, name)
+        || name.ends_with(b"Ref")
+        || name.ends_with(b"Fields")
+        || name.ends_with(b"FieldGroup")
+        || name.ends_with(b"FieldLines")
 }

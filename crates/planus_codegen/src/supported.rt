@@ -1,12 +1,12 @@
 //! What the printed code of a schema can't have.
 
+use crate::groups::{are_taken, entries_of};
 use crate::refusal::Refusal;
-use crate::types::has_default;
-use planus_layout::{Base, Body, Declared, Enum, Scalar, Table, TableField, Value};
-use std::alloc::Global;
+use planus_layout::{Body, Declared, Enum, Scalar, Table, TableField, Value};
+use planus_plan::Plan;
+use std::alloc::{AllocError, Global};
 
-/// How much of a list of fields the checker takes, in the shares of its fields.
-const MOST: usize = 1000;
+const TOO_MANY_FIELDS: &str = "a table with more fields than the checker takes";
 
 /// The greatest number of a variant in code.
 const GREATEST_NUMBER: u64 = 9_223_372_036_854_775_807;
@@ -19,32 +19,28 @@ fn unsupported_field(field: &TableField) -> Option<&'static str> {
     }
 }
 
-/// The share of a field in `MOST`: the checker takes 38 numbers with a default, 47 without, 27
-/// strings, tables or unions, 22 vectors of numbers, 20 of strings, or 16 of tables or unions.
-fn share_of(field: &TableField) -> usize {
-    match (field.kind.base, field.kind.vector) {
-        _ if field.deprecated => 0,
-        _ if has_default(field) => 26,
-        (Base::Table(_) | Base::Union(_), true) => 62,
-        (Base::Text, true) => 50,
-        (_, true) => 45,
-        (Base::Text | Base::Table(_) | Base::Union(_), false) => 37,
-        (_, false) => 21,
-    }
-}
-
 fn unsupported_table(one: &Table) -> Option<&'static str> {
-    let mut shares = 0usize;
     for field in &one.fields {
         if let Some(what) = unsupported_field(field) {
             return Some(what);
         }
-        shares = shares.saturating_add(share_of(field));
-    }
-    if shares > MOST {
-        return Some("a table with more fields than the checker takes");
     }
     None
+}
+
+fn has_too_many_fields(
+    alloc: Global,
+    declared: &[Declared],
+    index: usize,
+    body: &Body,
+) -> Result<bool, AllocError> {
+    match body {
+        Body::Table(one) => {
+            let plan = Plan::of(alloc, declared, index, one)?;
+            Ok(!are_taken(&plan.order, &entries_of(alloc, &plan.order)?))
+        }
+        _ => Ok(false),
+    }
 }
 
 /// How many values of an enum the checker takes: fewer where their numbers are wide or signed.
@@ -83,11 +79,20 @@ fn unsupported(body: &Body) -> Option<&'static str> {
     }
 }
 
+fn refuse(alloc: Global, what: &'static str, one: &Declared) -> Refusal {
+    match Vec::from_slice(alloc, &one.name) {
+        Ok(name) => Refusal::Unsupported { what, name },
+        Err(error) => Refusal::from(error),
+    }
+}
+
 pub(crate) fn refuse_unsupported(alloc: Global, declared: &[Declared]) -> Result<(), Refusal> {
-    for one in declared {
+    for (index, one) in declared.iter().enumerate() {
         if let Some(what) = unsupported(&one.body) {
-            let name = Vec::from_slice(alloc, &one.name)?;
-            return Err(Refusal::Unsupported { what, name });
+            return Err(refuse(alloc, what, one));
+        }
+        if has_too_many_fields(alloc, declared, index, &one.body)? {
+            return Err(refuse(alloc, TOO_MANY_FIELDS, one));
         }
     }
     Ok(())

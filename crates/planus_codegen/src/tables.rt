@@ -3,10 +3,12 @@
 use crate::at::At;
 use crate::context::Context;
 use crate::defaults::{default_value, has_constant, is_zero};
+use crate::groups::{Entry, entries_of};
 use crate::printer::Printer;
 use crate::types::{has_default, is_optional, is_union};
 use planus_layout::{Base, Declared, TableField};
-use planus_plan::Plan;
+use planus_plan::{Line, Plan};
+use std::alloc::AllocError;
 
 const FIELDS: &str = "\
 /// The fields of `$T`, as [`$T::create`] takes them.
@@ -40,11 +42,16 @@ const CREATES_OWNED: &str = "impl Create<$TFields> for $T {\n";
 
 const CREATE_BORROWED: &str = "    \
     fn create(^builder: &mut Builder,^fields: $TFields<'a>^) -> Built<$T> {
-        let lines = fields![";
+";
 
 const CREATE_OWNED: &str = "    \
     fn create(^builder: &mut Builder,^fields: $TFields^) -> Built<$T> {
-        let lines = fields![";
+";
+
+const GROUP: &str = "        \
+        let group$p = $T$pFieldGroup {
+            lines: fields![
+";
 
 const KIND: &str = "\
 impl TableKind for $T {
@@ -209,7 +216,27 @@ impl<'a> Printer<'a> {
         self.put_str(if first { "" } else { " };\n\n" });
     }
 
-    fn put_create(&mut self, plan: &Plan<'_>) {
+    // A line, or the name of a group.
+    fn put_entry(&mut self, at: At, entry: Entry, lines: &[Line<'_>]) {
+        if entry.group > 0 {
+            self.put("            group group$p,\n", at.member(entry.group));
+            return;
+        }
+        for line in lines {
+            self.put(line_of(line.field), At::line(line));
+        }
+    }
+
+    fn put_group_value(&mut self, at: At, lines: &[Line<'_>]) {
+        self.put(GROUP, at);
+        for line in lines {
+            self.put_str("    ");
+            self.put(line_of(line.field), At::line(line));
+        }
+        self.put_str("            ],\n        };\n");
+    }
+
+    fn put_create(&mut self, plan: &Plan<'_>, entries: &[Entry]) {
         let at = At::declaration(plan.table);
         let (implementation, function) = if plan.borrows() {
             (CREATES_BORROWED, CREATE_BORROWED)
@@ -221,15 +248,17 @@ impl<'a> Printer<'a> {
         self.put_field_lines(plan);
         self.put_condition(plan);
         self.put(function, at);
-        self.put_str(if plan.order.is_empty() { "" } else { "\n" });
-        for line in &plan.order {
-            self.put(line_of(line.field), At::line(line));
+        for entry in entries {
+            if entry.group > 0 {
+                self.put_group_value(at.member(entry.group), entry.lines(&plan.order));
+            }
         }
-        self.put_str(if plan.order.is_empty() {
-            ""
-        } else {
-            "        "
-        });
+        self.put_str("        let lines = fields![");
+        self.put_str(if entries.is_empty() { "" } else { "\n" });
+        for entry in entries {
+            self.put_entry(at, *entry, entry.lines(&plan.order));
+        }
+        self.put_str(if entries.is_empty() { "" } else { "        " });
         self.put(
             "];\n        create_table::<$T, _>(builder, lines)\n    }\n}\n\n",
             at,
@@ -241,7 +270,8 @@ pub(crate) fn print_table<'a>(
     context: &'a Context<'a>,
     plan: &Plan<'_>,
     declared: &Declared,
-) -> Printer<'a> {
+) -> Result<Printer<'a>, AllocError> {
+    let entries = entries_of(context.alloc, &plan.order)?;
     let mut printer = Printer::new(context);
     let at = At::declaration(plan.table);
     let words = "/// The kind of `$T`, and of an offset to one.\n";
@@ -252,8 +282,13 @@ pub(crate) fn print_table<'a>(
     if plan.has_defaults() && !derives_default(plan) {
         printer.put_default_fields(plan);
     }
-    printer.put_create(plan);
+    for entry in &entries {
+        if entry.group > 0 {
+            printer.put_group(at.member(entry.group), entry.lines(&plan.order));
+        }
+    }
+    printer.put_create(plan, &entries);
     printer.put_view(plan);
     printer.put(KIND, at.member(plan.vtable_size));
-    printer
+    Ok(printer)
 }

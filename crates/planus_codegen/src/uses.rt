@@ -8,10 +8,10 @@ use planus_layout::Body;
 
 /// The names of `planus` that code may need.
 const NAMES: &str =
-    "BuildError Builder ByteList List Offset OrDefault Plain PlainField PlainTotal Result \
-     SliceWithStartOffset Stride TableKind TableReadUnion TableRef TableView TableWriter Text \
-     UnionOffset UnionVector Vector VectorReadUnion bytes_field bytes_required create_table \
-     fields plain_field plain_field_or plain_required plain_vector plain_vector_required \
+    "BuildError Builder ByteList FieldAt FieldGroup Lines8 List Offset OrDefault Plain PlainField \
+     PlainTotal Result SliceWithStartOffset Stride TableKind TableReadUnion TableRef TableView \
+     TableWriter Text UnionOffset UnionVector Vector VectorReadUnion bytes_field bytes_required \
+     create_table fields plain_field plain_field_or plain_required plain_vector plain_vector_required \
      put_fields read_fields read_root read_variant read_view table_field table_required \
      table_vector table_vector_required text_field text_required text_vector text_vector_required \
      union_field union_required union_vector union_vector_required";

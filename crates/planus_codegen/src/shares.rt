@@ -1,0 +1,33 @@
+//! How much the checker takes of a list of fields.
+
+use crate::types::has_default;
+use planus_layout::{Base, TableField};
+use planus_plan::Line;
+
+/// What it takes of a list, in the shares of its entries.
+pub(crate) const MOST: usize = 1000;
+
+/// The share of a group of fields: 24 are taken.
+pub(crate) const GROUP: usize = 41;
+
+/// The share of a field: 38 numbers with a default are taken, 47 without, 27 strings, tables or
+/// unions, 22 vectors of numbers, 20 of strings, or 16 of tables or unions.
+pub(crate) fn share_of(field: &TableField) -> usize {
+    match (field.kind.base, field.kind.vector) {
+        _ if has_default(field) => 26,
+        (Base::Table(_) | Base::Union(_), true) => 62,
+        (Base::Text, true) => 50,
+        (_, true) => 45,
+        (Base::Text | Base::Table(_) | Base::Union(_), false) => 37,
+        (_, false) => 21,
+    }
+}
+
+/// Whether these fields are more than it takes in one list.
+pub(crate) fn are_many(lines: &[Line<'_>]) -> bool {
+    let mut shares = 0usize;
+    for line in lines {
+        shares = shares.saturating_add(share_of(line.field));
+    }
+    shares > MOST
+}
