@@ -1,6 +1,6 @@
 //! A table with a group of fields has the bytes of one whose fields are listed one by one.
 
-ghost use Rattle.std.specs.Prelude.{codes};
+ghost use Rattle.std.specs.Prelude.{◌≤◌, codes, length, IfOk};
 
 use crate::tests::check;
 use crate::tests::writing::{holds, in_builder};
@@ -48,7 +48,9 @@ impl FieldGroup for Depths {
     }
 }
 
-fn in_group(builder: &mut Builder, x: u8) -> Result<Offset<Sounding>, BuildError> {
+fn in_group(builder: &mut Builder, x: u8) -> Result<Offset<Sounding>, BuildError>
+    ensures { IfOk result (λ offset. offset.distance ≤ length builder.new.bytes) }
+{
     let depths = Depths {
         lines: fields![
             1: u8 = OrDefault { value: x, default: 7 },
@@ -64,7 +66,9 @@ fn in_group(builder: &mut Builder, x: u8) -> Result<Offset<Sounding>, BuildError
     create_table::<Sounding, _>(builder, fields![0: Offset<Text> = "Fastnet", group depths])
 }
 
-fn one_by_one(builder: &mut Builder, x: u8) -> Result<Offset<Sounding>, BuildError> {
+fn one_by_one(builder: &mut Builder, x: u8) -> Result<Offset<Sounding>, BuildError>
+    ensures { IfOk result (λ offset. offset.distance ≤ length builder.new.bytes) }
+{
     let lines = fields![
         0: Offset<Text> = "Fastnet",
         1: u8 = OrDefault { value: x, default: 7 },
