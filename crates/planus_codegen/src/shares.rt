@@ -7,8 +7,8 @@ use planus_plan::Line;
 /// What it takes of a list, in the shares of its entries.
 pub(crate) const MOST: usize = 1000;
 
-/// The share of a group of fields: 24 are taken.
-pub(crate) const GROUP: usize = 41;
+/// The share of a group of fields: twelve are taken with four numbers beside them.
+pub(crate) const GROUP: usize = 74;
 
 /// The share of a field: 38 numbers with a default are taken, 47 without, 27 strings, tables or
 /// unions, 22 vectors of numbers, 20 of strings, or 16 of tables or unions.
