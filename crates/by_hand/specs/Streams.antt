@@ -2,11 +2,11 @@
 use Rattle.std.specs.Prelude.{◌≡◌, ℕ, ◌<◌, List, [], ◌∷◌, ◌++◌, length, map, Option, Some, None}
 use Rattle.planus.specs.read.declared.errors.ErrorKind.{ErrorKind}
 use Rattle.planus.specs.read.Clauses.{FirstBroken}
-use Rattle.planus.specs.read.Pieces.{slice_bytes}
+use Rattle.planus.specs.read.Slices.{slice_bytes}
 use Rattle.planus.specs.read.SizePrefixed.{PrefixedThere, IsPrefixed, prefixed_clauses}
 use Rattle.planus.specs.write.declared.offset.Text.{Text}
-use Rattle.planus.specs.write.Past.{no_past}
-use Rattle.planus.specs.write.State.{State, IsPast}
+use Rattle.planus.specs.write.History.{no_history}
+use Rattle.planus.specs.write.State.{State, IsHistoryOf}
 use Rattle.planus.specs.write.Preparing.{WritesText}
 use Rattle.planus.specs.write.Finishing.{SizedFinishGives}
 use Rattle.by_hand.specs.declared.stream.Records.{Records}
@@ -14,7 +14,7 @@ use Rattle.by_hand.specs.declared.stream.Records.{Records}
 -- This string was appended as a size-prefixed finish.
 pub record IsAppended (text old new : List ℕ) : Type 0 where
   pub builder : State
-  pub past : IsPast builder no_past
+  pub history : IsHistoryOf builder no_history
   pub buffer : List ℕ
   pub given : SizedFinishGives {T = Text} (WritesText text) None builder buffer
   pub size : IsPrefixed buffer
@@ -34,5 +34,5 @@ EndsFor (Some error) rest = (0 < length rest) × FirstBroken (prefixed_clauses r
 -- All buffers are read, up to the first that fails.
 pub record ReadsAll (stream : List ℕ) (records : Records) : Type 0 where
   pub rest : List ℕ
-  pub begins : BeginsWith stream (map slice_bytes records.pieces.items) rest
+  pub begins : BeginsWith stream (map slice_bytes records.slices.items) rest
   pub ends : EndsFor records.fault rest

@@ -12,7 +12,7 @@ pub fn home_read_back(
 ) -> std::result::Result<Result<Pos>, BuildError>
     ensures { IfOk result (λ read. IsOkAnd read (λ home. home ≡ site.entry.home)) }
 {
-    builder.has_a_past();
+    builder.has_a_history();
     let offset = Site::create(builder, site)?;
     let bytes = builder.finish(offset, None)?;
     let root: Result<SiteRef<'_>> = read_root(bytes);

@@ -11,7 +11,7 @@ use std::alloc::{AllocError, Global};
 #[derive(Drop)]
 pub struct Records<'a> {
     /// The buffers without their sizes.
-    pub pieces: Vec<SliceWithStartOffset<'a>>,
+    pub slices: Vec<SliceWithStartOffset<'a>>,
     /// The error of what follows, if any.
     pub fault: Option<ErrorKind>,
 }
@@ -30,17 +30,17 @@ pub fn append(stream: &mut Vec<u8>, builder: &mut Builder, text: &str) -> Result
 pub fn read_all<'a>(alloc: Global, stream: &'a [u8]) -> Result<Records<'a>, AllocError>
     ensures { IfOk result (ReadsAll stream.now) }
 {
-    let mut pieces = Vec::new(alloc);
+    let mut slices = Vec::new(alloc);
     let mut rest = stream;
     let mut fault = None;
     while fault.is_none() && !rest.is_empty() {
         match read_size_prefixed(rest) {
-            Ok((piece, behind)) => {
-                pieces.push(piece)?;
+            Ok((slice, behind)) => {
+                slices.push(slice)?;
                 rest = behind;
             }
             Err(error) => fault = Some(error),
         }
     }
-    Ok(Records { pieces, fault })
+    Ok(Records { slices, fault })
 }

@@ -12,7 +12,7 @@ use Rattle.planus_read.specs.Reading.{Leads}
 use Rattle.planus_read.specs.Stands.{at, FieldStands}
 use Rattle.planus_read.specs.Tables.{Reads, FieldAnswer, table_start}
 use Rattle.planus_read.specs.Values.{Value, Field, text, table as fields_table}
-use Rattle.planus_read.proofs.PieceLaws.{references_lead}
+use Rattle.planus_read.proofs.SliceLaws.{references_lead}
 use Rattle.planus_read.proofs.ReadsBack.{what_stands_reads_back}
 use Rattle.planus_write.specs.Contents.{Content, values, written}
 use Rattle.planus_write.specs.declared.offset.Offset.{Offset}

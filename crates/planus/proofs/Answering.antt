@@ -13,9 +13,9 @@ use Rattle.planus_back.specs.Parts.{Part, Written, Placed, IsTooLarge}
 use Rattle.planus_back.proofs.PaddingLaws.{exists}
 use Rattle.planus_read.specs.Values as value
 use Rattle.planus_read.specs.Values.{Value}
-use Rattle.planus_write.specs.Shared.{Contents, Switches, shared_as, and_seen}
-use Rattle.planus_write.specs.Past.{Past, Entry, PutsAfter, PutsAll, part_after, found_before}
-use Rattle.planus_write.specs.Past.{ComesToTooLarge as ComesToTooLargeEntry}
+use Rattle.planus_write.specs.Shared.{Contents, CacheSettings, shared_as, and_cached}
+use Rattle.planus_write.specs.History.{History, Entry, PutsAfter, PutsAll, part_after, found_before}
+use Rattle.planus_write.specs.History.{ComesToTooLarge as ComesToTooLargeEntry}
 use Rattle.planus_write.specs.Parts.{Named, entries_of}
 use Rattle.planus_write.specs.lemmas.PartBytes.{finish_size, sized_finish_size}
 use Rattle.planus.specs.Steps.{Step, text, bytes, numbers, refs, unions, table, finish, clear}
@@ -37,10 +37,10 @@ use Rattle.planus.proofs.Placed.{IsPlacedInTurn, AreFit, put_in_turn, values_are
 use Rattle.planus.proofs.TableFields.{fields_are}
 use Rattle.planus.proofs.Walking.{still_clean, too_large, bad_step}
 
-placed_or_not : (part : Part) (past : Past) → IsPlacedInTurn past → IsPowerOfTwo part.alignment
-    → IsTooLarge part past.written ⊎ ((after : Written) × Placed part past.written after)
-placed_or_not part past h power =
-    let before : Written = past.written in
+placed_or_not : (part : Part) (history : History) → IsPlacedInTurn history → IsPowerOfTwo part.alignment
+    → IsTooLarge part history.written ⊎ ((after : Written) × Placed part history.written after)
+placed_or_not part history h power =
+    let before : Written = history.written in
     let found = exists (length before.bytes) h.described.0.delayed h.described.0.mask before.promises part.size part.alignment h.described.1 power in
     let place : ℕ = length before.bytes + found.0 + part.size in
     elim (cases_lt greatest_place place) as (λ _. IsTooLarge part before ⊎ ((after : Written) × Placed part before after)) [
@@ -51,37 +51,37 @@ placed_or_not part past h power =
       )
     ]
 
-abbrev IsPutOrNot : Option ℕ → Part → Option Contents → Past → Type 0
-IsPutOrNot earlier part shared past =
-    ((earlier ≡ None) × IsTooLarge part past.written) ⊎ ((distance : ℕ) × (after : Past) × PutsAfter earlier part shared past distance after)
+abbrev IsPutOrNot : Option ℕ → Part → Option Contents → History → Type 0
+IsPutOrNot earlier part shared history =
+    ((earlier ≡ None) × IsTooLarge part history.written) ⊎ ((distance : ℕ) × (after : History) × PutsAfter earlier part shared history distance after)
 
-put_or_not : (earlier : Option ℕ) (part : Part) (shared : Option Contents) (past : Past) → IsPlacedInTurn past → IsPowerOfTwo part.alignment → IsPutOrNot earlier part shared past
-put_or_not (Some earlier) part shared past h power = inr (earlier, past, (refl, refl))
-put_or_not None part shared past h power =
-    elim (placed_or_not part past h power) as (λ _. IsPutOrNot None part shared past) [
+put_or_not : (earlier : Option ℕ) (part : Part) (shared : Option Contents) (history : History) → IsPlacedInTurn history → IsPowerOfTwo part.alignment → IsPutOrNot earlier part shared history
+put_or_not (Some earlier) part shared history h power = inr (earlier, history, (refl, refl))
+put_or_not None part shared history h power =
+    elim (placed_or_not part history h power) as (λ _. IsPutOrNot None part shared history) [
       | inl far ↦ inl (refl, far)
       | inr placed ↦
           let place : ℕ = placed.1.place in
           inr (
             place,
-            record { written = placed.0; seen = and_seen shared place past.seen; parts = past.parts ++ part ∷ []; places = past.places ++ place ∷ [] },
-            record { placed = placed.1; at = refl; seen = refl; parts = refl; places = refl },
+            record { written = placed.0; cached = and_cached shared place history.cached; parts = history.parts ++ part ∷ []; places = history.places ++ place ∷ [] },
+            record { placed = placed.1; at = refl; cached = refl; parts = refl; places = refl },
           )
     ]
 
-all_or_not : (switches : Switches) (entries : List Entry) (got : List ℕ) (past : Past) → AreFit entries → IsPlacedInTurn past
-    → ComesToTooLargeEntry switches entries got past ⊎ ((all : List ℕ) × (after : Past) × PutsAll switches entries got past all after)
-all_or_not switches [] got past fit h = inr (got, past, (refl, refl))
-all_or_not switches (entry ∷ entries) got past fit h =
-    let here = fit.0 got past h in
-    elim (put_or_not (found_before switches entry past) (part_after entry got past) (shared_as switches entry.contents) past h here.power) as
-    (λ _. ComesToTooLargeEntry switches (entry ∷ entries) got past ⊎ ((all : List ℕ) × (after : Past) × PutsAll switches (entry ∷ entries) got past all after)) [
+all_or_not : (settings : CacheSettings) (entries : List Entry) (got : List ℕ) (history : History) → AreFit entries → IsPlacedInTurn history
+    → ComesToTooLargeEntry settings entries got history ⊎ ((all : List ℕ) × (after : History) × PutsAll settings entries got history all after)
+all_or_not settings [] got history fit h = inr (got, history, (refl, refl))
+all_or_not settings (entry ∷ entries) got history fit h =
+    let here = fit.0 got history h in
+    elim (put_or_not (found_before settings entry history) (part_after entry got history) (shared_as settings entry.contents) history h here.power) as
+    (λ _. ComesToTooLargeEntry settings (entry ∷ entries) got history ⊎ ((all : List ℕ) × (after : History) × PutsAll settings (entry ∷ entries) got history all after)) [
       | inl far ↦ inl (inl (record { is_new = far.0; too_large = far.1 }))
       | inr put ↦
           let between : IsPlacedInTurn put.1
-          = put_in_turn (found_before switches entry past) (part_after entry got past) (shared_as switches entry.contents) past put.0 put.1 put.2 here.sized here.power h in
-          elim (all_or_not switches entries (got ++ put.0 ∷ []) put.1 fit.1 between) as
-          (λ _. ComesToTooLargeEntry switches (entry ∷ entries) got past ⊎ ((all : List ℕ) × (after : Past) × PutsAll switches (entry ∷ entries) got past all after)) [
+          = put_in_turn (found_before settings entry history) (part_after entry got history) (shared_as settings entry.contents) history put.0 put.1 put.2 here.sized here.power h in
+          elim (all_or_not settings entries (got ++ put.0 ∷ []) put.1 fit.1 between) as
+          (λ _. ComesToTooLargeEntry settings (entry ∷ entries) got history ⊎ ((all : List ℕ) × (after : History) × PutsAll settings (entry ∷ entries) got history all after)) [
             | inl far ↦ inl (inr (put.0, put.1, put.2, far))
             | inr all ↦ inr (all.0, all.1, (put.0, put.1, put.2, all.2))
           ]
@@ -114,9 +114,9 @@ all_are is_there fault made (x ∷ xs) e =
     let rest = all_are is_there fault made xs both.1 in
     (here.0 ∷ rest.0, rw (here.1, rest.1) refl)
 
-module _ (switches : Switches) (cs : List Step) (state : State) (run : LeadsTo switches nothing_written cs state) where
-  kept : Kept switches cs cs state
-  kept = run_kept switches cs state run
+module _ (settings : CacheSettings) (cs : List Step) (state : State) (run : LeadsTo settings nothing_written cs state) where
+  kept : Kept settings cs cs state
+  kept = run_kept settings cs state run
 
   abbrev fault_here : Kind → ℕ → Option Why
   fault_here kind number = fault_of kind (named_step cs number)
@@ -144,7 +144,7 @@ module _ (switches : Switches) (cs : List Step) (state : State) (run : LeadsTo s
   PutsFit step = (entries : List Entry) × (entries_put state.listed step ≡ Some entries) × AreFit entries
 
   fit : (step : Step) (v : Value) → value_of state.listed step ≡ Some v → AreFit (entries_of v)
-  fit step v is = values_are_fit (length state.past.written.bytes) v (values_are_written switches cs cs step state kept v is).0
+  fit step v is = values_are_fit (length state.history.written.bytes) v (values_are_written settings cs cs step state kept v is).0
 
   puts : (step : Step) → is_clear step ≡ false → broken_check cs step ≡ None → PutsFit step
   puts (text content) kind e = (entries_of (value.text content), refl, fit (text content) (value.text content) refl)
@@ -168,22 +168,22 @@ module _ (switches : Switches) (cs : List Step) (state : State) (run : LeadsTo s
       let made = value_there root e in (
         finish_of root_first identifier made.0,
         ap (option_map (finish_of root_first identifier)) made.1,
-        ((λ got past h. record { sized = λ place. finish_size made.0 identifier past.written place; power = greatest_power 4 past.written.promises (2, refl) h.powers }), tt),
+        ((λ got history h. record { sized = λ place. finish_size made.0 identifier history.written place; power = greatest_power 4 history.written.promises (2, refl) h.powers }), tt),
       )
   puts (finish size_first root identifier) kind e =
       let made = value_there root e in (
         finish_of size_first identifier made.0,
         ap (option_map (finish_of size_first identifier)) made.1,
-        ((λ got past h. record { sized = λ place. sized_finish_size made.0 identifier past.written place; power = greatest_power 4 past.written.promises (2, refl) h.powers }), tt),
+        ((λ got history h. record { sized = λ place. sized_finish_size made.0 identifier history.written place; power = greatest_power 4 history.written.promises (2, refl) h.powers }), tt),
       )
   puts clear kind e = (cc)
 
-  written_or_not : (step : Step) → PutsFit step → StepTooLarge switches state step ⊎ ((after : State) × Writes switches state step after)
-  written_or_not step put = elim (all_or_not switches put.0 [] state.past put.2 kept.placed) as (λ _. StepTooLarge switches state step ⊎ ((after : State) × Writes switches state step after)) [
+  written_or_not : (step : Step) → PutsFit step → StepTooLarge settings state step ⊎ ((after : State) × Writes settings state step after)
+  written_or_not step put = elim (all_or_not settings put.0 [] state.history put.2 kept.placed) as (λ _. StepTooLarge settings state step ⊎ ((after : State) × Writes settings state step after)) [
     | inl far ↦ inl (record { entries = put.0; are = put.1; too_large = far })
     | inr all ↦ inr (
       record {
-        past = all.1;
+        history = all.1;
         listed = state.listed ++ values_added (value_of state.listed step) state.next all.0;
         next = state.next + 1;
         finished = state.finished ++ finishes_added step state all.1;
@@ -192,7 +192,7 @@ module _ (switches : Switches) (cs : List Step) (state : State) (run : LeadsTo s
     )
   ]
 
-  pub on_or_too_large : (step : Step) → broken_check cs step ≡ None → StepTooLarge switches state step ⊎ ((after : State) × Advances switches state step after)
+  pub on_or_too_large : (step : Step) → broken_check cs step ≡ None → StepTooLarge settings state step ⊎ ((after : State) × Advances settings state step after)
   on_or_too_large (text content) e = written_or_not (text content) (puts (text content) refl e)
   on_or_too_large (bytes content) e = written_or_not (bytes content) (puts (bytes content) refl e)
   on_or_too_large (numbers width items) e = written_or_not (numbers width items) (puts (numbers width items) refl e)
@@ -202,21 +202,21 @@ module _ (switches : Switches) (cs : List Step) (state : State) (run : LeadsTo s
   on_or_too_large (finish front root identifier) e = written_or_not (finish front root identifier) (puts (finish front root identifier) refl e)
   on_or_too_large clear e = inr (cleared state, refl)
 
-module _ (switches : Switches) (all : List Step) where
-  answer_from : (cs rest : List Step) → all ≡ cs ++ rest → (state : State) → LeadsTo switches nothing_written cs state → first_bad cs ≡ None → IsAnswered switches all
+module _ (settings : CacheSettings) (all : List Step) where
+  answer_from : (cs rest : List Step) → all ≡ cs ++ rest → (state : State) → LeadsTo settings nothing_written cs state → first_bad cs ≡ None → IsAnswered settings all
   answer_from cs [] whole state run clean =
       let same : all ≡ cs = whole ∙ append-nil cs in
-      (Ok state.finished, (ap first_bad same ∙ clean, (state, subst (λ steps. LeadsTo switches nothing_written steps state) (sym same) run, refl)), λ wants. wants)
+      (Ok state.finished, (ap first_bad same ∙ clean, (state, subst (λ steps. LeadsTo settings nothing_written steps state) (sym same) run, refl)), λ wants. wants)
   answer_from cs (step ∷ rest) whole state run clean = by_check (broken_check cs step) refl
       (λ after on. answer_from (cs ++ step ∷ []) rest (whole ∙ sym (append_assoc cs (step ∷ []) rest)) after
-      (leads_on switches nothing_written state after cs step run on) (still_clean switches all cs step rest whole state run clean after on))
+      (leads_on settings nothing_written state after cs step run on) (still_clean settings all cs step rest whole state run clean after on))
     where
-      by_check : (check : Option Why) → broken_check cs step ≡ check → ((after : State) → Advances switches state step after → IsAnswered switches all) → IsAnswered switches all
-      by_check (Some why) is further = (Err (BadStep (length cs) why), bad_step switches all cs step rest whole state run clean (length cs) why refl is, λ wants. wants)
-      by_check None is further = elim (on_or_too_large switches cs state run step is) as (λ _. IsAnswered switches all) [
-        | inl far ↦ (Err TooLarge, too_large switches all cs step rest whole state run clean far, λ wants. wants)
+      by_check : (check : Option Why) → broken_check cs step ≡ check → ((after : State) → Advances settings state step after → IsAnswered settings all) → IsAnswered settings all
+      by_check (Some why) is further = (Err (BadStep (length cs) why), bad_step settings all cs step rest whole state run clean (length cs) why refl is, λ wants. wants)
+      by_check None is further = elim (on_or_too_large settings cs state run step is) as (λ _. IsAnswered settings all) [
+        | inl far ↦ (Err TooLarge, too_large settings all cs step rest whole state run clean far, λ wants. wants)
         | inr on ↦ further on.0 on.1
       ]
 
 pub an_answer_is_there : AnAnswerIsThere
-an_answer_is_there switches steps = answer_from switches steps [] steps refl nothing_written refl refl
+an_answer_is_there settings steps = answer_from settings steps [] steps refl nothing_written refl refl

@@ -5,10 +5,10 @@ use Rattle.std.specs.Option.{option_map}
 use Rattle.std.proofs.lemmas.List.{append-nil}
 use Rattle.planus_read.specs.Values.{Field}
 use Rattle.planus_write.specs.lemmas.Laws.{extends_on}
-use Rattle.planus_write.specs.Past.{Past}
+use Rattle.planus_write.specs.History.{History}
 use Rattle.planus_write.specs.Placing.{Outcome, then_does}
 use Rattle.planus_write.specs.Preparing.{Answers}
-use Rattle.planus_write.specs.State.{State, IsPast}
+use Rattle.planus_write.specs.State.{State, IsHistoryOf}
 use Rattle.planus_write.specs.declared.errors.BuildError.{BuildError}
 use Rattle.planus_write.specs.declared.offset.Offset.{Offset}
 use Rattle.planus_write.specs.lemmas.Staying.{kept_stays}
@@ -70,20 +70,20 @@ made_of {A} {B} slot of field field_of is from made same =
 pub more_kept : (there last fields lasts there_after last_after : List (ℕ × Field))
     (contents last_contents rest rest_last : List (ℕ × Option Content)) (old between new : State)
     (distance : ℕ) → there_after ≡ there ++ fields → last_after ≡ last ++ lasts
-    → ((past : Past) → IsPast old past
-    → Comes past between (λ after. FieldsAre after (there_of contents) fields × FieldsAre after (there_of last_contents) lasts))
+    → ((history : History) → IsHistoryOf old history
+    → Comes history between (λ after. FieldsAre after (there_of contents) fields × FieldsAre after (there_of last_contents) lasts))
     → WritesRest there_after last_after rest rest_last between distance new
     → WritesRest there last (contents ++ rest) (last_contents ++ rest_last) old distance new
 more_kept there last fields lasts there_after last_after contents last_contents rest rest_last old between
     new distance same same_last near far =
-    λ past before last_before is_past are last_are.
-    let mid = near past is_past in
+    λ history before last_before is_history are last_are.
+    let mid = near history is_history in
     let all = subst (λ fields. FieldsAre mid.0 (there_of (before ++ contents)) fields) (sym same)
     (contents_both mid.0 before contents there fields
-    (fields_stay past mid.0 (there_of before) there mid.2 are) mid.3.0) in
+    (fields_stay history mid.0 (there_of before) there mid.2 are) mid.3.0) in
     let all_last = subst (λ fields. FieldsAre mid.0 (there_of (last_before ++ last_contents)) fields) (sym same_last)
     (contents_both mid.0 last_before last_contents last lasts
-    (fields_stay past mid.0 (there_of last_before) last mid.2 last_are) mid.3.1) in
+    (fields_stay history mid.0 (there_of last_before) last mid.2 last_are) mid.3.1) in
     let written = far mid.0 (before ++ contents) (last_before ++ last_contents) mid.1 all all_last in
     let order : ((before ++ contents) ++ rest) ++ ((last_before ++ last_contents) ++ rest_last)
     ≡ (before ++ (contents ++ rest)) ++ (last_before ++ (last_contents ++ rest_last))
@@ -91,9 +91,9 @@ more_kept there last fields lasts there_after last_after contents last_contents 
     ∙ ap (λ all. (before ++ (contents ++ rest)) ++ all) (append_assoc last_before last_contents rest_last) in (
       written.0,
       written.1,
-      extends_on past mid.0 written.0 mid.2 written.2,
+      extends_on history mid.0 written.0 mid.2 written.2,
       (
-        (λ one named kept. written.3.0 one named (kept_stays past mid.0 one named mid.2 kept)),
+        (λ one named kept. written.3.0 one named (kept_stays history mid.0 one named mid.2 kept)),
         subst (λ all. TableIsKept written.0 all distance) order written.3.1,
       ),
     )

@@ -4,10 +4,10 @@ use Rattle.std.proofs.Common.{Option, Some, Bool, true, false}
 use Rattle.std.specs.Prelude.{if◌then◌else◌}
 use Rattle.std.specs.List.{AllByRecursion}
 use Rattle.planus_read.specs.Values.{Value}
-use Rattle.planus_write.specs.Shared.{Switches}
+use Rattle.planus_write.specs.Shared.{CacheSettings}
 use Rattle.planus.specs.Steps.{Step, Front, text, bytes, numbers as numbers_step, refs, unions, table, finish, clear}
 use Rattle.planus.specs.Runs.{Finish, Listed, value_of}
-use Rattle.planus.specs.Headline.{FinishHolds, is_finish, finishes_from, IsFinishOf, AreFinishesOf}
+use Rattle.planus.specs.FinishHolds.{FinishHolds, is_finish, finishes_from, IsFinishOf, AreFinishesOf}
 
 pub is_no_finish : (listed : List Listed) (step : Step) (v : Value) → value_of listed step ≡ Some v → is_finish step ≡ false
 is_no_finish listed (text content) v e = refl
@@ -37,15 +37,15 @@ one_more n (first ∷ done) front root identifier =
     by_test true = ap (λ m. n ∷ (finishes_from (n + 1) done ++ m ∷ [])) count
     by_test false = ap (λ m. finishes_from (n + 1) done ++ m ∷ []) count
 
-module _ (switches : Switches) (steps : List Step) where
-  pub are_push : (numbers : List ℕ) (finished : List Finish) (number : ℕ) (given : Finish) → AreFinishesOf switches steps numbers finished → IsFinishOf switches steps number given
-      → AreFinishesOf switches steps (numbers ++ number ∷ []) (finished ++ given ∷ [])
+module _ (settings : CacheSettings) (steps : List Step) where
+  pub are_push : (numbers : List ℕ) (finished : List Finish) (number : ℕ) (given : Finish) → AreFinishesOf settings steps numbers finished → IsFinishOf settings steps number given
+      → AreFinishesOf settings steps (numbers ++ number ∷ []) (finished ++ given ∷ [])
   are_push [] [] number given h is = (is, tt)
   are_push (first ∷ numbers) (one ∷ finished) number given h is = (h.0, are_push numbers finished number given h.1 is)
   are_push [] (one ∷ finished) number given h is = absurd h
   are_push (first ∷ numbers) [] number given h is = absurd h
 
-  pub each_holds : (numbers : List ℕ) (finished : List Finish) → AreFinishesOf switches steps numbers finished → AllByRecursion (FinishHolds switches steps) finished
+  pub each_holds : (numbers : List ℕ) (finished : List Finish) → AreFinishesOf settings steps numbers finished → AllByRecursion (FinishHolds settings steps) finished
   each_holds [] [] h = tt
   each_holds (first ∷ numbers) (one ∷ finished) h = (h.0.holds, each_holds numbers finished h.1)
   each_holds [] (one ∷ finished) h = absurd h

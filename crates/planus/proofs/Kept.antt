@@ -21,19 +21,19 @@ use Rattle.planus_read.specs.Moves.{moved}
 use Rattle.planus_read.specs.Aligned.{AlignedAt}
 use Rattle.planus_read.specs.ReadsBack.{WellFormed}
 use Rattle.planus_read.proofs.Reading.{num_inside}
-use Rattle.planus_read.proofs.PieceLaws.{bytes_in_piece, fields_stand_in_pieces}
+use Rattle.planus_read.proofs.SliceLaws.{bytes_in_slice, fields_stand_in_slices}
 use Rattle.planus_read.proofs.ReadsBack.{fields_read_back, what_stands_reads_back}
-use Rattle.planus_write.specs.Shared.{Switches}
-use Rattle.planus_write.specs.Past.{Past, Adds, PutsAll}
+use Rattle.planus_write.specs.Shared.{CacheSettings}
+use Rattle.planus_write.specs.History.{History, Adds, PutsAll}
 use Rattle.planus_write.specs.State.{Extends}
 use Rattle.planus_write.specs.Parts.{finish_part, sized_finish_part, front_part, root_words}
 use Rattle.planus_write.specs.Parts.{sized_words, identifier_bytes, entries_of, IsWritten}
 use Rattle.planus_write.specs.Parts.{named_by, Named, position_in}
-use Rattle.planus_write.specs.Kept.{IsKept, AllSeenKept}
+use Rattle.planus_write.specs.Kept.{IsKept, AllCachedKept}
 use Rattle.planus_write.specs.lemmas.Laws.{added_extends}
 use Rattle.planus_write.specs.Standing.{SizedFinishStands}
 use Rattle.planus_write.specs.lemmas.PartBytes.{length_after, finish_size, sized_finish_size}
-use Rattle.planus_write.specs.lemmas.Staying.{kept_stays, seen_stays}
+use Rattle.planus_write.specs.lemmas.Staying.{kept_stays, cached_stays}
 use Rattle.planus_write.specs.lemmas.StandingLaws.{values_are_kept, finishes_lead}
 use Rattle.planus_write.specs.lemmas.StandingLaws.{finishes_are_identified, sized_finishes_stand}
 use Rattle.planus.specs.Steps.{Step, text, bytes, numbers, refs, unions, table, finish, clear}
@@ -45,8 +45,8 @@ use Rattle.planus.specs.Runs.{named_at, value_of, finish_of, Writes, values_adde
 use Rattle.planus.specs.Runs.{value_distance, value_at, union_of, all_of, width_of, fields_of}
 use Rattle.planus.specs.Slots.{greatest_field}
 use Rattle.planus.specs.Replays.{is_clear, named_step}
-use Rattle.planus.specs.Headline.{ValueHolds, IsFewest, FinishHolds, ValueInPiece, root_at}
-use Rattle.planus.specs.Headline.{HoldsBySize, IsFinishOf, AreFinishesOf, finishes_of}
+use Rattle.planus.specs.FinishHolds.{ValueHolds, IsFewest, FinishHolds, ValueInSlice, root_at}
+use Rattle.planus.specs.FinishHolds.{HoldsBySize, IsFinishOf, AreFinishesOf, finishes_of}
 use Rattle.planus.proofs.FinishNumbers.{is_no_finish, as_many, one_more, are_push}
 use Rattle.planus.proofs.Turns.{InTurn, fewest}
 use Rattle.planus.proofs.NamedKinds.{kind_written}
@@ -68,7 +68,7 @@ abbrev TextIsUtf8 : Step → Type 0
 TextIsUtf8 step = (content : List ℕ) → step ≡ text content → IsUtf8 content
 
 -- No clear is after the step of a stored value.
-pub record ValueKept (all done : List Step) (past : Past) (listed : List Listed) (one : Listed) : Type 0 where
+pub record ValueKept (all done : List Step) (history : History) (listed : List Listed) (one : Listed) : Type 0 where
   pub step : Step
   pub value : Value
   pub there : slice_get all one.step ≡ Some step
@@ -76,28 +76,28 @@ pub record ValueKept (all done : List Step) (past : Past) (listed : List Listed)
   pub is_value : value_of listed step ≡ Some value
   pub kind : kind_of step ≡ Some (kind_named one.named)
   pub well_formed : AllUtf8 all → WellFormed value
-  pub kept : IsKept past value one.named
+  pub kept : IsKept history value one.named
 
-pub value_reaches : (all done : List Step) (past : Past) (listed : List Listed) (one : Listed) → ValueKept all done past listed one → IsReached (length past.written.bytes) one.named
-value_reaches all done past listed one h = record { distance = h.kept.reached; tags = h.kept.tags_reached }
+pub value_reaches : (all done : List Step) (history : History) (listed : List Listed) (one : Listed) → ValueKept all done history listed one → IsReached (length history.written.bytes) one.named
+value_reaches all done history listed one h = record { distance = h.kept.reached; tags = h.kept.tags_reached }
 
 abbrev pub ListsAll : List Step → List Listed → Type 0
 ListsAll done listed = (n : ℕ) (step : Step) (kind : Kind) → named_step done n ≡ Some step → kind_of step ≡ Some kind
     → (named : Named) × (named_at listed n ≡ Some named) × (kind_named named ≡ kind)
 
-pub record Kept (switches : Switches) (all done : List Step) (state : State) : Type 0 where
+pub record Kept (settings : CacheSettings) (all done : List Step) (state : State) : Type 0 where
   pub numbered : state.next ≡ length done
-  pub placed : IsPlacedInTurn state.past
-  pub seen : AllSeenKept state.past
-  pub values : AllByRecursion (ValueKept all done state.past state.listed) state.listed
+  pub placed : IsPlacedInTurn state.history
+  pub cached : AllCachedKept state.history
+  pub values : AllByRecursion (ValueKept all done state.history state.listed) state.listed
   pub lists : ListsAll done state.listed
-  pub run : LeadsTo switches nothing_written done state
-  pub finished : AllUtf8 all → AreFinishesOf switches all (finishes_of done) state.finished
+  pub run : LeadsTo settings nothing_written done state
+  pub finished : AllUtf8 all → AreFinishesOf settings all (finishes_of done) state.finished
 
-pub leads_on : (switches : Switches) (before between after : State) (steps : List Step) (step : Step) → LeadsTo switches before steps between → Advances switches between step after
-    → LeadsTo switches before (steps ++ step ∷ []) after
-leads_on switches before between after [] step leads advances = (after, subst (λ s. Advances switches s step after) leads advances, refl)
-leads_on switches before between after (first ∷ steps) step leads advances = (leads.0, leads.1, leads_on switches leads.0 between after steps step leads.2 advances)
+pub leads_on : (settings : CacheSettings) (before between after : State) (steps : List Step) (step : Step) → LeadsTo settings before steps between → Advances settings between step after
+    → LeadsTo settings before (steps ++ step ∷ []) after
+leads_on settings before between after [] step leads advances = (after, subst (λ s. Advances settings s step after) leads advances, refl)
+leads_on settings before between after (first ∷ steps) step leads advances = (leads.0, leads.1, leads_on settings leads.0 between after steps step leads.2 advances)
 
 counted : (done : List Step) (step : Step) (before after : ℕ) → after ≡ before + 1 → before ≡ length done → after ≡ length (done ++ step ∷ [])
 counted done step before after next h = omega (arith, next, h, length-append done (step ∷ []))
@@ -118,7 +118,7 @@ value_stays listed more (table fields) v e =
 value_stays listed more (finish front root identifier) v e = (cc)
 value_stays listed more clear v e = (cc)
 
-value_moves : (all done : List Step) (step : Step) (before after : Past) (listed more : List Listed) → is_clear step ≡ false → Extends before after → (one : Listed)
+value_moves : (all done : List Step) (step : Step) (before after : History) (listed more : List Listed) → is_clear step ≡ false → Extends before after → (one : Listed)
     → ValueKept all done before listed one → ValueKept all (done ++ step ∷ []) after (listed ++ more) one
 value_moves all done step before after listed more kind extends one v = record {
   step = v.step;
@@ -131,18 +131,18 @@ value_moves all done step before after listed more kind extends one v = record {
   kept = kept_stays before after v.value one.named extends v.kept;
 }
 
-module _ (switches : Switches) (all done : List Step) (step : Step) (v : Value) (before after : State) (kind : is_clear step ≡ false) (there : slice_get all (length done) ≡ Some step)
-    (is_value : value_of before.listed step ≡ Some v) (written : IsWritten (length before.past.written.bytes) v) (well_formed : AllUtf8 all → WellFormed v) (got : List ℕ)
-    (puts : PutsAll switches (entries_of v) [] before.past got after.past) (listed : after.listed ≡ before.listed ++ record { step = before.next; named = named_by v got } ∷ [])
-    (next : after.next ≡ before.next + 1) (finished : after.finished ≡ before.finished ++ []) (run : LeadsTo switches nothing_written (done ++ step ∷ []) after)
-    (h : Kept switches all done before) where
-  law : IsKept after.past v (named_by v got) × AllSeenKept after.past × Extends before.past after.past
-  law = values_are_kept switches v before.past got after.past written h.seen puts
+module _ (settings : CacheSettings) (all done : List Step) (step : Step) (v : Value) (before after : State) (kind : is_clear step ≡ false) (there : slice_get all (length done) ≡ Some step)
+    (is_value : value_of before.listed step ≡ Some v) (written : IsWritten (length before.history.written.bytes) v) (well_formed : AllUtf8 all → WellFormed v) (got : List ℕ)
+    (puts : PutsAll settings (entries_of v) [] before.history got after.history) (listed : after.listed ≡ before.listed ++ record { step = before.next; named = named_by v got } ∷ [])
+    (next : after.next ≡ before.next + 1) (finished : after.finished ≡ before.finished ++ []) (run : LeadsTo settings nothing_written (done ++ step ∷ []) after)
+    (h : Kept settings all done before) where
+  law : IsKept after.history v (named_by v got) × AllCachedKept after.history × Extends before.history after.history
+  law = values_are_kept settings v before.history got after.history written h.cached puts
 
   abbrev added : Listed
   added = record { step = before.next; named = named_by v got }
 
-  new_value : ValueKept all (done ++ step ∷ []) after.past (before.listed ++ added ∷ []) added
+  new_value : ValueKept all (done ++ step ∷ []) after.history (before.listed ++ added ∷ []) added
   new_value = record {
     step = step;
     value = v;
@@ -154,11 +154,11 @@ module _ (switches : Switches) (all done : List Step) (step : Step) (v : Value) 
     kept = law.0;
   }
 
-  all_values : AllByRecursion (ValueKept all (done ++ step ∷ []) after.past (before.listed ++ added ∷ [])) (before.listed ++ added ∷ [])
+  all_values : AllByRecursion (ValueKept all (done ++ step ∷ []) after.history (before.listed ++ added ∷ [])) (before.listed ++ added ∷ [])
   all_values =
-      all_push (ValueKept all (done ++ step ∷ []) after.past (before.listed ++ added ∷ [])) before.listed added
-      (all_weaker (ValueKept all done before.past before.listed) (ValueKept all (done ++ step ∷ []) after.past (before.listed ++ added ∷ []))
-      (value_moves all done step before.past after.past before.listed (added ∷ []) kind law.2) before.listed h.values) new_value
+      all_push (ValueKept all (done ++ step ∷ []) after.history (before.listed ++ added ∷ [])) before.listed added
+      (all_weaker (ValueKept all done before.history before.listed) (ValueKept all (done ++ step ∷ []) after.history (before.listed ++ added ∷ []))
+      (value_moves all done step before.history after.history before.listed (added ∷ []) kind law.2) before.listed h.values) new_value
 
   none_yet : named_at before.listed (length done) ≡ None
   none_yet = by_name (named_at before.listed (length done)) refl
@@ -166,7 +166,7 @@ module _ (switches : Switches) (all done : List Step) (step : Step) (v : Value) 
       by_name : (name : Option Named) → named_at before.listed (length done) ≡ name → name ≡ None
       by_name None e = refl
       by_name (Some named) e =
-          let v = all_named (ValueKept all done before.past before.listed) before.listed (length done) named h.values e in
+          let v = all_named (ValueKept all done before.history before.listed) before.listed (length done) named h.values e in
           let inside = named_inside done v.step (length done) v.named in
           absurd (omega (arith, inside))
 
@@ -184,16 +184,16 @@ module _ (switches : Switches) (all done : List Step) (step : Step) (v : Value) 
         )
   ]
 
-  pub value_kept : Kept switches all (done ++ step ∷ []) after
+  pub value_kept : Kept settings all (done ++ step ∷ []) after
   value_kept = record {
     numbered = counted done step before.next after.next next h.numbered;
-    placed = all_in_turn switches (entries_of v) [] before.past got after.past (values_are_fit (length before.past.written.bytes) v written) puts h.placed;
-    seen = law.1;
-    values = subst (λ vs. AllByRecursion (ValueKept all (done ++ step ∷ []) after.past vs) vs) (sym listed) all_values;
+    placed = all_in_turn settings (entries_of v) [] before.history got after.history (values_are_fit (length before.history.written.bytes) v written) puts h.placed;
+    cached = law.1;
+    values = subst (λ vs. AllByRecursion (ValueKept all (done ++ step ∷ []) after.history vs) vs) (sym listed) all_values;
     lists = subst (ListsAll (done ++ step ∷ [])) (sym listed) lists_new;
     run = run;
-    finished = λ utf8. subst (λ numbers. AreFinishesOf switches all numbers after.finished) (sym (as_many 0 done step (is_no_finish before.listed step v is_value)))
-        (subst (AreFinishesOf switches all (finishes_of done)) (sym (finished ∙ append-nil before.finished)) (h.finished utf8));
+    finished = λ utf8. subst (λ numbers. AreFinishesOf settings all numbers after.finished) (sym (as_many 0 done step (is_no_finish before.listed step v is_value)))
+        (subst (AreFinishesOf settings all (finishes_of done)) (sym (finished ∙ append-nil before.finished)) (h.finished utf8));
   }
 
 greatest_rises : (promises : List Promise) → greatest_alignment 1 promises ≤ greatest_alignment 4 promises
@@ -204,39 +204,39 @@ moved_nowhere : (p : Position) → moved 0 p ≡ p
 moved_nowhere (at k) = ap at (omega arith)
 moved_nowhere (at_both kt kv) = ap (λ k. at_both k (0 + kv)) (let e : 0 + kt ≡ kt = omega arith in e) ∙ ap (at_both kt) (omega arith)
 
-pub root_behind : (all done : List Step) (before : State) (root to : ℕ) → AllByRecursion (ValueKept all done before.past before.listed) before.listed → value_at before.listed root ≡ Some to
-    → to ≤ length before.past.written.bytes
+pub root_behind : (all done : List Step) (before : State) (root to : ℕ) → AllByRecursion (ValueKept all done before.history before.listed) before.listed → value_at before.listed root ≡ Some to
+    → to ≤ length before.history.written.bytes
 root_behind all done before root to values found =
-    value_behind (ValueKept all done before.past before.listed) (length before.past.written.bytes) (value_reaches all done before.past before.listed) before.listed values root to found
+    value_behind (ValueKept all done before.history before.listed) (length before.history.written.bytes) (value_reaches all done before.history before.listed) before.listed values root to found
 
 abbrev pub FrontHolds : Front → List Step → ℕ → ℕ → Option (List ℕ) → Finish → Type 0
 FrontHolds front all root to identifier given =
     ReferenceStands given.bytes (root_at front) to × BytesStand given.bytes (root_at front + 4) (identifier_bytes identifier) × HoldsBySize front all root identifier given
 
 module _ (all done : List Step) (root to : ℕ) (identifier : Option (List ℕ)) (before after : State) (found : value_at before.listed root ≡ Some to)
-    (distance : ℕ) (adds : Adds (sized_finish_part to identifier before.past.written.promises) None before.past distance after.past)
-    (values : AllByRecursion (ValueKept all done before.past before.listed) before.listed) where
+    (distance : ℕ) (adds : Adds (sized_finish_part to identifier before.history.written.promises) None before.history distance after.history)
+    (values : AllByRecursion (ValueKept all done before.history before.listed) before.listed) where
   abbrev whole : List ℕ
-  whole = after.past.written.bytes
+  whole = after.history.written.bytes
 
-  behind_size : drop 4 whole ≡ (root_words to identifier (adds.placed.place - 4) ++ replicate adds.placed.padding 0) ++ before.past.written.bytes
+  behind_size : drop 4 whole ≡ (root_words to identifier (adds.placed.place - 4) ++ replicate adds.placed.padding 0) ++ before.history.written.bytes
   behind_size = ap (drop 4) adds.placed.bytes
 
-  abbrev piece_past : Past
-  piece_past = record after.past { written = record after.past.written { bytes = drop 4 whole } }
+  abbrev slice_past : History
+  slice_past = record after.history { written = record after.history.written { bytes = drop 4 whole } }
 
-  piece_extends : Extends before.past piece_past
-  piece_extends =
-      let extends : Extends before.past after.past = added_extends (sized_finish_part to identifier before.past.written.promises) None before.past distance after.past adds in
+  slice_extends : Extends before.history slice_past
+  slice_extends =
+      let extends : Extends before.history after.history = added_extends (sized_finish_part to identifier before.history.written.promises) None before.history distance after.history adds in
       record {
         bytes = (root_words to identifier (adds.placed.place - 4) ++ replicate adds.placed.padding 0, behind_size);
         promises = extends.promises;
-        seen = extends.seen;
+        cached = extends.cached;
       }
 
-  in_piece : AllUtf8 all → (one : Listed) → ValueKept all done before.past before.listed one → ValueInPiece all before.listed (drop 4 whole) one
-  in_piece utf8 one v =
-      let kept : IsKept piece_past v.value one.named = kept_stays before.past piece_past v.value one.named piece_extends v.kept in
+  in_slice : AllUtf8 all → (one : Listed) → ValueKept all done before.history before.listed one → ValueInSlice all before.listed (drop 4 whole) one
+  in_slice utf8 one v =
+      let kept : IsKept slice_past v.value one.named = kept_stays before.history slice_past v.value one.named slice_extends v.kept in
       record {
         step = v.step;
         value = v.value;
@@ -248,32 +248,32 @@ module _ (all done : List Step) (root to : ℕ) (identifier : Option (List ℕ))
 
   pub sized_front_holds : AllUtf8 all → FrontHolds size_first all root to identifier (record { bytes = whole; places = before.listed })
   sized_front_holds utf8 =
-      let stood : SizedFinishStands to identifier before.past.written after.past.written = sized_finishes_stand to identifier before.past.written after.past.written adds.placed in
+      let stood : SizedFinishStands to identifier before.history.written after.history.written = sized_finishes_stand to identifier before.history.written after.history.written adds.placed in
       let leads : ReferenceStands whole 4 to = stood.leads (root_behind all done before root to values found) in
       let long : 4 ≤ length whole = num_inside whole 0 w32 (length (drop 4 whole)) stood.size in (
         leads,
         stood.identified,
         record {
           size = stood.size;
-          leads = (to, found, fields_stand_in_pieces whole 4 0 (value.reference to) long leads, fields_read_back whole 4 0 (value.reference to) leads);
-          identified = bytes_in_piece whole 4 4 (identifier_bytes identifier) stood.identified;
-          values = all_weaker (ValueKept all done before.past before.listed) (ValueInPiece all before.listed (drop 4 whole)) (in_piece utf8) before.listed values;
+          leads = (to, found, fields_stand_in_slices whole 4 0 (value.reference to) long leads, fields_read_back whole 4 0 (value.reference to) leads);
+          identified = bytes_in_slice whole 4 4 (identifier_bytes identifier) stood.identified;
+          values = all_weaker (ValueKept all done before.history before.listed) (ValueInSlice all before.listed (drop 4 whole)) (in_slice utf8) before.listed values;
         },
       )
 
-module _ (switches : Switches) (all done : List Step) (front : Front) (root to : ℕ) (identifier : Option (List ℕ)) (before after : State) (found : value_at before.listed root ≡ Some to)
+module _ (settings : CacheSettings) (all done : List Step) (front : Front) (root to : ℕ) (identifier : Option (List ℕ)) (before after : State) (found : value_at before.listed root ≡ Some to)
     (size : ℕ) (words : ℕ → List ℕ) (as_many : (place : ℕ) → length (words place) ≡ size)
-    (distance : ℕ) (adds : Adds (front_part size words before.past.written.promises) None before.past distance after.past)
-    (in_front : AllUtf8 all → FrontHolds front all root to identifier (record { bytes = after.past.written.bytes; places = before.listed }))
+    (distance : ℕ) (adds : Adds (front_part size words before.history.written.promises) None before.history distance after.history)
+    (in_front : AllUtf8 all → FrontHolds front all root to identifier (record { bytes = after.history.written.bytes; places = before.listed }))
     (listed : after.listed ≡ before.listed ++ []) (next : after.next ≡ before.next + 1)
-    (finished : after.finished ≡ before.finished ++ record { bytes = after.past.written.bytes; places = before.listed } ∷ [])
+    (finished : after.finished ≡ before.finished ++ record { bytes = after.history.written.bytes; places = before.listed } ∷ [])
     (there : slice_get all (length done) ≡ Some (finish front root identifier)) (up_to : take (length done + 1) all ≡ done ++ finish front root identifier ∷ [])
-    (run : LeadsTo switches nothing_written (done ++ finish front root identifier ∷ []) after) (h : Kept switches all done before) where
+    (run : LeadsTo settings nothing_written (done ++ finish front root identifier ∷ []) after) (h : Kept settings all done before) where
   abbrev old : Written
-  old = before.past.written
+  old = before.history.written
 
   abbrev new : Written
-  new = after.past.written
+  new = after.history.written
 
   abbrev part : Part
   part = front_part size words old.promises
@@ -298,21 +298,21 @@ module _ (switches : Switches) (all done : List Step) (front : Front) (root to :
       = subst (λ n. Keep (promise_of n part.alignment ∷ old.promises) n) (sym placed.is_place) keep_all in
       subst (λ n. Keep new.promises n) (sym at_end) (subst (λ ps. Keep ps placed.place) (sym placed.promises) keep_there)
 
-  extends : Extends before.past after.past
-  extends = added_extends part None before.past distance after.past adds
+  extends : Extends before.history after.history
+  extends = added_extends part None before.history distance after.history adds
 
-  in_turn : IsPlacedInTurn after.past
-  in_turn = added_in_turn part None before.past distance after.past adds sized power h.placed
+  in_turn : IsPlacedInTurn after.history
+  in_turn = added_in_turn part None before.history distance after.history adds sized power h.placed
 
-  few : IsFewest after.past.parts after.past.places new.bytes
+  few : IsFewest after.history.parts after.history.places new.bytes
   few =
       let last : distance ≡ length new.bytes = adds.at ∙ sym at_end in
-      subst (λ ps. IsFewest after.past.parts ps new.bytes) (sym adds.places)
-      (fewest new after.past.parts before.past.places distance last keep (subst (λ ps. InTurn new after.past.parts ps) adds.places in_turn.turns))
+      subst (λ ps. IsFewest after.history.parts ps new.bytes) (sym adds.places)
+      (fewest new after.history.parts before.history.places distance last keep (subst (λ ps. InTurn new after.history.parts ps) adds.places in_turn.turns))
 
-  value_holds : AllUtf8 all → (one : Listed) → ValueKept all done before.past before.listed one → ValueHolds all (record { bytes = new.bytes; places = before.listed }) one
+  value_holds : AllUtf8 all → (one : Listed) → ValueKept all done before.history before.listed one → ValueHolds all (record { bytes = new.bytes; places = before.listed }) one
   value_holds utf8 one v =
-      let kept : IsKept after.past v.value one.named = kept_stays before.past after.past v.value one.named extends v.kept in
+      let kept : IsKept after.history v.value one.named = kept_stays before.history after.history v.value one.named extends v.kept in
       record {
         step = v.step;
         value = v.value;
@@ -325,7 +325,7 @@ module _ (switches : Switches) (all done : List Step) (front : Front) (root to :
         reads_back = what_stands_reads_back new.bytes (position_in new.bytes one.named) v.value (v.well_formed utf8) kept.stands;
       }
 
-  holds : AllUtf8 all → FinishHolds switches all (record { bytes = new.bytes; places = before.listed })
+  holds : AllUtf8 all → FinishHolds settings all (record { bytes = new.bytes; places = before.listed })
   holds utf8 =
       let words_hold = in_front utf8 in
       record {
@@ -335,10 +335,10 @@ module _ (switches : Switches) (all done : List Step) (front : Front) (root to :
         identifier = identifier;
         step = there;
         state = after;
-        run = subst (λ steps. LeadsTo switches nothing_written steps after) (sym up_to) run;
+        run = subst (λ steps. LeadsTo settings nothing_written steps after) (sym up_to) run;
         bytes = refl;
         places = sym (listed ∙ append-nil before.listed);
-        values = all_weaker (ValueKept all done before.past before.listed) (ValueHolds all (record { bytes = new.bytes; places = before.listed })) (value_holds utf8) before.listed h.values;
+        values = all_weaker (ValueKept all done before.history before.listed) (ValueHolds all (record { bytes = new.bytes; places = before.listed })) (value_holds utf8) before.listed h.values;
         leads = (to, found, words_hold.0);
         identified = words_hold.1;
         sized = words_hold.2;
@@ -354,135 +354,135 @@ module _ (switches : Switches) (all done : List Step) (front : Front) (root to :
     | inr last ↦ (let none : None ≡ Some of = ap kind_of last.1 ∙ is_kind in cc)
   ]
 
-  is_finish_of : AllUtf8 all → IsFinishOf switches all (0 + length done) (record { bytes = new.bytes; places = before.listed })
+  is_finish_of : AllUtf8 all → IsFinishOf settings all (0 + length done) (record { bytes = new.bytes; places = before.listed })
   unfolding holds
   is_finish_of utf8 = record { holds = holds utf8; of_step = (let e : length done ≡ 0 + length done = omega arith in e) }
 
-  pub finish_kept : Kept switches all (done ++ finish front root identifier ∷ []) after
+  pub finish_kept : Kept settings all (done ++ finish front root identifier ∷ []) after
   finish_kept = record {
     numbered = counted done (finish front root identifier) before.next after.next next h.numbered;
     placed = in_turn;
-    seen = subst (AllByRecursion (Rattle.planus_write.specs.Kept.SeenIsKept after.past)) (sym adds.seen) (seen_stays before.past after.past extends before.past.seen h.seen);
-    values = subst (λ vs. AllByRecursion (ValueKept all (done ++ finish front root identifier ∷ []) after.past vs) vs) (sym listed)
-        (subst (λ vs. AllByRecursion (ValueKept all (done ++ finish front root identifier ∷ []) after.past (before.listed ++ [])) vs) (sym (append-nil before.listed))
-        (all_weaker (ValueKept all done before.past before.listed) (ValueKept all (done ++ finish front root identifier ∷ []) after.past (before.listed ++ []))
-        (value_moves all done (finish front root identifier) before.past after.past before.listed [] refl extends) before.listed h.values));
+    cached = subst (AllByRecursion (Rattle.planus_write.specs.Kept.CachedIsKept after.history)) (sym adds.cached) (cached_stays before.history after.history extends before.history.cached h.cached);
+    values = subst (λ vs. AllByRecursion (ValueKept all (done ++ finish front root identifier ∷ []) after.history vs) vs) (sym listed)
+        (subst (λ vs. AllByRecursion (ValueKept all (done ++ finish front root identifier ∷ []) after.history (before.listed ++ [])) vs) (sym (append-nil before.listed))
+        (all_weaker (ValueKept all done before.history before.listed) (ValueKept all (done ++ finish front root identifier ∷ []) after.history (before.listed ++ []))
+        (value_moves all done (finish front root identifier) before.history after.history before.listed [] refl extends) before.listed h.values));
     lists = subst (ListsAll (done ++ finish front root identifier ∷ [])) (sym listed) lists_still;
     run = run;
-    finished = λ utf8. subst (λ numbers. AreFinishesOf switches all numbers after.finished) (sym (one_more 0 done front root identifier))
-        (subst (AreFinishesOf switches all (finishes_of done ++ (0 + length done) ∷ [])) (sym finished)
-        (are_push switches all (finishes_of done) before.finished (0 + length done) (record { bytes = new.bytes; places = before.listed }) (h.finished utf8) (is_finish_of utf8)));
+    finished = λ utf8. subst (λ numbers. AreFinishesOf settings all numbers after.finished) (sym (one_more 0 done front root identifier))
+        (subst (AreFinishesOf settings all (finishes_of done ++ (0 + length done) ∷ [])) (sym finished)
+        (are_push settings all (finishes_of done) before.finished (0 + length done) (record { bytes = new.bytes; places = before.listed }) (h.finished utf8) (is_finish_of utf8)));
   }
 
-clear_kept : (switches : Switches) (all done : List Step) (before : State) → Kept switches all done before → Kept switches all (done ++ clear ∷ []) (cleared before)
-clear_kept switches all done before h = record {
+clear_kept : (settings : CacheSettings) (all done : List Step) (before : State) → Kept settings all done before → Kept settings all (done ++ clear ∷ []) (cleared before)
+clear_kept settings all done before h = record {
   numbered = counted done clear before.next (before.next + 1) refl h.numbered;
   placed = nothing_in_turn;
-  seen = tt;
+  cached = tt;
   values = tt;
   lists = λ n c of named is_kind. absurd (not_behind_clear done c n named);
-  run = leads_on switches nothing_written before (cleared before) done clear h.run refl;
-  finished = λ utf8. subst (λ numbers. AreFinishesOf switches all numbers before.finished) (sym (as_many 0 done clear refl)) (h.finished utf8);
+  run = leads_on settings nothing_written before (cleared before) done clear h.run refl;
+  finished = λ utf8. subst (λ numbers. AreFinishesOf settings all numbers before.finished) (sym (as_many 0 done clear refl)) (h.finished utf8);
 }
 
-pub values_are_written : (switches : Switches) (all done : List Step) (step : Step) (before : State) → Kept switches all done before
-    → (v : Value) → value_of before.listed step ≡ Some v → IsWritten (length before.past.written.bytes) v × (TextIsUtf8 step → WellFormed v)
-values_are_written switches all done (text content) before h v e =
+pub values_are_written : (settings : CacheSettings) (all done : List Step) (step : Step) (before : State) → Kept settings all done before
+    → (v : Value) → value_of before.listed step ≡ Some v → IsWritten (length before.history.written.bytes) v × (TextIsUtf8 step → WellFormed v)
+values_are_written settings all done (text content) before h v e =
     let same : value.text content ≡ v = cc in
-    subst (λ v. IsWritten (length before.past.written.bytes) v × (TextIsUtf8 (text content) → WellFormed v)) same (tt, λ utf8. utf8 content refl)
-values_are_written switches all done (bytes content) before h v e =
+    subst (λ v. IsWritten (length before.history.written.bytes) v × (TextIsUtf8 (text content) → WellFormed v)) same (tt, λ utf8. utf8 content refl)
+values_are_written settings all done (bytes content) before h v e =
     let same : value.byte_list content ≡ v = cc in
-    subst (λ v. IsWritten (length before.past.written.bytes) v × (TextIsUtf8 (bytes content) → WellFormed v)) same (tt, λ _. tt)
-values_are_written switches all done (numbers width items) before h v e =
-    let good = numbers_are_written (length before.past.written.bytes) (width_of width) items v e in (good.0, λ _. good.1)
-values_are_written switches all done (refs steps) before h v e =
+    subst (λ v. IsWritten (length before.history.written.bytes) v × (TextIsUtf8 (bytes content) → WellFormed v)) same (tt, λ _. tt)
+values_are_written settings all done (numbers width items) before h v e =
+    let good = numbers_are_written (length before.history.written.bytes) (width_of width) items v e in (good.0, λ _. good.1)
+values_are_written settings all done (refs steps) before h v e =
     let made = made_of value.reference_list (all_of (value_at before.listed) steps) v e in
-    subst (λ v. IsWritten (length before.past.written.bytes) v × (TextIsUtf8 (refs steps) → WellFormed v)) made.2
-    (references_behind (ValueKept all done before.past before.listed) (length before.past.written.bytes) (value_reaches all done before.past before.listed) before.listed h.values steps made.0 made.1, λ _. tt)
-values_are_written switches all done (unions items) before h v e =
+    subst (λ v. IsWritten (length before.history.written.bytes) v × (TextIsUtf8 (refs steps) → WellFormed v)) made.2
+    (references_behind (ValueKept all done before.history before.listed) (length before.history.written.bytes) (value_reaches all done before.history before.listed) before.listed h.values steps made.0 made.1, λ _. tt)
+values_are_written settings all done (unions items) before h v e =
     let made = made_of value.union_vector (all_of (union_of before.listed) items) v e in
-    subst (λ v. IsWritten (length before.past.written.bytes) v × (TextIsUtf8 (unions items) → WellFormed v)) made.2
-    (unions_behind (ValueKept all done before.past before.listed) (length before.past.written.bytes) (value_reaches all done before.past before.listed) before.listed h.values items made.0 made.1, λ _. tt)
-values_are_written switches all done (table fields) before h v e =
+    subst (λ v. IsWritten (length before.history.written.bytes) v × (TextIsUtf8 (unions items) → WellFormed v)) made.2
+    (unions_behind (ValueKept all done before.history before.listed) (length before.history.written.bytes) (value_reaches all done before.history before.listed) before.listed h.values items made.0 made.1, λ _. tt)
+values_are_written settings all done (table fields) before h v e =
     let made = made_of value.table (fields_of before.listed [] greatest_field fields) v e in
-    subst (λ v. IsWritten (length before.past.written.bytes) v × (TextIsUtf8 (table fields) → WellFormed v)) made.2
-    (tables_are_written (ValueKept all done before.past before.listed) (length before.past.written.bytes) (value_reaches all done before.past before.listed) before.listed h.values fields made.0 made.1, λ _. tt)
-values_are_written switches all done (finish front root identifier) before h v e = (cc)
-values_are_written switches all done clear before h v e = (cc)
+    subst (λ v. IsWritten (length before.history.written.bytes) v × (TextIsUtf8 (table fields) → WellFormed v)) made.2
+    (tables_are_written (ValueKept all done before.history before.listed) (length before.history.written.bytes) (value_reaches all done before.history before.listed) before.listed h.values fields made.0 made.1, λ _. tt)
+values_are_written settings all done (finish front root identifier) before h v e = (cc)
+values_are_written settings all done clear before h v e = (cc)
 
-written_kept : (switches : Switches) (all done : List Step) (step : Step) (before after : State) → is_clear step ≡ false
-    → ((s : State) (past : Past) → finishes_added step s past ≡ []) → (writes : Writes switches before step after) → Advances switches before step after
+written_kept : (settings : CacheSettings) (all done : List Step) (step : Step) (before after : State) → is_clear step ≡ false
+    → ((s : State) (history : History) → finishes_added step s history ≡ []) → (writes : Writes settings before step after) → Advances settings before step after
     → option_map entries_of (value_of before.listed step) ≡ Some writes.entries → slice_get all (length done) ≡ Some step
-    → Kept switches all done before → Kept switches all (done ++ step ∷ []) after
-written_kept switches all done step before after kind gives writes advances are there h =
-    let run = leads_on switches nothing_written before after done step h.run advances in
+    → Kept settings all done before → Kept settings all (done ++ step ∷ []) after
+written_kept settings all done step before after kind gives writes advances are there h =
+    let run = leads_on settings nothing_written before after done step h.run advances in
     let made = made_of entries_of (value_of before.listed step) writes.entries are in
-    let good = values_are_written switches all done step before h made.0 made.1 in
-    value_kept switches all done step made.0 before after kind there made.1 good.0 (λ utf8. good.1 (λ content is. utf8 (length done) content (there ∙ ap Some is))) writes.got
-    (subst (λ entries. PutsAll switches entries [] before.past writes.got after.past) (sym made.2) writes.puts)
+    let good = values_are_written settings all done step before h made.0 made.1 in
+    value_kept settings all done step made.0 before after kind there made.1 good.0 (λ utf8. good.1 (λ content is. utf8 (length done) content (there ∙ ap Some is))) writes.got
+    (subst (λ entries. PutsAll settings entries [] before.history writes.got after.history) (sym made.2) writes.puts)
     (writes.listed ∙ ap (λ v. before.listed ++ values_added v before.next writes.got) made.1) writes.next
-    (writes.finished ∙ ap (λ fs. before.finished ++ fs) (gives before after.past)) run h
+    (writes.finished ∙ ap (λ fs. before.finished ++ fs) (gives before after.history)) run h
 
-pub step_kept : (switches : Switches) (all done : List Step) (step : Step) (before after : State) → slice_get all (length done) ≡ Some step → take (length done + 1) all ≡ done ++ step ∷ []
-    → Advances switches before step after → Kept switches all done before → Kept switches all (done ++ step ∷ []) after
-step_kept switches all done (text content) before after there up_to writes h =
-    written_kept switches all done (text content) before after refl (λ s past. refl) writes writes writes.are there h
-step_kept switches all done (bytes content) before after there up_to writes h =
-    written_kept switches all done (bytes content) before after refl (λ s past. refl) writes writes writes.are there h
-step_kept switches all done (numbers width items) before after there up_to writes h =
-    written_kept switches all done (numbers width items) before after refl (λ s past. refl) writes writes writes.are there h
-step_kept switches all done (refs steps) before after there up_to writes h =
-    written_kept switches all done (refs steps) before after refl (λ s past. refl) writes writes writes.are there h
-step_kept switches all done (unions items) before after there up_to writes h =
-    written_kept switches all done (unions items) before after refl (λ s past. refl) writes writes writes.are there h
-step_kept switches all done (table fields) before after there up_to writes h =
-    written_kept switches all done (table fields) before after refl (λ s past. refl) writes writes writes.are there h
-step_kept switches all done (finish root_first root identifier) before after there up_to writes h =
-    let run = leads_on switches nothing_written before after done (finish root_first root identifier) h.run writes in
+pub step_kept : (settings : CacheSettings) (all done : List Step) (step : Step) (before after : State) → slice_get all (length done) ≡ Some step → take (length done + 1) all ≡ done ++ step ∷ []
+    → Advances settings before step after → Kept settings all done before → Kept settings all (done ++ step ∷ []) after
+step_kept settings all done (text content) before after there up_to writes h =
+    written_kept settings all done (text content) before after refl (λ s history. refl) writes writes writes.are there h
+step_kept settings all done (bytes content) before after there up_to writes h =
+    written_kept settings all done (bytes content) before after refl (λ s history. refl) writes writes writes.are there h
+step_kept settings all done (numbers width items) before after there up_to writes h =
+    written_kept settings all done (numbers width items) before after refl (λ s history. refl) writes writes writes.are there h
+step_kept settings all done (refs steps) before after there up_to writes h =
+    written_kept settings all done (refs steps) before after refl (λ s history. refl) writes writes writes.are there h
+step_kept settings all done (unions items) before after there up_to writes h =
+    written_kept settings all done (unions items) before after refl (λ s history. refl) writes writes writes.are there h
+step_kept settings all done (table fields) before after there up_to writes h =
+    written_kept settings all done (table fields) before after refl (λ s history. refl) writes writes writes.are there h
+step_kept settings all done (finish root_first root identifier) before after there up_to writes h =
+    let run = leads_on settings nothing_written before after done (finish root_first root identifier) h.run writes in
     let made = made_of (finish_of root_first identifier) (value_at before.listed root) writes.entries writes.are in
-    let puts : PutsAll switches (finish_of root_first identifier made.0) [] before.past writes.got after.past
-    = subst (λ entries. PutsAll switches entries [] before.past writes.got after.past) (sym made.2) writes.puts in
-    let adds : Adds (finish_part made.0 identifier before.past.written.promises) None before.past puts.0 after.past
-    = subst (Adds (finish_part made.0 identifier before.past.written.promises) None before.past puts.0) (sym puts.3.1) puts.2 in
-    finish_kept switches all done root_first root made.0 identifier before after made.1
-    (length (identifier_bytes identifier) + 4) (root_words made.0 identifier) (finish_size made.0 identifier before.past.written) puts.0 adds
+    let puts : PutsAll settings (finish_of root_first identifier made.0) [] before.history writes.got after.history
+    = subst (λ entries. PutsAll settings entries [] before.history writes.got after.history) (sym made.2) writes.puts in
+    let adds : Adds (finish_part made.0 identifier before.history.written.promises) None before.history puts.0 after.history
+    = subst (Adds (finish_part made.0 identifier before.history.written.promises) None before.history puts.0) (sym puts.3.1) puts.2 in
+    finish_kept settings all done root_first root made.0 identifier before after made.1
+    (length (identifier_bytes identifier) + 4) (root_words made.0 identifier) (finish_size made.0 identifier before.history.written) puts.0 adds
     (λ utf8. (
-      finishes_lead made.0 identifier before.past.written after.past.written (root_behind all done before root made.0 h.values made.1) adds.placed,
-      finishes_are_identified made.0 identifier before.past.written after.past.written adds.placed,
+      finishes_lead made.0 identifier before.history.written after.history.written (root_behind all done before root made.0 h.values made.1) adds.placed,
+      finishes_are_identified made.0 identifier before.history.written after.history.written adds.placed,
       tt,
     ))
     writes.listed writes.next writes.finished there up_to run h
-step_kept switches all done (finish size_first root identifier) before after there up_to writes h =
-    let run = leads_on switches nothing_written before after done (finish size_first root identifier) h.run writes in
+step_kept settings all done (finish size_first root identifier) before after there up_to writes h =
+    let run = leads_on settings nothing_written before after done (finish size_first root identifier) h.run writes in
     let made = made_of (finish_of size_first identifier) (value_at before.listed root) writes.entries writes.are in
-    let puts : PutsAll switches (finish_of size_first identifier made.0) [] before.past writes.got after.past
-    = subst (λ entries. PutsAll switches entries [] before.past writes.got after.past) (sym made.2) writes.puts in
-    let adds : Adds (sized_finish_part made.0 identifier before.past.written.promises) None before.past puts.0 after.past
-    = subst (Adds (sized_finish_part made.0 identifier before.past.written.promises) None before.past puts.0) (sym puts.3.1) puts.2 in
-    finish_kept switches all done size_first root made.0 identifier before after made.1
-    (length (identifier_bytes identifier) + 8) (sized_words made.0 identifier) (sized_finish_size made.0 identifier before.past.written) puts.0 adds
+    let puts : PutsAll settings (finish_of size_first identifier made.0) [] before.history writes.got after.history
+    = subst (λ entries. PutsAll settings entries [] before.history writes.got after.history) (sym made.2) writes.puts in
+    let adds : Adds (sized_finish_part made.0 identifier before.history.written.promises) None before.history puts.0 after.history
+    = subst (Adds (sized_finish_part made.0 identifier before.history.written.promises) None before.history puts.0) (sym puts.3.1) puts.2 in
+    finish_kept settings all done size_first root made.0 identifier before after made.1
+    (length (identifier_bytes identifier) + 8) (sized_words made.0 identifier) (sized_finish_size made.0 identifier before.history.written) puts.0 adds
     (sized_front_holds all done root made.0 identifier before after made.1 puts.0 adds h.values)
     writes.listed writes.next writes.finished there up_to run h
-step_kept switches all done clear before after there up_to is_clear h = subst (λ s. Kept switches all (done ++ clear ∷ []) s) (sym is_clear) (clear_kept switches all done before h)
+step_kept settings all done clear before after there up_to is_clear h = subst (λ s. Kept settings all (done ++ clear ∷ []) s) (sym is_clear) (clear_kept settings all done before h)
 
-leads_kept : (switches : Switches) (all done rest : List Step) → all ≡ done ++ rest → (before after : State) → LeadsTo switches before rest after → Kept switches all done before
-    → Kept switches all all after
-leads_kept switches all done [] e before after leads h = subst (λ s. Kept switches all all s) (sym leads) (subst (λ d. Kept switches all d before) (sym (e ∙ append-nil done)) h)
-leads_kept switches all done (step ∷ rest) e before after leads h =
+leads_kept : (settings : CacheSettings) (all done rest : List Step) → all ≡ done ++ rest → (before after : State) → LeadsTo settings before rest after → Kept settings all done before
+    → Kept settings all all after
+leads_kept settings all done [] e before after leads h = subst (λ s. Kept settings all all s) (sym leads) (subst (λ d. Kept settings all d before) (sym (e ∙ append-nil done)) h)
+leads_kept settings all done (step ∷ rest) e before after leads h =
     let there : slice_get all (length done) ≡ Some step = ap (λ xs. slice_get xs (length done)) e ∙ get_last done step rest in
     let again : all ≡ (done ++ step ∷ []) ++ rest = e ∙ sym (append_assoc done (step ∷ []) rest) in
     let count : length done + 1 ≡ length (done ++ step ∷ []) = sym (length-append done (step ∷ [])) in
     let up_to : take (length done + 1) all ≡ done ++ step ∷ [] = ap (take (length done + 1)) again ∙ ap (λ n. take n ((done ++ step ∷ []) ++ rest)) count ∙ take-append_seam (done ++ step ∷ []) rest in
-    leads_kept switches all (done ++ step ∷ []) rest again leads.0 after leads.2
-    (step_kept switches all done step before leads.0 there up_to leads.1 h)
+    leads_kept settings all (done ++ step ∷ []) rest again leads.0 after leads.2
+    (step_kept settings all done step before leads.0 there up_to leads.1 h)
 
-pub nothing_kept : (switches : Switches) (all : List Step) → Kept switches all [] nothing_written
-nothing_kept switches all = record { numbered = refl; placed = nothing_in_turn; seen = tt; values = tt; lists = λ n c of named is_kind. absurd (none_named n c named); run = refl; finished = λ _. tt }
+pub nothing_kept : (settings : CacheSettings) (all : List Step) → Kept settings all [] nothing_written
+nothing_kept settings all = record { numbered = refl; placed = nothing_in_turn; cached = tt; values = tt; lists = λ n c of named is_kind. absurd (none_named n c named); run = refl; finished = λ _. tt }
 
-pub run_kept : (switches : Switches) (steps : List Step) (end : State) → LeadsTo switches nothing_written steps end → Kept switches steps steps end
-run_kept switches steps end leads = leads_kept switches steps [] steps refl nothing_written end leads (nothing_kept switches steps)
+pub run_kept : (settings : CacheSettings) (steps : List Step) (end : State) → LeadsTo settings nothing_written steps end → Kept settings steps steps end
+run_kept settings steps end leads = leads_kept settings steps [] steps refl nothing_written end leads (nothing_kept settings steps)
 
-pub run_value : (switches : Switches) (steps : List Step) (end : State) → LeadsTo switches nothing_written steps end → (n : ℕ) (named : Named) → named_at end.listed n ≡ Some named
-    → ValueKept steps steps end.past end.listed (record { step = n; named = named })
-run_value switches steps end leads n named found =
-    all_named (ValueKept steps steps end.past end.listed) end.listed n named (run_kept switches steps end leads).values found
+pub run_value : (settings : CacheSettings) (steps : List Step) (end : State) → LeadsTo settings nothing_written steps end → (n : ℕ) (named : Named) → named_at end.listed n ≡ Some named
+    → ValueKept steps steps end.history end.listed (record { step = n; named = named })
+run_value settings steps end leads n named found =
+    all_named (ValueKept steps steps end.history end.listed) end.listed n named (run_kept settings steps end leads).values found

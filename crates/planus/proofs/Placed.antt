@@ -14,8 +14,8 @@ use Rattle.planus_back.specs.Requests.{Delay, DescribesAll}
 use Rattle.planus_back.proofs.PaddingLaws.{stay_described}
 use Rattle.planus_read.specs.Values as value
 use Rattle.planus_read.specs.Values.{Value}
-use Rattle.planus_write.specs.Shared.{Contents, Switches, shared_as}
-use Rattle.planus_write.specs.Past.{Past, Entry, Adds, PutsAfter, PutsAll, part_after, found_before}
+use Rattle.planus_write.specs.Shared.{Contents, CacheSettings, shared_as}
+use Rattle.planus_write.specs.History.{History, Entry, Adds, PutsAfter, PutsAll, part_after, found_before}
 use Rattle.planus_write.specs.Parts.{entries_of, IsWritten, list_entries, distances_in}
 use Rattle.planus_write.specs.Items.{Item, plain_item, reference_item}
 use Rattle.planus_write.specs.lemmas.PartBytes.{length_after, text_size, byte_list_size}
@@ -25,16 +25,16 @@ use Rattle.planus.specs.Runs.{nothing_written}
 use Rattle.planus.proofs.Turns.{InTurn, turn_taken}
 use Rattle.planus.proofs.Lists.{all_weaker}
 
-pub record IsPlacedInTurn (past : Past) : Type 0 where
-  pub powers : AllByRecursion (λ (p : Promise). IsPowerOfTwo p.alignment) past.written.promises
-  pub reached : AllByRecursion (λ (p : Promise). p.distance ≤ length past.written.bytes) past.written.promises
-  pub described : (delay : Delay) × DescribesAll delay (length past.written.bytes) past.written.promises
-  pub turns : InTurn past.written past.parts past.places
+pub record IsPlacedInTurn (history : History) : Type 0 where
+  pub powers : AllByRecursion (λ (p : Promise). IsPowerOfTwo p.alignment) history.written.promises
+  pub reached : AllByRecursion (λ (p : Promise). p.distance ≤ length history.written.bytes) history.written.promises
+  pub described : (delay : Delay) × DescribesAll delay (length history.written.bytes) history.written.promises
+  pub turns : InTurn history.written history.parts history.places
 
 nothing_described : Describes 0 0 0 []
 nothing_described = record { powers = tt; reached = tt; kept = λ finished from. (λ _. (finished, omega arith), λ _. tt) }
 
-pub nothing_in_turn : IsPlacedInTurn (nothing_written.past)
+pub nothing_in_turn : IsPlacedInTurn (nothing_written.history)
 nothing_in_turn = record { powers = tt; reached = tt; described = (record { delayed = 0; mask = 0 }, nothing_described); turns = record { powers = tt; turns = tt; ended = refl; promised = refl } }
 
 module _ (part : Part) (before after : Written) (placed : Placed part before after)
@@ -66,7 +66,7 @@ module _ (part : Part) (before after : Written) (placed : Placed part before aft
       = subst (λ n. DescribesAll more.0 n (promise_of n part.alignment ∷ before.promises)) (sym placed.is_place) more.1 in
       (more.0, subst (λ n. DescribesAll more.0 n after.promises) (sym length_is) (subst (λ ps. DescribesAll more.0 placed.place ps) (sym placed.promises) there))
 
-module _ (part : Part) (shared : Option Contents) (before : Past) (distance : ℕ) (after : Past)
+module _ (part : Part) (shared : Option Contents) (before : History) (distance : ℕ) (after : History)
     (adds : Adds part shared before distance after)
     (sized : length (part.bytes_at adds.placed.place) ≡ part.size) (power : IsPowerOfTwo part.alignment) (h : IsPlacedInTurn before) where
   turned : InTurn after.written after.parts after.places
@@ -85,30 +85,30 @@ module _ (part : Part) (shared : Option Contents) (before : Past) (distance : �
     turns = turned;
   }
 
-pub record IsFit (entry : Entry) (got : List ℕ) (past : Past) : Type 0 where
+pub record IsFit (entry : Entry) (got : List ℕ) (history : History) : Type 0 where
   pub sized : (place : ℕ)
-      → length ((part_after entry got past).bytes_at place) ≡ (part_after entry got past).size
-  pub power : IsPowerOfTwo (part_after entry got past).alignment
+      → length ((part_after entry got history).bytes_at place) ≡ (part_after entry got history).size
+  pub power : IsPowerOfTwo (part_after entry got history).alignment
 
 abbrev pub AreFit : List Entry → Type 0
-AreFit entries = AllByRecursion (λ entry. (got : List ℕ) (past : Past) → IsPlacedInTurn past → IsFit entry got past) entries
+AreFit entries = AllByRecursion (λ entry. (got : List ℕ) (history : History) → IsPlacedInTurn history → IsFit entry got history) entries
 
-pub put_in_turn : (earlier : Option ℕ) (part : Part) (shared : Option Contents) (before : Past)
-    (distance : ℕ) (after : Past) → PutsAfter earlier part shared before distance after
+pub put_in_turn : (earlier : Option ℕ) (part : Part) (shared : Option Contents) (before : History)
+    (distance : ℕ) (after : History) → PutsAfter earlier part shared before distance after
     → ((place : ℕ) → length (part.bytes_at place) ≡ part.size) → IsPowerOfTwo part.alignment
     → IsPlacedInTurn before → IsPlacedInTurn after
 put_in_turn (Some d) part shared before distance after put sized power h = subst IsPlacedInTurn (sym put.1) h
 put_in_turn None part shared before distance after put sized power h = added_in_turn part shared before distance after put (sized put.placed.place) power h
 
-pub all_in_turn : (switches : Switches) (entries : List Entry) (got : List ℕ) (before : Past)
-    (all : List ℕ) (after : Past) → AreFit entries
-    → PutsAll switches entries got before all after → IsPlacedInTurn before → IsPlacedInTurn after
-all_in_turn switches [] got before all after fit puts h = subst IsPlacedInTurn (sym puts.1) h
-all_in_turn switches (entry ∷ entries) got before all after fit puts h =
+pub all_in_turn : (settings : CacheSettings) (entries : List Entry) (got : List ℕ) (before : History)
+    (all : List ℕ) (after : History) → AreFit entries
+    → PutsAll settings entries got before all after → IsPlacedInTurn before → IsPlacedInTurn after
+all_in_turn settings [] got before all after fit puts h = subst IsPlacedInTurn (sym puts.1) h
+all_in_turn settings (entry ∷ entries) got before all after fit puts h =
     let here : IsFit entry got before = fit.0 got before h in
     let between : IsPlacedInTurn puts.1
-    = put_in_turn (found_before switches entry before) (part_after entry got before) (shared_as switches entry.contents) before puts.0 puts.1 puts.2 here.sized here.power h in
-    all_in_turn switches entries (got ++ puts.0 ∷ []) puts.1 all after fit.1 puts.3 between
+    = put_in_turn (found_before settings entry before) (part_after entry got before) (shared_as settings entry.contents) before puts.0 puts.1 puts.2 here.sized here.power h in
+    all_in_turn settings entries (got ++ puts.0 ∷ []) puts.1 all after fit.1 puts.3 between
 
 greater_power : (a b : ℕ) → IsPowerOfTwo a → IsPowerOfTwo b → IsPowerOfTwo (max a b)
 greater_power a b h k =
@@ -121,8 +121,8 @@ list_fit : {X : Type 0} (item_of : X → Item) (size alignment before : ℕ) (xs
     → IsListOf item_of size alignment before xs v
     → AreFit (list_entries size alignment (map item_of xs))
 list_fit item_of size alignment before xs v list = (
-  (λ got past h. record { sized = λ place. list.sized place ∙ ap (λ n. n * size) (sym (length-map xs item_of)); power = greater_power alignment 4 list.power (2, refl) }),
-  ((λ got past h. record { sized = λ place. refl; power = (0, refl) }), tt),
+  (λ got history h. record { sized = λ place. list.sized place ∙ ap (λ n. n * size) (sym (length-map xs item_of)); power = greater_power alignment 4 list.power (2, refl) }),
+  ((λ got history h. record { sized = λ place. refl; power = (0, refl) }), tt),
 )
 
 all_distances : (before : ℕ) (items : List (ℕ × ℕ)) → AllByRecursion (λ (item : ℕ × ℕ). item.1 ≤ before) items
@@ -131,8 +131,8 @@ all_distances before [] h = tt
 all_distances before (item ∷ items) h = (h.0, all_distances before items h.1)
 
 pub values_are_fit : (before : ℕ) (v : Value) → IsWritten before v → AreFit (entries_of v)
-values_are_fit before (value.text content) written = ((λ got past h. record { sized = λ place. text_size content place; power = (2, refl) }), tt)
-values_are_fit before (value.byte_list content) written = ((λ got past h. record { sized = λ place. byte_list_size content place; power = (2, refl) }), tt)
+values_are_fit before (value.text content) written = ((λ got history h. record { sized = λ place. text_size content place; power = (2, refl) }), tt)
+values_are_fit before (value.byte_list content) written = ((λ got history h. record { sized = λ place. byte_list_size content place; power = (2, refl) }), tt)
 values_are_fit before (value.plain_list size alignment items) written =
     list_fit plain_item size alignment before items (value.plain_list size alignment items) (plain_items size alignment before items written)
 values_are_fit before (value.reference_list distances) written =
@@ -143,16 +143,16 @@ values_are_fit before (value.union_vector items) written =
       (
         list.1.0,
         (
-          (λ got past h. record { sized = λ place. refl; power = (2, refl) }),
-          ((λ got past h. record { sized = λ place. refl; power = (0, refl) }), tt),
+          (λ got history h. record { sized = λ place. refl; power = (2, refl) }),
+          ((λ got history h. record { sized = λ place. refl; power = (0, refl) }), tt),
         ),
       ),
     )
 values_are_fit before (value.table entries) written = (
-  (λ got past h. record { sized = λ place. refl; power = (1, refl) }),
+  (λ got history h. record { sized = λ place. refl; power = (1, refl) }),
   (
-    (λ got past h. record { sized = λ place. body_length entries place; power = (body_power before entries written.fields).0 }),
-    ((λ got past h. record { sized = λ place. refl; power = (0, refl) }), tt),
+    (λ got history h. record { sized = λ place. body_length entries place; power = (body_power before entries written.fields).0 }),
+    ((λ got history h. record { sized = λ place. refl; power = (0, refl) }), tt),
   ),
 )
 

@@ -13,10 +13,10 @@ use Rattle.planus_read.specs.Stands.{at, FieldStands, ReferenceStands}
 use Rattle.planus_read.specs.TableReading.{FieldRead}
 use Rattle.planus_read.specs.Tables.{Reads, FieldAnswer}
 use Rattle.planus_read.specs.Values.{Value, Field, reference, table, field_at}
-use Rattle.planus_read.proofs.PieceLaws.{references_lead}
+use Rattle.planus_read.proofs.SliceLaws.{references_lead}
 use Rattle.planus_read.proofs.ReadsBack.{what_stands_reads_back}
 use Rattle.planus_read.proofs.TableReading.{fields_read}
-use Rattle.planus_write.specs.Past.{Past}
+use Rattle.planus_write.specs.History.{History}
 use Rattle.planus_write.specs.Contents.{Content, item, value, values, written, union_tags}
 use Rattle.planus_write.specs.Contents.{union_values}
 use Rattle.planus_write.specs.Contents.{written_tags, written_values, AllKept, FieldIs}
@@ -30,54 +30,54 @@ use Rattle.planus.specs.ReadBack.{ReferencesReadBack, ContentsReadBack, AbsentFi
 use Rattle.planus.specs.Views.{ShowsView}
 use Rattle.planus.specs.declared.tables.table_ref.TableRef.{TableRef}
 
-all_stand : (past : Past) (contents : List Value) (distances : List ℕ)
-    → AllKept past contents distances → AllStand past.written.bytes contents distances
-all_stand past [] [] kept = tt
-all_stand past (one ∷ others) (distance ∷ distances) kept =
-    (kept.0.stands, all_stand past others distances kept.1)
-all_stand past [] (distance ∷ distances) kept = kept
-all_stand past (one ∷ others) [] kept = kept
+all_stand : (history : History) (contents : List Value) (distances : List ℕ)
+    → AllKept history contents distances → AllStand history.written.bytes contents distances
+all_stand history [] [] kept = tt
+all_stand history (one ∷ others) (distance ∷ distances) kept =
+    (kept.0.stands, all_stand history others distances kept.1)
+all_stand history [] (distance ∷ distances) kept = kept
+all_stand history (one ∷ others) [] kept = kept
 
 mutual
-  field_holds : (past : Past) (content : Content) (field : Field) → FieldIs past content field
-      → FieldHolds past.written.bytes content field
-  field_holds past (item content) field is = is
-  field_holds past (value content) field is = (is.0, is.1, is.2.stands)
-  field_holds past (values contents) field is =
-      (is.0, is.1, (is.2.0, is.2.1.stands, all_stand past contents is.2.0 is.2.2))
-  field_holds past (written distance) field is = is
-  field_holds past (union_tags contents) field is =
-      (is.0, is.1, is.2, (is.3.0, is.3.1.stands, unions_hold past contents is.3.0 is.3.2))
-  field_holds past (union_values contents) field is =
-      (is.0, is.1, is.2, (is.3.0, is.3.1.stands, unions_hold past contents is.3.0 is.3.2))
-  field_holds past (written_tags distance) field is = is
-  field_holds past (written_values distance) field is = is
+  field_holds : (history : History) (content : Content) (field : Field) → FieldIs history content field
+      → FieldHolds history.written.bytes content field
+  field_holds history (item content) field is = is
+  field_holds history (value content) field is = (is.0, is.1, is.2.stands)
+  field_holds history (values contents) field is =
+      (is.0, is.1, (is.2.0, is.2.1.stands, all_stand history contents is.2.0 is.2.2))
+  field_holds history (written distance) field is = is
+  field_holds history (union_tags contents) field is =
+      (is.0, is.1, is.2, (is.3.0, is.3.1.stands, unions_hold history contents is.3.0 is.3.2))
+  field_holds history (union_values contents) field is =
+      (is.0, is.1, is.2, (is.3.0, is.3.1.stands, unions_hold history contents is.3.0 is.3.2))
+  field_holds history (written_tags distance) field is = is
+  field_holds history (written_values distance) field is = is
 
-  unions_hold : (past : Past) (contents : Unions) (unions : List (ℕ × ℕ))
-      → UnionsAre past contents unions → UnionsHold past.written.bytes contents unions
-  unions_hold past no_unions [] are = tt
-  unions_hold past (union_and tag content others) (union ∷ unions) are = (
+  unions_hold : (history : History) (contents : Unions) (unions : List (ℕ × ℕ))
+      → UnionsAre history contents unions → UnionsHold history.written.bytes contents unions
+  unions_hold history no_unions [] are = tt
+  unions_hold history (union_and tag content others) (union ∷ unions) are = (
     are.0,
-    field_holds past content (reference union.1) are.1,
-    unions_hold past others unions are.2,
+    field_holds history content (reference union.1) are.1,
+    unions_hold history others unions are.2,
   )
-  unions_hold past no_unions (union ∷ unions) are = are
-  unions_hold past (union_and tag content others) [] are = are
+  unions_hold history no_unions (union ∷ unions) are = are
+  unions_hold history (union_and tag content others) [] are = are
 
-fields_hold : (past : Past) (contents : List (ℕ × Content)) (fields : List (ℕ × Field))
-    → FieldsAre past contents fields → FieldsHold past.written.bytes contents fields
-fields_hold past [] [] are = tt
-fields_hold past (content ∷ contents) (field ∷ fields) are =
-    (are.0, field_holds past content.1 field.1 are.1, fields_hold past contents fields are.2)
-fields_hold past [] (field ∷ fields) are = are
-fields_hold past (content ∷ contents) [] are = are
+fields_hold : (history : History) (contents : List (ℕ × Content)) (fields : List (ℕ × Field))
+    → FieldsAre history contents fields → FieldsHold history.written.bytes contents fields
+fields_hold history [] [] are = tt
+fields_hold history (content ∷ contents) (field ∷ fields) are =
+    (are.0, field_holds history content.1 field.1 are.1, fields_hold history contents fields are.2)
+fields_hold history [] (field ∷ fields) are = are
+fields_hold history (content ∷ contents) [] are = are
 
-pub kept_tables_stand : (past : Past) (contents : List (ℕ × Option Content)) (distance : ℕ)
-    → TableIsKept past contents distance → are_apart contents ≡ true
-    → TableStands past.written.bytes contents distance
-kept_tables_stand past contents distance is apart = record {
+pub kept_tables_stand : (history : History) (contents : List (ℕ × Option Content)) (distance : ℕ)
+    → TableIsKept history contents distance → are_apart contents ≡ true
+    → TableStands history.written.bytes contents distance
+kept_tables_stand history contents distance is apart = record {
   fields = is.fields;
-  hold = fields_hold past (there_of contents) is.fields is.are;
+  hold = fields_hold history (there_of contents) is.fields is.are;
   apart = apart;
   stands = is.table_kept.stands;
 }

@@ -5,11 +5,11 @@ use Rattle.std.specs.Borrow.{Bor}
 use Rattle.std.specs.Str.{IsUtf8}
 use Rattle.planus_read.specs.declared.errors.ErrorKind.{ErrorKind}
 use Rattle.planus_read.specs.Bytes.{position_of}
-use Rattle.planus_read.specs.Pieces.{ShowsBytes}
+use Rattle.planus_read.specs.Slices.{ShowsBytes}
 use Rattle.planus_read.specs.Reading.{text_reading, byte_list_reading}
 use Rattle.planus_read.specs.Stands.{at, FieldStands}
 use Rattle.planus_read.specs.Values.{Field, text, byte_list}
-use Rattle.planus_read.proofs.PieceLaws.{references_lead}
+use Rattle.planus_read.proofs.SliceLaws.{references_lead}
 use Rattle.planus_read.proofs.ReadingLaws.{is_shown, lawful_text, lawful_byte_list}
 use Rattle.planus_read.proofs.ReadsBack.{what_stands_reads_back}
 use Rattle.planus_write.specs.Contents.{value}

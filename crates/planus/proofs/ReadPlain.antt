@@ -22,7 +22,7 @@ use Rattle.planus_read.specs.Plain.{Shape, plain_reading}
 use Rattle.planus_read.specs.Bytes.{BytesStand}
 use Rattle.planus_read.specs.Stands.{FieldStands}
 use Rattle.planus_read.specs.Values.{Field}
-use Rattle.planus_read.proofs.PieceLaws.{bytes_in_piece}
+use Rattle.planus_read.proofs.SliceLaws.{bytes_in_slice}
 use Rattle.planus_read.proofs.Reading.{stood_inside}
 use Rattle.planus_fields.specs.Contents.{holds_if, unless}
 use Rattle.planus.specs.Holds.{holds_plain}
@@ -67,11 +67,11 @@ module _ {T : Type 0} {size alignment : ℕ} (shape : Shape T size alignment) wh
           → FieldStands B (start + f) field → (r : Result T ErrorKind)
           → reads_plain shape (drop start B) start f r → IsOkAnd r (λ found. found ≡ x)
       answered B x field fits holds start f stands (Ok found) there =
-          let here = bytes_in_piece B start f (shape.encoded x)
+          let here = bytes_in_slice B start f (shape.encoded x)
           (subst (λ (field : Field). FieldStands B (start + f) field) holds stands) in
           shape.again (drop start B) f x found fits here there
       answered B x field fits holds start f stands (Err e) broken =
-          let here = bytes_in_piece B start f (shape.encoded x)
+          let here = bytes_in_slice B start f (shape.encoded x)
           (subst (λ (field : Field). FieldStands B (start + f) field) holds stands) in
           absurd
           (none_broken (plain_reading shape (drop start B) f).clauses e broken
@@ -152,8 +152,8 @@ module _ {T : Type 0} {kind : PlainGhosts T} where
       ap (λ (y : T). Some y)
       (kind.shape.again (view_of vector).bytes (i * kind.SIZE) x y fits
       (item_stands B xs x vector i are there) gets.1)
-  item_read B xs x vector i None are there fits past =
-      absurd (let within = item_within B xs x vector i are there in omega (arith, within, past))
+  item_read B xs x vector i None are there fits history =
+      absurd (let within = item_within B xs x vector i are there in omega (arith, within, history))
 
   result_read : (B : List ℕ) (xs : List T) (x : T)
       (vector : VectorOf (SliceView (Result T Error) T kind)) (i : ℕ) (r : Option (Result T Error))
@@ -170,8 +170,8 @@ module _ {T : Type 0} {kind : PlainGhosts T} where
       gets.1.0.error_kind gets.1.1.0
       (all_hold kind.shape (view_of vector).bytes (i * kind.SIZE) x fits
       (item_stands B xs x vector i are there)))
-  result_read B xs x vector i None are there fits past =
-      absurd (let within = item_within B xs x vector i are there in omega (arith, within, past))
+  result_read B xs x vector i None are there fits history =
+      absurd (let within = item_within B xs x vector i are there in omega (arith, within, history))
 
 pub results_read_back : {T : Type 0} (kind : PlainGhosts T) → PlainResultsReadBack kind
 results_read_back kind B xs x vector i r are there fits gets =

@@ -14,7 +14,7 @@ use Rattle.planus_read.specs.TableReading.{HasFields, SlotReads, SomeOf, UnionRe
 use Rattle.planus_read.specs.Tables.{ReadsBoth, UnionAnswer, UnionVectorAnswer, slot_of}
 use Rattle.planus_read.specs.Values.{Field, reference, tags, values as values_field, union_vector}
 use Rattle.planus_read.specs.Values.{field_at, slot_count}
-use Rattle.planus_read.proofs.PieceLaws.{references_lead}
+use Rattle.planus_read.proofs.SliceLaws.{references_lead}
 use Rattle.planus_read.proofs.TableReading.{slot_below, unions_read, union_vectors_read}
 use Rattle.planus_unions.proofs.ReadBack.{union_vectors}
 use Rattle.planus_view.specs.declared.union_vector.UnionSliceView.{UnionSliceView}

@@ -6,7 +6,7 @@ use Rattle.planus_read.specs.declared.plain.Plain.{Ghosts as PlainGhosts}
 use Rattle.planus_read.specs.Bytes.{position_of}
 use Rattle.planus_read.specs.Stands.{FieldStands}
 use Rattle.planus_read.specs.Values.{Value, Field, plain_list, reference_list}
-use Rattle.planus_read.proofs.PieceLaws.{references_lead}
+use Rattle.planus_read.proofs.SliceLaws.{references_lead}
 use Rattle.planus_view.specs.declared.vector.SliceView.{SliceView}
 use Rattle.planus_view.specs.declared.vector_of.VectorOf.{VectorOf}
 use Rattle.planus_view.proofs.ReadBack.{plain_lists, reference_lists}

@@ -5,7 +5,7 @@ use Rattle.planus_read.specs.declared.located.Error.{Error}
 use Rattle.planus_read.specs.declared.table_reader.Table.{Table}
 use Rattle.planus_read.specs.Located.{Located}
 use Rattle.planus_read.specs.Stands.{ReferenceStands}
-use Rattle.planus_read.proofs.PieceLaws.{references_lead}
+use Rattle.planus_read.proofs.SliceLaws.{references_lead}
 use Rattle.planus_write.specs.Contents.{Content}
 use Rattle.planus.specs.ReadBack.{TableStands, TableHolds}
 use Rattle.planus.specs.ReadKinds.{reads_view}
@@ -33,8 +33,8 @@ module _ {V : Type 0} (name : List ℕ) (table_of : V → Table) (bytes : List �
   root_read K r h = record {
     answer = h;
     read_back = λ contents distance stands referred. stood contents distance stands referred r h;
-    written = λ contents old new offset identifier past writes reached gives apart.
-        let kept = writes past.0 past.1 in
+    written = λ contents old new offset identifier history writes reached gives apart.
+        let kept = writes history.0 history.1 in
         let stands = finished_tables_stand {T = K} contents kept.0 new offset identifier bytes kept.1
         kept.3.1 apart reached gives in
         stood contents offset.distance stands.0 stands.1 r h;

@@ -6,7 +6,7 @@ use Rattle.std.proofs.lemmas.Bool.{and_from, and_parts, leb-true, eqb-false, ne_
 use Rattle.planus_read.specs.Values.{Field, table, field_at, slot_count}
 use Rattle.planus_read.specs.Aligned.{field_alignment}
 use Rattle.planus_write.specs.Kept.{IsKept}
-use Rattle.planus_write.specs.Past.{Past}
+use Rattle.planus_write.specs.History.{History}
 use Rattle.planus_write.specs.Preparing.{WritesEntries}
 use Rattle.planus_write.specs.Parts.{entries_of}
 use Rattle.planus_write.specs.State.{State}
@@ -255,32 +255,32 @@ pub contents_kept : {T : Type 0} (n : ℕ) (all : List Declared) (fields : List 
     → AllByRecursion (λ entry. IsField (length between.bytes) entry.1) fields
     → (unit : Unit {0}) (offset : Offset T) (new : State)
     → WritesTable (declared_of fields) (λ place. body_bytes place fields) between (Ok unit) new
-    → offset.distance ≡ length new.bytes → (past : Past)
-    → Comes past between (λ after. FieldsAre after (there_of contents) fields)
-    → Comes past new (λ after. StillKept past after × TableIsKept after contents offset.distance)
-contents_kept n all fields contents between rules among stand unit offset new written at past
+    → offset.distance ≡ length new.bytes → (history : History)
+    → Comes history between (λ after. FieldsAre after (there_of contents) fields)
+    → Comes history new (λ after. StillKept history after × TableIsKept after contents offset.distance)
+contents_kept n all fields contents between rules among stand unit offset new written at history
     prepared =
     let mid = prepared.0 in
-    let is_past = prepared.1 in
+    let is_history = prepared.1 in
     let entries = subst
     (λ (slots : ℕ).
     WritesEntries (object_entries slots (declared_of fields) (λ place. body_bytes place fields)) []
     between (Ok written.0) new)
     (slots_counted fields) written.1 in
     let placed = entries_put (entries_of (table fields)) [] between written.0 new mid entries
-    is_past in
-    let stand_past = subst
+    is_history in
+    let stand_history = subst
     (λ (bytes : List ℕ). AllByRecursion (λ entry. IsField (length bytes) entry.1) fields)
-    (sym is_past.bytes) stand in
-    let kept = values_are_kept between.switches (table fields) mid written.0 placed.0
-    (is_table n (length mid.written.bytes) fields all rules among stand_past) is_past.kept
+    (sym is_history.bytes) stand in
+    let kept = values_are_kept between.settings (table fields) mid written.0 placed.0
+    (is_table n (length mid.written.bytes) fields all rules among stand_history) is_history.kept
     placed.1 in
-    let extends = extends_on past mid placed.0 prepared.2 kept.2 in (
+    let extends = extends_on history mid placed.0 prepared.2 kept.2 in (
       placed.0,
       placed.2,
       extends,
       (
-        (λ value named before. kept_stays past placed.0 value named extends before),
+        (λ value named before. kept_stays history placed.0 value named extends before),
         record {
           fields = fields;
           are = fields_stay mid placed.0 (there_of contents) fields kept.2 prepared.3;
@@ -302,7 +302,7 @@ pub fields_kept : {T : Type 0} (n : ℕ) (all others : List Declared) (fields la
     → WritesRest fields last [] [] between offset.distance new
 fields_kept n all others fields last between rules among last_among stand last_stand unit offset new
     written at =
-    λ past before last_before is_past are last_are.
+    λ history before last_before is_history are last_are.
     let same : (before ++ []) ++ (last_before ++ []) ≡ before ++ last_before
     = ap (λ contents. contents ++ (last_before ++ [])) (append-nil before)
     ∙ ap (λ contents. before ++ contents) (append-nil last_before) in
@@ -310,8 +310,8 @@ fields_kept n all others fields last between rules among last_among stand last_s
     (subst (λ some. Among some (all ++ others)) (sym (entries_append fields last))
     (among_both (declared_of fields) (declared_of last) all others among last_among))
     (stand_both (length between.bytes) fields last stand last_stand)
-    unit offset new written at past
-    (past, is_past, extends_itself past, contents_both past before last_before fields last are last_are) in (
+    unit offset new written at history
+    (history, is_history, extends_itself history, contents_both history before last_before fields last are last_are) in (
       kept.0,
       kept.1,
       kept.2,

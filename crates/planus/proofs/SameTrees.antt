@@ -11,13 +11,13 @@ use Rattle.std.proofs.Common.{length-append}
 use Rattle.planus_read.specs.Values as value
 use Rattle.planus_read.specs.Values.{Value, Field}
 use Rattle.planus_read.specs.Stands.{ReferenceStands}
-use Rattle.planus_write.specs.Shared.{Switches}
-use Rattle.planus_write.specs.Past.{Past, Adds, PutsAll}
+use Rattle.planus_write.specs.Shared.{CacheSettings}
+use Rattle.planus_write.specs.History.{History, Adds, PutsAll}
 use Rattle.planus_write.specs.Parts.{Named, named_by, entries_of, finish_part, sized_finish_part}
 use Rattle.planus_write.specs.lemmas.StandingLaws.{finishes_lead, sized_finishes_stand}
 use Rattle.planus.specs.Steps.{Step, text, bytes, numbers, refs, unions, table, finish, clear}
 use Rattle.planus.specs.Steps.{Front, root_first, size_first}
-use Rattle.planus.specs.Headline.{root_at}
+use Rattle.planus.specs.FinishHolds.{root_at}
 use Rattle.planus.specs.Steps.{FieldStep, number_field, ref_field, tags_field, values_field}
 use Rattle.planus.specs.Slots.{greatest_field, place_fault, alignment_of}
 use Rattle.planus.specs.Runs.{Listed, State, cleared, Writes, Advances, LeadsTo, nothing_written, value_of}
@@ -146,8 +146,8 @@ module _ (ones others : List Listed) where
 abbrev steps_in : List Listed → List ℕ
 steps_in listed = map (λ one. one.step) listed
 
-module _ (all done : List Step) (past other_past : Past) (ones others : List Listed) where
-  place_same : (one other : Listed) → one.step ≡ other.step → ValueKept all done past ones one → ValueKept all done other_past others other → SamePlace all ones others one other
+module _ (all done : List Step) (history other_history : History) (ones others : List Listed) where
+  place_same : (one other : Listed) → one.step ≡ other.step → ValueKept all done history ones one → ValueKept all done other_history others other → SamePlace all ones others one other
   place_same one other same v w =
       let again : slice_get all one.step ≡ Some w.step = ap (slice_get all) same ∙ w.there in
       let step : w.step ≡ v.step = one_result (slice_get all one.step) w.step v.step again v.there in
@@ -163,7 +163,7 @@ module _ (all done : List Step) (past other_past : Past) (ones others : List Lis
         same = value_same ones others v.step v.value w.value v.is_value is_other;
       }
 
-  places_same : (xs ys : List Listed) → steps_in xs ≡ steps_in ys → AllByRecursion (ValueKept all done past ones) xs → AllByRecursion (ValueKept all done other_past others) ys
+  places_same : (xs ys : List Listed) → steps_in xs ≡ steps_in ys → AllByRecursion (ValueKept all done history ones) xs → AllByRecursion (ValueKept all done other_history others) ys
       → AllPairs (SamePlace all ones others) xs ys
   places_same [] [] same h k = tt
   places_same (x ∷ xs) (y ∷ ys) same h k =
@@ -179,16 +179,16 @@ record Alike (all : List Step) (one other : State) : Type 0 where
   pub listed : steps_in one.listed ≡ steps_in other.listed
   pub finished : AllPairs (SameTrees all) one.finished other.finished
 
-module _ (switches others : Switches) (all done : List Step) (a b : State) (h : Kept switches all done a) (k : Kept others all done b) (alike : Alike all a b) where
-  value_alike : (step : Step) (c d : State) (x : Writes switches a step c) (y : Writes others b step d) → ((s : State) (past : Past) → finishes_added step s past ≡ [])
+module _ (settings others : CacheSettings) (all done : List Step) (a b : State) (h : Kept settings all done a) (k : Kept others all done b) (alike : Alike all a b) where
+  value_alike : (step : Step) (c d : State) (x : Writes settings a step c) (y : Writes others b step d) → ((s : State) (history : History) → finishes_added step s history ≡ [])
       → option_map entries_of (value_of a.listed step) ≡ Some x.entries → option_map entries_of (value_of b.listed step) ≡ Some y.entries → Alike all c d
   value_alike step c d x y none are also =
       let v = made_of entries_of (value_of a.listed step) x.entries are in
       let w = made_of entries_of (value_of b.listed step) y.entries also in
       let listed : c.listed ≡ a.listed ++ record { step = a.next; named = named_by v.0 x.got } ∷ [] = x.listed ∙ ap (λ o. a.listed ++ values_added o a.next x.got) v.1 in
       let listed_too : d.listed ≡ b.listed ++ record { step = b.next; named = named_by w.0 y.got } ∷ [] = y.listed ∙ ap (λ o. b.listed ++ values_added o b.next y.got) w.1 in
-      let finished : c.finished ≡ a.finished = x.finished ∙ ap (λ fs. a.finished ++ fs) (none a c.past) ∙ append-nil a.finished in
-      let finished_too : d.finished ≡ b.finished = y.finished ∙ ap (λ fs. b.finished ++ fs) (none b d.past) ∙ append-nil b.finished in
+      let finished : c.finished ≡ a.finished = x.finished ∙ ap (λ fs. a.finished ++ fs) (none a c.history) ∙ append-nil a.finished in
+      let finished_too : d.finished ≡ b.finished = y.finished ∙ ap (λ fs. b.finished ++ fs) (none b d.history) ∙ append-nil b.finished in
       record {
         next = x.next ∙ ap (λ n. n + 1) alike.next ∙ sym y.next;
         listed = ap steps_in listed ∙ map_push (λ (one : Listed). one.step) a.listed (record { step = a.next; named = named_by v.0 x.got })
@@ -197,29 +197,29 @@ module _ (switches others : Switches) (all done : List Step) (a b : State) (h : 
         finished = subst (λ fs. AllPairs (SameTrees all) fs d.finished) (sym finished) (subst (λ fs. AllPairs (SameTrees all) a.finished fs) (sym finished_too) alike.finished);
       }
 
-  leads : (sw : Switches) (s after : State) (front : Front) (root : ℕ) (identifier : Option (List ℕ)) → Kept sw all done s → (x : Writes sw s (finish front root identifier) after)
-      → (to : ℕ) × (value_at s.listed root ≡ Some to) × ReferenceStands after.past.written.bytes (root_at front) to
+  leads : (sw : CacheSettings) (s after : State) (front : Front) (root : ℕ) (identifier : Option (List ℕ)) → Kept sw all done s → (x : Writes sw s (finish front root identifier) after)
+      → (to : ℕ) × (value_at s.listed root ≡ Some to) × ReferenceStands after.history.written.bytes (root_at front) to
   leads sw s after root_first root identifier kept x =
       let made = made_of (finish_of root_first identifier) (value_at s.listed root) x.entries x.are in
-      let puts : PutsAll sw (finish_of root_first identifier made.0) [] s.past x.got after.past
-      = subst (λ entries. PutsAll sw entries [] s.past x.got after.past) (sym made.2) x.puts in
-      let adds : Adds (finish_part made.0 identifier s.past.written.promises) None s.past puts.0 after.past
-      = subst (Adds (finish_part made.0 identifier s.past.written.promises) None s.past puts.0) (sym puts.3.1) puts.2 in
-      (made.0, made.1, finishes_lead made.0 identifier s.past.written after.past.written (root_behind all done s root made.0 kept.values made.1) adds.placed)
+      let puts : PutsAll sw (finish_of root_first identifier made.0) [] s.history x.got after.history
+      = subst (λ entries. PutsAll sw entries [] s.history x.got after.history) (sym made.2) x.puts in
+      let adds : Adds (finish_part made.0 identifier s.history.written.promises) None s.history puts.0 after.history
+      = subst (Adds (finish_part made.0 identifier s.history.written.promises) None s.history puts.0) (sym puts.3.1) puts.2 in
+      (made.0, made.1, finishes_lead made.0 identifier s.history.written after.history.written (root_behind all done s root made.0 kept.values made.1) adds.placed)
   leads sw s after size_first root identifier kept x =
       let made = made_of (finish_of size_first identifier) (value_at s.listed root) x.entries x.are in
-      let puts : PutsAll sw (finish_of size_first identifier made.0) [] s.past x.got after.past
-      = subst (λ entries. PutsAll sw entries [] s.past x.got after.past) (sym made.2) x.puts in
-      let adds : Adds (sized_finish_part made.0 identifier s.past.written.promises) None s.past puts.0 after.past
-      = subst (Adds (sized_finish_part made.0 identifier s.past.written.promises) None s.past puts.0) (sym puts.3.1) puts.2 in
-      (made.0, made.1, (sized_finishes_stand made.0 identifier s.past.written after.past.written adds.placed).leads (root_behind all done s root made.0 kept.values made.1))
+      let puts : PutsAll sw (finish_of size_first identifier made.0) [] s.history x.got after.history
+      = subst (λ entries. PutsAll sw entries [] s.history x.got after.history) (sym made.2) x.puts in
+      let adds : Adds (sized_finish_part made.0 identifier s.history.written.promises) None s.history puts.0 after.history
+      = subst (Adds (sized_finish_part made.0 identifier s.history.written.promises) None s.history puts.0) (sym puts.3.1) puts.2 in
+      (made.0, made.1, (sized_finishes_stand made.0 identifier s.history.written after.history.written adds.placed).leads (root_behind all done s root made.0 kept.values made.1))
 
   finish_alike : (front : Front) (root : ℕ) (identifier : Option (List ℕ)) (c d : State) → slice_get all (length done) ≡ Some (finish front root identifier)
-      → Writes switches a (finish front root identifier) c → Writes others b (finish front root identifier) d → Alike all c d
+      → Writes settings a (finish front root identifier) c → Writes others b (finish front root identifier) d → Alike all c d
   finish_alike front root identifier c d there x y =
-      let one = leads switches a c front root identifier h x in
+      let one = leads settings a c front root identifier h x in
       let other = leads others b d front root identifier k y in
-      let given : SameTrees all (record { bytes = c.past.written.bytes; places = a.listed }) (record { bytes = d.past.written.bytes; places = b.listed })
+      let given : SameTrees all (record { bytes = c.history.written.bytes; places = a.listed }) (record { bytes = d.history.written.bytes; places = b.listed })
       = record {
         number = length done;
         front = front;
@@ -232,38 +232,38 @@ module _ (switches others : Switches) (all done : List Step) (a b : State) (h : 
         other_distance = other.0;
         other_root_is = other.1;
         other_leads = other.2;
-        places = places_same all done a.past b.past a.listed b.listed a.listed b.listed alike.listed h.values k.values;
+        places = places_same all done a.history b.history a.listed b.listed a.listed b.listed alike.listed h.values k.values;
       } in
       record {
         next = x.next ∙ ap (λ n. n + 1) alike.next ∙ sym y.next;
         listed = ap steps_in (x.listed ∙ append-nil a.listed) ∙ alike.listed ∙ sym (ap steps_in (y.listed ∙ append-nil b.listed));
-        finished = subst (λ fs. AllPairs (SameTrees all) fs d.finished) (sym x.finished) (subst (λ fs. AllPairs (SameTrees all) (a.finished ++ record { bytes = c.past.written.bytes; places = a.listed } ∷ []) fs) (sym y.finished)
-            (pairs_push (SameTrees all) a.finished b.finished (record { bytes = c.past.written.bytes; places = a.listed }) (record { bytes = d.past.written.bytes; places = b.listed }) alike.finished given));
+        finished = subst (λ fs. AllPairs (SameTrees all) fs d.finished) (sym x.finished) (subst (λ fs. AllPairs (SameTrees all) (a.finished ++ record { bytes = c.history.written.bytes; places = a.listed } ∷ []) fs) (sym y.finished)
+            (pairs_push (SameTrees all) a.finished b.finished (record { bytes = c.history.written.bytes; places = a.listed }) (record { bytes = d.history.written.bytes; places = b.listed }) alike.finished given));
       }
 
-  step_alike : (step : Step) (c d : State) → slice_get all (length done) ≡ Some step → Advances switches a step c → Advances others b step d → Alike all c d
-  step_alike (text content) c d there x y = value_alike (text content) c d x y (λ s past. refl) x.are y.are
-  step_alike (bytes content) c d there x y = value_alike (bytes content) c d x y (λ s past. refl) x.are y.are
-  step_alike (numbers width items) c d there x y = value_alike (numbers width items) c d x y (λ s past. refl) x.are y.are
-  step_alike (refs steps) c d there x y = value_alike (refs steps) c d x y (λ s past. refl) x.are y.are
-  step_alike (unions items) c d there x y = value_alike (unions items) c d x y (λ s past. refl) x.are y.are
-  step_alike (table fields) c d there x y = value_alike (table fields) c d x y (λ s past. refl) x.are y.are
+  step_alike : (step : Step) (c d : State) → slice_get all (length done) ≡ Some step → Advances settings a step c → Advances others b step d → Alike all c d
+  step_alike (text content) c d there x y = value_alike (text content) c d x y (λ s history. refl) x.are y.are
+  step_alike (bytes content) c d there x y = value_alike (bytes content) c d x y (λ s history. refl) x.are y.are
+  step_alike (numbers width items) c d there x y = value_alike (numbers width items) c d x y (λ s history. refl) x.are y.are
+  step_alike (refs steps) c d there x y = value_alike (refs steps) c d x y (λ s history. refl) x.are y.are
+  step_alike (unions items) c d there x y = value_alike (unions items) c d x y (λ s history. refl) x.are y.are
+  step_alike (table fields) c d there x y = value_alike (table fields) c d x y (λ s history. refl) x.are y.are
   step_alike (finish front root identifier) c d there x y = finish_alike front root identifier c d there x y
   step_alike clear c d there x y =
       subst (λ s. Alike all s d) (sym x) (subst (λ s. Alike all (cleared a) s) (sym y)
       (record { next = ap (λ n. n + 1) alike.next; listed = refl; finished = alike.finished }))
 
-stay_alike : (switches others : Switches) (all done rest : List Step) → all ≡ done ++ rest → (a b c d : State) → LeadsTo switches a rest c → LeadsTo others b rest d → Kept switches all done a → Kept others all done b
+stay_alike : (settings others : CacheSettings) (all done rest : List Step) → all ≡ done ++ rest → (a b c d : State) → LeadsTo settings a rest c → LeadsTo others b rest d → Kept settings all done a → Kept others all done b
     → Alike all a b → Alike all c d
-stay_alike switches others all done [] whole a b c d x y h k alike = subst (λ s. Alike all s d) (sym x) (subst (λ s. Alike all a s) (sym y) alike)
-stay_alike switches others all done (step ∷ rest) whole a b c d x y h k alike =
+stay_alike settings others all done [] whole a b c d x y h k alike = subst (λ s. Alike all s d) (sym x) (subst (λ s. Alike all a s) (sym y) alike)
+stay_alike settings others all done (step ∷ rest) whole a b c d x y h k alike =
     let there : slice_get all (length done) ≡ Some step = ap (λ xs. slice_get xs (length done)) whole ∙ get_last done step rest in
     let again : all ≡ (done ++ step ∷ []) ++ rest = whole ∙ sym (append_assoc done (step ∷ []) rest) in
     let count : length done + 1 ≡ length (done ++ step ∷ []) = sym (length-append done (step ∷ [])) in
     let up_to : take (length done + 1) all ≡ done ++ step ∷ [] = ap (take (length done + 1)) again ∙ ap (λ n. take n ((done ++ step ∷ []) ++ rest)) count ∙ take-append_seam (done ++ step ∷ []) rest in
-    stay_alike switches others all (done ++ step ∷ []) rest again x.0 y.0 c d x.2 y.2
-    (step_kept switches all done step a x.0 there up_to x.1 h) (step_kept others all done step b y.0 there up_to y.1 k)
-    (step_alike switches others all done a b h k alike step x.0 y.0 there x.1 y.1)
+    stay_alike settings others all (done ++ step ∷ []) rest again x.0 y.0 c d x.2 y.2
+    (step_kept settings all done step a x.0 there up_to x.1 h) (step_kept others all done step b y.0 there up_to y.1 k)
+    (step_alike settings others all done a b h k alike step x.0 y.0 there x.1 y.1)
 
 pub trees_are_the_same : TreesAreTheSame
 trees_are_the_same one other steps finished others x y =

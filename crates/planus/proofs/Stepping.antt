@@ -11,11 +11,11 @@ use Rattle.planus_read.specs.Values.{Value}
 use Rattle.planus_back.specs.Parts.{Part}
 use Rattle.planus_back.specs.Promises.{Promise}
 use Rattle.planus_write.specs.Limits.{IsWithinLimit}
-use Rattle.planus_write.specs.Shared.{Contents, Switches, shared_as}
-use Rattle.planus_write.specs.Past.{Past, Entry, PutsAll, no_past, part_after}
+use Rattle.planus_write.specs.Shared.{Contents, CacheSettings, shared_as}
+use Rattle.planus_write.specs.History.{History, Entry, PutsAll, no_history, part_after}
 use Rattle.planus_write.specs.State as builder
-use Rattle.planus_write.specs.State.{IsPast}
-use Rattle.planus_write.specs.Placing.{Outcome, PutsDown, Refuses, RefusedMemory, MayLackMemory, then_does}
+use Rattle.planus_write.specs.State.{IsHistoryOf}
+use Rattle.planus_write.specs.Placing.{Outcome, PlacesEntry, Refuses, RefusedMemory, MayLackMemory, then_does}
 use Rattle.planus_write.specs.Finishing.{PutsInFront, WritesFront, LendsAll}
 use Rattle.planus_write.specs.Preparing.{IsPrepared, Answers, WritesText, WritesByteList, WritesList, WritesEntries}
 use Rattle.planus_write.specs.lemmas.ListLaws.{entries_grow, ready_list_is_put}
@@ -64,37 +64,37 @@ within : (shared : Option Contents) (part : Part) (old : builder.State) (promise
 within None part old promises h = (h.0, h.1, h.2.0)
 within (Some contents) part old promises h = h
 
-asks : (entry : Entry) (got : List ℕ) (old : builder.State) (past : Past) → IsPast old past → RefusedMemory entry got old past → AsksForMemory old.switches entry got past
-asks entry got old past is_past refused =
-    let part : Part = part_after entry got past in
+asks : (entry : Entry) (got : List ℕ) (old : builder.State) (history : History) → IsHistoryOf old history → RefusedMemory entry got old history → AsksForMemory old.settings entry got history
+asks entry got old history is_history refused =
+    let part : Part = part_after entry got history in
     record {
       is_new = refused.is_new;
-      fits = subst (λ n. IsWithinLimit n part.size part.alignment past.written.promises) (sym (ap length is_past.bytes))
-          (within (shared_as old.switches entry.contents) part old past.written.promises refused.lacks);
+      fits = subst (λ n. IsWithinLimit n part.size part.alignment history.written.promises) (sym (ap length is_history.bytes))
+          (within (shared_as old.settings entry.contents) part old history.written.promises refused.lacks);
     }
 
-entries_refused : (entries : List Entry) (got : List ℕ) (old new : builder.State) (past : Past) → WritesEntries entries got old (Err OutOfMemory) new → IsPast old past
-    → ComesToRefusedEntry old.switches entries got past
-entries_refused [] got old new past h is_past = tt
-entries_refused (entry ∷ entries) got old new past (inl refused) is_past = inl (asks entry got old past is_past (refused.cause past is_past))
-entries_refused (entry ∷ entries) got old new past (inr h) is_past =
-    let first = h.2.puts past is_past in
+entries_refused : (entries : List Entry) (got : List ℕ) (old new : builder.State) (history : History) → WritesEntries entries got old (Err OutOfMemory) new → IsHistoryOf old history
+    → ComesToRefusedEntry old.settings entries got history
+entries_refused [] got old new history h is_history = tt
+entries_refused (entry ∷ entries) got old new history (inl refused) is_history = inl (asks entry got old history is_history (refused.cause history is_history))
+entries_refused (entry ∷ entries) got old new history (inr h) is_history =
+    let first = h.2.puts history is_history in
     let rest = entries_refused entries (got ++ h.0 ∷ []) h.1 new first.0 h.3 first.2 in
-    inr (h.0, first.0, first.1, subst (λ switches. ComesToRefusedEntry switches entries (got ++ h.0 ∷ []) first.0) h.2.switches rest)
+    inr (h.0, first.0, first.1, subst (λ settings. ComesToRefusedEntry settings entries (got ++ h.0 ∷ []) first.0) h.2.settings rest)
 
-all_put : (switches : Switches) (entries : List Entry) (got : List ℕ) (past : Past) (all : List ℕ) (after : Past) → PutsAll switches entries got past all after → ComesToRefusedEntry switches entries got past
-all_put switches [] got past all after h = tt
-all_put switches (entry ∷ entries) got past all after h = inr (h.0, h.1, h.2, all_put switches entries (got ++ h.0 ∷ []) h.1 all after h.3)
+all_put : (settings : CacheSettings) (entries : List Entry) (got : List ℕ) (history : History) (all : List ℕ) (after : History) → PutsAll settings entries got history all after → ComesToRefusedEntry settings entries got history
+all_put settings [] got history all after h = tt
+all_put settings (entry ∷ entries) got history all after h = inr (h.0, h.1, h.2, all_put settings entries (got ++ h.0 ∷ []) h.1 all after h.3)
 
 module _ {A : Type 0} (name : A → Named) (outcome : Outcome A) (step : Step) (value : Value) (old : ReplayState)
     (is_value : value_of (values_listed old) step ≡ Some value)
     (are : entries_put (values_listed old) step ≡ Some (entries_of value))
     (writes : (answer : A) (after : builder.State) → outcome old.builder (Ok answer) after
     → (got : List ℕ) × WritesEntries (entries_of value) [] old.builder (Ok got) after × (named_by value got ≡ name answer)) where
-  written : (new : ReplayState) (noted : Noted name outcome old new) (past after : Past) → finishes_added step (state_with old past) after ≡ []
-      → PutsAll old.builder.switches (entries_of value) [] past (writes noted.answer new.builder noted.done).0 after
-      → Writes old.builder.switches (state_with old past) step (state_with new after)
-  written new noted past after none puts =
+  written : (new : ReplayState) (noted : Noted name outcome old new) (history after : History) → finishes_added step (state_with old history) after ≡ []
+      → PutsAll old.builder.settings (entries_of value) [] history (writes noted.answer new.builder noted.done).0 after
+      → Writes old.builder.settings (state_with old history) step (state_with new after)
+  written new noted history after none puts =
       let did = writes noted.answer new.builder noted.done in
       let place : Named = written_named noted.noted in
       record {
@@ -113,30 +113,30 @@ module _ {A : Type 0} (name : A → Named) (outcome : Outcome A) (step : Step) (
             ∙ ap (λ (more : List Finish). map finish_given old.finished.items ++ more) (sym none);
       }
 
-  pub runs_on : (new : ReplayState) → Noted name outcome old new → ((past after : Past) → finishes_added step (state_with old past) after ≡ []) → (past : Past) → IsPast old.builder past
-      → (after : Past) × IsPast new.builder after × Writes old.builder.switches (state_with old past) step (state_with new after)
-  runs_on new noted none past is_past =
+  pub runs_on : (new : ReplayState) → Noted name outcome old new → ((history after : History) → finishes_added step (state_with old history) after ≡ []) → (history : History) → IsHistoryOf old.builder history
+      → (after : History) × IsHistoryOf new.builder after × Writes old.builder.settings (state_with old history) step (state_with new after)
+  runs_on new noted none history is_history =
       let did = writes noted.answer new.builder noted.done in
-      let put = puts_entries (entries_of value) [] old.builder did.0 new.builder past did.1 is_past in
-      (put.0, put.2, written new noted past put.0 (none past put.0) put.1)
+      let put = puts_entries (entries_of value) [] old.builder did.0 new.builder history did.1 is_history in
+      (put.0, put.2, written new noted history put.0 (none history put.0) put.1)
 
-  pub switches_stay : (new : ReplayState) → Noted name outcome old new → new.builder.switches ≡ old.builder.switches
-  switches_stay new noted =
+  pub settings_stay : (new : ReplayState) → Noted name outcome old new → new.builder.settings ≡ old.builder.settings
+  settings_stay new noted =
       let did = writes noted.answer new.builder noted.done in
-      (entries_grow (entries_of value) [] old.builder (Ok did.0) new.builder did.1).switches
+      (entries_grow (entries_of value) [] old.builder (Ok did.0) new.builder did.1).settings
 
   pub stops : (after : builder.State) → WritesEntries (entries_of value) [] old.builder (Err TooLarge) after → Stopped old step ReplayTooLarge
-  stops after refused = λ past is_past. record { entries = entries_of value; are = are; too_large = entries_too_large (entries_of value) [] old.builder after past refused is_past }
+  stops after refused = λ history is_history. record { entries = entries_of value; are = are; too_large = entries_too_large (entries_of value) [] old.builder after history refused is_history }
 
   pub lacks : ((after : builder.State) → outcome old.builder (Err OutOfMemory) after → WritesEntries (entries_of value) [] old.builder (Err OutOfMemory) after)
       → (new : ReplayState) → WritesValue name outcome old (Err ReplayOutOfMemory) new → Stopped old step ReplayOutOfMemory
-  lacks refused new (inl h) = λ past is_past. inr (
-      record { entries = entries_of value; are = are; refused = entries_refused (entries_of value) [] old.builder h.0 past (refused h.0 h.1) is_past }
+  lacks refused new (inl h) = λ history is_history. inr (
+      record { entries = entries_of value; are = are; refused = entries_refused (entries_of value) [] old.builder h.0 history (refused h.0 h.1) is_history }
       )
-  lacks refused new (inr h) = λ past is_past.
+  lacks refused new (inr h) = λ history is_history.
       let did = writes h.0 h.1 h.2 in
-      let put = puts_entries (entries_of value) [] old.builder did.0 h.1 past did.1 is_past in
-      inr (record { entries = entries_of value; are = are; refused = all_put old.builder.switches (entries_of value) [] past did.0 put.0 put.1 })
+      let put = puts_entries (entries_of value) [] old.builder did.0 h.1 history did.1 is_history in
+      inr (record { entries = entries_of value; are = are; refused = all_put old.builder.settings (entries_of value) [] history did.0 put.0 put.1 })
 
 pub value_refused : {A : Type 0} (name : A → Named) (outcome : Outcome A) (old new : ReplayState) (error : BuildError) (after : builder.State) → outcome old.builder (Err error) after
     → WritesValue name outcome old (Err (replay_error error)) new
@@ -146,7 +146,7 @@ value_refused name outcome old new TooLarge after h = (after, h)
 noted_kind : {T : Type 0} (noted : Written) (offset : Offset T) → written_named noted ≡ offset_named offset → (false ≡ false) × (Some a_value ≡ Some (kind_named (written_named noted)))
 noted_kind noted offset same = (refl, ap (λ name. Some (kind_named name)) (sym same))
 
-by_entry : {T : Type 0} (entry : Entry) (before : builder.State) (offset : Offset T) (after : builder.State) → PutsDown entry [] before offset.distance after
+by_entry : {T : Type 0} (entry : Entry) (before : builder.State) (offset : Offset T) (after : builder.State) → PlacesEntry entry [] before offset.distance after
     → (got : List ℕ) × WritesEntries (entry ∷ []) [] before (Ok got) after × (record { distance = last_of got; tags = None } ≡ offset_named offset)
 by_entry entry before offset after put = (offset.distance ∷ [], (offset.distance, after, put, (refl, refl)), refl)
 
@@ -154,8 +154,8 @@ pub text_advanced : (content : List ℕ) (old : ReplayState) (answer : Result (U
     → WritesValue {A = Offset Text} offset_named (WritesText content) old answer new → Advanced old (text content) answer new
 text_advanced content old (Ok done) new noted = record {
   taken = took_one old new (text content) (Some noted.noted) (noted_kind noted.noted noted.answer noted.same) noted.first noted.pushed;
-  advances = runs_on offset_named (WritesText content) (text content) (value.text content) old refl refl (λ offset after put. by_entry (text_entry content) old.builder offset after put) new noted (λ past after. refl);
-  switches = noted.done.switches;
+  advances = runs_on offset_named (WritesText content) (text content) (value.text content) old refl refl (λ offset after put. by_entry (text_entry content) old.builder offset after put) new noted (λ history after. refl);
+  settings = noted.done.settings;
 }
 text_advanced content old (Err ReplayOutOfMemory) new h =
     lacks {A = Offset Text} offset_named (WritesText content) (text content) (value.text content) old refl refl (λ offset after put. by_entry (text_entry content) old.builder offset after put) (λ after refused. inl refused) new h
@@ -167,8 +167,8 @@ pub bytes_advanced : (content : List ℕ) (old : ReplayState) (answer : Result (
     → WritesValue {A = Offset (ListOf ℕ)} offset_named (WritesByteList content) old answer new → Advanced old (bytes content) answer new
 bytes_advanced content old (Ok done) new noted = record {
   taken = took_one old new (bytes content) (Some noted.noted) (noted_kind noted.noted noted.answer noted.same) noted.first noted.pushed;
-  advances = runs_on offset_named (WritesByteList content) (bytes content) (value.byte_list content) old refl refl (λ offset after put. by_entry (byte_list_entry content) old.builder offset after put) new noted (λ past after. refl);
-  switches = noted.done.switches;
+  advances = runs_on offset_named (WritesByteList content) (bytes content) (value.byte_list content) old refl refl (λ offset after put. by_entry (byte_list_entry content) old.builder offset after put) new noted (λ history after. refl);
+  settings = noted.done.settings;
 }
 bytes_advanced content old (Err ReplayOutOfMemory) new h =
     lacks {A = Offset (ListOf ℕ)} offset_named (WritesByteList content) (bytes content) (value.byte_list content) old refl refl (λ offset after put. by_entry (byte_list_entry content) old.builder offset after put) (λ after refused. inl refused) new h
@@ -214,8 +214,8 @@ module _ (width : ℕ) (w : Width) (items : List ℕ) (known : width_of width �
   numbers_advanced T (Ok done) new noted = record {
     taken = took_one old new (numbers width items) (Some noted.noted) (noted_kind noted.noted noted.answer noted.same) noted.first noted.pushed;
     advances = runs_on offset_named (WritesList Answers leaves_number (byte_len w) (byte_len w) items) (numbers width items) number_list old numbers_value_is numbers_are
-        (list_writes leaves_number (byte_len w) (byte_len w) items number_list old numbers_entries (λ got. refl)) new noted (λ past after. refl);
-    switches = switches_stay offset_named (WritesList Answers leaves_number (byte_len w) (byte_len w) items) (numbers width items) number_list old numbers_value_is numbers_are
+        (list_writes leaves_number (byte_len w) (byte_len w) items number_list old numbers_entries (λ got. refl)) new noted (λ history after. refl);
+    settings = settings_stay offset_named (WritesList Answers leaves_number (byte_len w) (byte_len w) items) (numbers width items) number_list old numbers_value_is numbers_are
         (list_writes leaves_number (byte_len w) (byte_len w) items number_list old numbers_entries (λ got. refl)) new noted;
   }
   numbers_advanced T (Err ReplayOutOfMemory) new h =
@@ -250,11 +250,11 @@ module _ (steps : List ℕ) (offsets : List (Offset (Unit {0}))) (old : ReplaySt
   refs_advanced T (Ok done) new noted = record {
     taken = took_one old new (refs steps) (Some noted.noted) (noted_kind noted.noted noted.answer noted.same) noted.first noted.pushed;
     advances = runs_on offset_named (WritesList Answers leaves_offset 4 4 offsets) (refs steps) reference_list old refs_value_is refs_are
-        (list_writes leaves_offset 4 4 offsets reference_list old refs_entries (λ got. refl)) new noted (λ past after. refl);
-    switches = switches_stay offset_named (WritesList Answers leaves_offset 4 4 offsets) (refs steps) reference_list old refs_value_is refs_are
+        (list_writes leaves_offset 4 4 offsets reference_list old refs_entries (λ got. refl)) new noted (λ history after. refl);
+    settings = settings_stay offset_named (WritesList Answers leaves_offset 4 4 offsets) (refs steps) reference_list old refs_value_is refs_are
         (list_writes leaves_offset 4 4 offsets reference_list old refs_entries (λ got. refl)) new noted;
   }
-  refs_advanced T (Err ReplayOutOfMemory) new h = λ past is_past. inl refl
+  refs_advanced T (Err ReplayOutOfMemory) new h = λ history is_history. inl refl
   refs_advanced T (Err ReplayTooLarge) new h =
       stops {A = Offset T} offset_named (WritesList Answers leaves_offset 4 4 offsets) (refs steps) reference_list old refs_value_is refs_are
       (list_writes leaves_offset 4 4 offsets reference_list old refs_entries (λ got. refl)) h.0
@@ -305,10 +305,10 @@ module _ (items : List (ℕ × ℕ)) (offsets : List (UnionOffset (Unit {0}))) (
       → WritesValue vector_named (WritesUnionVector {T = Unit {0}} Answers offsets) old answer new → Advanced old (unions items) answer new
   unions_advanced (Ok done) new noted = record {
     taken = took_one old new (unions items) (Some noted.noted) (refl, ap (λ name. Some (kind_named name)) (sym noted.same)) noted.first noted.pushed;
-    advances = runs_on vector_named (WritesUnionVector Answers offsets) (unions items) unions_value old unions_value_is unions_are unions_write new noted (λ past after. refl);
-    switches = switches_stay vector_named (WritesUnionVector Answers offsets) (unions items) unions_value old unions_value_is unions_are unions_write new noted;
+    advances = runs_on vector_named (WritesUnionVector Answers offsets) (unions items) unions_value old unions_value_is unions_are unions_write new noted (λ history after. refl);
+    settings = settings_stay vector_named (WritesUnionVector Answers offsets) (unions items) unions_value old unions_value_is unions_are unions_write new noted;
   }
-  unions_advanced (Err ReplayOutOfMemory) new h = λ past is_past. inl refl
+  unions_advanced (Err ReplayOutOfMemory) new h = λ history is_history. inl refl
   unions_advanced (Err ReplayTooLarge) new h =
       stops vector_named (WritesUnionVector Answers offsets) (unions items) unions_value old unions_value_is unions_are unions_write h.0 (unions_refused h.0 h.1)
   unions_advanced (Err (BadStep number why)) new h = absurd h
@@ -336,8 +336,8 @@ module _ (front : Front) (root : ℕ) (identifier : Option (List ℕ)) (entry : 
       → given.bytes.items ≡ new.builder.bytes → map place_of given.places.items ≡ values_listed old → Advanced old (finish front root identifier) (Ok tt) new
   finish_advances distance old new given place found finishes first pushed gave whole listed_there = record {
     taken = took_one old new (finish front root identifier) None (refl, refl) first pushed;
-    advances = λ past is_past.
-        let after = finishes.puts.puts past is_past in
+    advances = λ history is_history.
+        let after = finishes.puts.puts history is_history in
         let all : given.bytes.items ≡ after.0.written.bytes = whole ∙ sym after.2.bytes in (
           after.0,
           after.2,
@@ -354,15 +354,15 @@ module _ (front : Front) (root : ℕ) (identifier : Option (List ℕ)) (entry : 
                 (let e : (given.bytes.items, map place_of given.places.items) ≡ (after.0.written.bytes, values_listed old) = rw (all, listed_there) refl in e);
           },
         );
-    switches = finishes.puts.switches;
+    settings = finishes.puts.settings;
   }
 
   pub finish_not_given : (old : ReplayState) (offset : Offset (Unit {0})) → value_at (values_listed old) root ≡ Some offset.distance
       → (answer : Result (Bor (List ℕ)) BuildError) (lent : Bor (List ℕ)) (new : builder.State) → answer ≡ Ok lent
       → FrontLeaves offset entry old.builder answer new → Stopped old (finish front root identifier) ReplayOutOfMemory
-  finish_not_given old offset found answer lent new ok leaves = λ past is_past.
+  finish_not_given old offset found answer lent new ok leaves = λ history is_history.
       let done = offset_finished offset entry old.builder new answer lent ok leaves in
-      let after = done.0.puts.puts past is_past in
+      let after = done.0.puts.puts history is_history in
       inr (
       record {
         entries = entry offset.distance ∷ [];
@@ -377,7 +377,7 @@ module _ (front : Front) (root : ℕ) (identifier : Option (List ℕ)) (entry : 
   finish_stopped old offset found answer error new refused leaves = by_error error (subst (λ a. FrontLeaves offset entry old.builder a new) refused leaves)
     where
       by_error : (error : BuildError) → FrontLeaves offset entry old.builder (Err error) new → Stopped old (finish front root identifier) (replay_error error)
-      by_error OutOfMemory h = λ past is_past. elim h as (λ _. StepRefused old.builder.switches (state_with old past) (finish front root identifier)) [
+      by_error OutOfMemory h = λ history is_history. elim h as (λ _. StepRefused old.builder.settings (state_with old history) (finish front root identifier)) [
         | inl none ↦ (let e : Err OutOfMemory ≡ Ok offset = none.0 in cc)
         | inr put ↦
             let same : put.0 ≡ offset = (let e : Ok put.0 ≡ Ok offset = put.2.0 in cc) in
@@ -388,24 +388,24 @@ module _ (front : Front) (root : ℕ) (identifier : Option (List ℕ)) (entry : 
             record {
               entries = entry offset.distance ∷ [];
               are = finish_are old front root offset.distance identifier found ∙ ap Some (is_entry offset.distance);
-              refused = inl (asks (entry offset.distance) [] old.builder past is_past (refuses.cause past is_past));
+              refused = inl (asks (entry offset.distance) [] old.builder history is_history (refuses.cause history is_history));
             }
             )
       ]
-      by_error TooLarge h = λ past is_past. elim h as (λ _. StepTooLarge old.builder.switches (state_with old past) (finish front root identifier)) [
+      by_error TooLarge h = λ history is_history. elim h as (λ _. StepTooLarge old.builder.settings (state_with old history) (finish front root identifier)) [
         | inl none ↦ (let e : Err TooLarge ≡ Ok offset = none.0 in cc)
         | inr put ↦
             let same : put.0 ≡ offset = (let e : Ok put.0 ≡ Ok offset = put.2.0 in cc) in
             let refuses : Refuses (entry offset.distance) [] old.builder TooLarge new
             = subst (λ (b : builder.State). Refuses (entry offset.distance) [] b TooLarge new) put.2.1
             (subst (λ (o : Offset (Unit {0})). Refuses (entry o.distance) [] put.1 TooLarge new) same put.3) in
-            record { entries = entry offset.distance ∷ []; are = finish_are old front root offset.distance identifier found ∙ ap Some (is_entry offset.distance); too_large = inl (refuses.cause past is_past) }
+            record { entries = entry offset.distance ∷ []; are = finish_are old front root offset.distance identifier found ∙ ap Some (is_entry offset.distance); too_large = inl (refuses.cause history is_history) }
       ]
 
-pub clear_advances : (old new : ReplayState) → IsPast new.builder no_past → new.builder.switches ≡ old.builder.switches → new.first ≡ old.first + length old.offsets.items + 1 → new.offsets.items ≡ []
+pub clear_advances : (old new : ReplayState) → IsHistoryOf new.builder no_history → new.builder.settings ≡ old.builder.settings → new.first ≡ old.first + length old.offsets.items + 1 → new.offsets.items ≡ []
     → new.finished ≡ old.finished → Advanced old clear (Ok tt) new
-clear_advances old new is_past switches first none same = record {
+clear_advances old new is_history settings first none same = record {
   taken = took_clear old new first none;
-  advances = λ past before. (no_past, is_past, (let next : new.first + 0 ≡ old.first + length old.offsets.items + 1 = omega (arith, first) in rw (none, same, next) refl));
-  switches = switches;
+  advances = λ history before. (no_history, is_history, (let next : new.first + 0 ≡ old.first + length old.offsets.items + 1 = omega (arith, first) in rw (none, same, next) refl));
+  settings = settings;
 }

@@ -32,7 +32,7 @@ use Rattle.planus.specs.declared.replay_state.ReplayState.{ReplayState}
 use Rattle.planus.specs.declared.written.Written.{Written}
 use Rattle.planus.specs.inner.Replaying.{values_listed, Advanced, WritesValue}
 use Rattle.planus.proofs.Naming.{took_one}
-use Rattle.planus.proofs.Stepping.{runs_on, switches_stay, stops, lacks}
+use Rattle.planus.proofs.Stepping.{runs_on, settings_stay, stops, lacks}
 use Rattle.planus.proofs.Declaring.{values_reached}
 use Rattle.planus.proofs.WrittenTables.{tables_are_written}
 
@@ -54,8 +54,8 @@ module _ (fields : List (ℕ × FieldStep)) (all : List (ℕ × Field)) (old : R
   pub table_advanced : (T : Type 0) (answer : Result (Unit {0}) ReplayError) (new : ReplayState) → WritesValue {A = Offset T} offset_named (WritesTableAt all) old answer new → Advanced old (table fields) answer new
   table_advanced T (Ok done) new noted = record {
     taken = took_one old new (table fields) (Some noted.noted) (refl, ap (λ name. Some (kind_named name)) (sym noted.same)) noted.first noted.pushed;
-    advances = runs_on offset_named (WritesTableAt all) (table fields) (value.table all) old table_value_is table_are table_writes new noted (λ past after. refl);
-    switches = switches_stay offset_named (WritesTableAt all) (table fields) (value.table all) old table_value_is table_are table_writes new noted;
+    advances = runs_on offset_named (WritesTableAt all) (table fields) (value.table all) old table_value_is table_are table_writes new noted (λ history after. refl);
+    settings = settings_stay offset_named (WritesTableAt all) (table fields) (value.table all) old table_value_is table_are table_writes new noted;
   }
   table_advanced T (Err ReplayOutOfMemory) new h = lacks {A = Offset T} offset_named (WritesTableAt all) (table fields) (value.table all) old table_value_is table_are table_writes (λ after refused. refused) new h
   table_advanced T (Err ReplayTooLarge) new h = stops {A = Offset T} offset_named (WritesTableAt all) (table fields) (value.table all) old table_value_is table_are table_writes h.0 h.1

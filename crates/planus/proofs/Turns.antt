@@ -7,7 +7,7 @@ use Rattle.planus_back.specs.Padding.{promise_of, IsLeastPadding}
 use Rattle.planus_back.specs.Parts.{Part, Written, Placed}
 use Rattle.planus_back.specs.Placings.{PlacedInTurn, LieInOrder, promises_at}
 use Rattle.planus_back.proofs.Places.{least_places}
-use Rattle.planus.specs.Headline.{IsFewest}
+use Rattle.planus.specs.FinishHolds.{IsFewest}
 use Rattle.planus.proofs.Lists.{all_push}
 
 abbrev end_of : ℕ → List ℕ → ℕ

@@ -6,12 +6,12 @@ use Rattle.std.specs.Str.{IsUtf8}
 use Rattle.planus_read.specs.declared.errors.ErrorKind.{ErrorKind}
 use Rattle.planus_read.specs.declared.table_reader.Table.{Table}
 use Rattle.planus_read.specs.Bytes.{position_of}
-use Rattle.planus_read.specs.Pieces.{ShowsBytes}
+use Rattle.planus_read.specs.Slices.{ShowsBytes}
 use Rattle.planus_read.specs.Reading.{Leads, text_reading}
 use Rattle.planus_read.specs.Stands.{Stands, at}
 use Rattle.planus_read.specs.Tables.{ReadsBoth}
 use Rattle.planus_read.specs.Values.{Value, Field, reference, text}
-use Rattle.planus_read.proofs.PieceLaws.{references_lead}
+use Rattle.planus_read.proofs.SliceLaws.{references_lead}
 use Rattle.planus_read.proofs.ReadingLaws.{is_shown, lawful_text}
 use Rattle.planus_read.proofs.ReadsBack.{what_stands_reads_back}
 use Rattle.planus_write.specs.Contents.{Content, item, value, values, written, union_tags}

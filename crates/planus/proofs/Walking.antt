@@ -10,8 +10,8 @@ use Rattle.planus.specs.Steps.{Step, text, bytes, numbers, refs, unions, table, 
 use Rattle.planus.specs.Steps.{bare_step}
 use Rattle.planus.specs.Kinds.{Kind, a_value, a_union_vector, kind_named, naming_fault}
 use Rattle.planus_read.specs.Values.{Value}
-use Rattle.planus_write.specs.Shared.{Switches}
-use Rattle.planus_write.specs.Past.{Entry}
+use Rattle.planus_write.specs.Shared.{CacheSettings}
+use Rattle.planus_write.specs.History.{Entry}
 use Rattle.planus.specs.Runs.{State, Advances, LeadsTo, StepTooLarge, nothing_written}
 use Rattle.planus.specs.Runs.{value_at, union_of, all_of, entries_put, finish_of}
 use Rattle.planus.specs.Runs.{width_of, fits_width, numbers_value, fields_of}
@@ -79,8 +79,8 @@ numbers_good (Some width) items v h = by_test (list_all (fits_width width) items
     by_test true h = refl
     by_test false h = (cc)
 
-module _ (switches : Switches) (all cs : List Step) (c : Step) (rest : List Step) (whole : all ≡ cs ++ c ∷ rest) (state : State)
-    (run : LeadsTo switches nothing_written cs state) (clean : first_bad cs ≡ None) where
+module _ (settings : CacheSettings) (all cs : List Step) (c : Step) (rest : List Step) (whole : all ≡ cs ++ c ∷ rest) (state : State)
+    (run : LeadsTo settings nothing_written cs state) (clean : first_bad cs ≡ None) where
   there : slice_get all (length cs) ≡ Some c
   there = ap (λ xs. slice_get xs (length cs)) whole ∙ get_last cs c rest
 
@@ -92,7 +92,7 @@ module _ (switches : Switches) (all cs : List Step) (c : Step) (rest : List Step
 
   name_good : NamedAreGood state.listed fault_here
   name_good number named h =
-      let v = run_value switches cs state run number named h in
+      let v = run_value settings cs state run number named h in
       ap (fault_of (kind_named named)) v.named ∙ ap (λ k. naming_fault (kind_named named) (Some k)) v.kind ∙ no_wrong_kind (kind_named named)
 
   value_named : (number distance : ℕ) → value_at state.listed number ≡ Some distance → fault_here a_value number ≡ None
@@ -133,7 +133,7 @@ module _ (switches : Switches) (all cs : List Step) (c : Step) (rest : List Step
       value_named root made.0 made.1
   put_fault clear entries h = refl
 
-  no_fault : (step : Step) (after : State) → Advances switches state step after → broken_check cs step ≡ None
+  no_fault : (step : Step) (after : State) → Advances settings state step after → broken_check cs step ≡ None
   no_fault (text content) after h = refl
   no_fault (bytes content) after h = refl
   no_fault (numbers width items) after h = put_fault (numbers width items) h.entries h.are
@@ -143,23 +143,23 @@ module _ (switches : Switches) (all cs : List Step) (c : Step) (rest : List Step
   no_fault (finish front root identifier) after h = put_fault (finish front root identifier) h.entries h.are
   no_fault clear after h = refl
 
-  pub still_clean : (after : State) → Advances switches state c after → first_bad (cs ++ c ∷ []) ≡ None
+  pub still_clean : (after : State) → Advances settings state c after → first_bad (cs ++ c ∷ []) ≡ None
   still_clean after h = next_check [] cs c [] clean ∙ ap (λ check. first_bad_or (0 + length cs) check None) (no_fault c after h)
 
   up_to : take (length cs + 1) all ≡ cs ++ c ∷ []
   up_to = ap (take (length cs + 1)) (whole ∙ sym (append_assoc cs (c ∷ []) rest))
       ∙ ap (λ n. take n ((cs ++ c ∷ []) ++ rest)) (let e : length cs + 1 ≡ length (cs ++ c ∷ []) = sym (length-append cs (c ∷ [])) in e) ∙ take-append_seam (cs ++ c ∷ []) rest
 
-  pub too_large : StepTooLarge switches state c → Replays switches all (Err TooLarge)
+  pub too_large : StepTooLarge settings state c → Replays settings all (Err TooLarge)
   too_large h = (
     length cs,
     ap first_bad up_to ∙ next_check [] cs c [] clean ∙ ap (λ check. first_bad_or (0 + length cs) check None) (put_fault c h.entries h.are),
-    record { step = c; there = there; before = state; run = subst (λ xs. LeadsTo switches nothing_written xs state) (sym before_is) run; too_large = h },
+    record { step = c; there = there; before = state; run = subst (λ xs. LeadsTo settings nothing_written xs state) (sym before_is) run; too_large = h },
   )
 
-  pub bad_step : (number : ℕ) (why : Why) → number ≡ length cs → broken_check cs c ≡ Some why → Replays switches all (Err (BadStep number why))
+  pub bad_step : (number : ℕ) (why : Why) → number ≡ length cs → broken_check cs c ≡ Some why → Replays settings all (Err (BadStep number why))
   bad_step number why same check = (
     ap first_bad whole ∙ next_check [] cs c rest clean ∙ ap (λ o. first_bad_or (0 + length cs) o (first_bad_after ([] ++ (cs ++ c ∷ [])) rest)) check
         ∙ ap (λ n. Some (n, why)) (let e : 0 + length cs ≡ number = omega arith in e),
-    (state, subst (λ xs. LeadsTo switches nothing_written xs state) (sym (ap (λ n. take n all) same ∙ before_is)) run),
+    (state, subst (λ xs. LeadsTo settings nothing_written xs state) (sym (ap (λ n. take n all) same ∙ before_is)) run),
   )

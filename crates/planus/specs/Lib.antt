@@ -24,7 +24,7 @@ pub mod Runs
 pub mod Kinds
 pub mod TableChecks
 pub mod Replays
-pub mod Headline
+pub mod FinishHolds
 pub mod Streams
 pub mod Once
 pub mod SameTrees

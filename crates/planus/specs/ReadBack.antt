@@ -15,10 +15,10 @@ use Rattle.planus_read.specs.Tables.{Reads, FieldAnswer}
 use Rattle.planus_read.specs.Values.{Value, Field, plain, reference, tags, values as values_field}
 use Rattle.planus_read.specs.Values.{reference_list, union_vector, table, field_at}
 use Rattle.planus_write.specs.Finishing.{FinishGives, SizedFinishGives}
-use Rattle.planus_write.specs.Past.{Past}
+use Rattle.planus_write.specs.History.{History}
 use Rattle.planus_write.specs.Preparing.{IsPrepared}
 use Rattle.planus_write.specs.Placing.{Outcome}
-use Rattle.planus_write.specs.State.{State, IsPast, Extends}
+use Rattle.planus_write.specs.State.{State, IsHistoryOf, Extends}
 use Rattle.planus_write.specs.declared.offset.Offset.{Offset}
 use Rattle.planus_write.specs.Contents.{Content, item, value, values, written, union_tags}
 use Rattle.planus_write.specs.Contents.{union_values, written_tags, written_values}
@@ -116,14 +116,14 @@ TableHolds B contents read = (slot : ℕ) → SlotHolds B read slot (content_at 
 -- A stored table is encoded in what was written.
 abbrev pub KeptTablesStand : Type 0
 KeptTablesStand =
-    (past : Past) (contents : List (ℕ × Option Content)) (distance : ℕ)
-    → TableIsKept past contents distance → IsTrue (are_apart contents)
-    → TableStands past.written.bytes contents distance
+    (history : History) (contents : List (ℕ × Option Content)) (distance : ℕ)
+    → TableIsKept history contents distance → IsTrue (are_apart contents)
+    → TableStands history.written.bytes contents distance
 
 -- A stored table stays so, whatever is written later.
 abbrev pub KeptTablesStay : Type 0
 KeptTablesStay =
-    (before after : Past) (contents : List (ℕ × Option Content)) (distance : ℕ)
+    (before after : History) (contents : List (ℕ × Option Content)) (distance : ℕ)
     → Extends before after → TableIsKept before contents distance
     → TableIsKept after contents distance
 
@@ -131,36 +131,36 @@ KeptTablesStay =
 abbrev pub FinishesKeepTables : {X T : Type 0} → (X → State → Type 0) → (X → Outcome (Offset T))
     → Type 0
 FinishesKeepTables {X} may outcome =
-    (contents : List (ℕ × Option Content)) (past : Past) (state : State) (distance : ℕ) (root : X)
-    (identifier : Option (List ℕ)) (bytes : List ℕ) → IsPast state past
-    → TableIsKept past contents distance → IsTrue (are_apart contents) → may root state
+    (contents : List (ℕ × Option Content)) (history : History) (state : State) (distance : ℕ) (root : X)
+    (identifier : Option (List ℕ)) (bytes : List ℕ) → IsHistoryOf state history
+    → TableIsKept history contents distance → IsTrue (are_apart contents) → may root state
     → FinishGives (outcome root) identifier state bytes → TableStands bytes contents distance
 
 -- The same for a size-prefixed finish, also after its size.
 abbrev pub SizedFinishesKeepTables : {X T : Type 0} → (X → State → Type 0)
     → (X → Outcome (Offset T)) → Type 0
 SizedFinishesKeepTables {X} may outcome =
-    (contents : List (ℕ × Option Content)) (past : Past) (state : State) (distance : ℕ) (root : X)
-    (identifier : Option (List ℕ)) (bytes : List ℕ) → IsPast state past
-    → TableIsKept past contents distance → IsTrue (are_apart contents) → may root state
+    (contents : List (ℕ × Option Content)) (history : History) (state : State) (distance : ℕ) (root : X)
+    (identifier : Option (List ℕ)) (bytes : List ℕ) → IsHistoryOf state history
+    → TableIsKept history contents distance → IsTrue (are_apart contents) → may root state
     → SizedFinishGives (outcome root) identifier state bytes
     → TableStands bytes contents distance × TableStands (drop 4 bytes) contents distance
 
 -- The first reference of a finish leads to its root table.
 abbrev pub FinishedTablesStand : Type 0 → Type 0
 FinishedTablesStand T =
-    (contents : List (ℕ × Option Content)) (past : Past) (state : State) (offset : Offset T)
-    (identifier : Option (List ℕ)) (bytes : List ℕ) → IsPast state past
-    → TableIsKept past contents offset.distance → IsTrue (are_apart contents)
+    (contents : List (ℕ × Option Content)) (history : History) (state : State) (offset : Offset T)
+    (identifier : Option (List ℕ)) (bytes : List ℕ) → IsHistoryOf state history
+    → TableIsKept history contents offset.distance → IsTrue (are_apart contents)
     → offset.distance ≤ length state.bytes → FinishGives (IsPrepared offset) identifier state bytes
     → TableStands bytes contents offset.distance × ReferenceStands bytes 0 offset.distance
 
 -- The same after the size of a size-prefixed finish.
 abbrev pub SizedFinishedTablesStand : Type 0 → Type 0
 SizedFinishedTablesStand T =
-    (contents : List (ℕ × Option Content)) (past : Past) (state : State) (offset : Offset T)
-    (identifier : Option (List ℕ)) (bytes : List ℕ) → IsPast state past
-    → TableIsKept past contents offset.distance → IsTrue (are_apart contents)
+    (contents : List (ℕ × Option Content)) (history : History) (state : State) (offset : Offset T)
+    (identifier : Option (List ℕ)) (bytes : List ℕ) → IsHistoryOf state history
+    → TableIsKept history contents offset.distance → IsTrue (are_apart contents)
     → offset.distance ≤ length state.bytes
     → SizedFinishGives (IsPrepared offset) identifier state bytes
     → TableStands (drop 4 bytes) contents offset.distance

@@ -3,7 +3,7 @@ use Rattle.std.specs.Prelude.{◌≡◌, ℕ, List, ⊤}
 use Rattle.std.specs.Borrow.{Bor}
 use Rattle.std.specs.Str.{IsUtf8}
 use Rattle.planus_read.specs.Clauses.{Answer, shown}
-use Rattle.planus_read.specs.Pieces.{ShowsBytes}
+use Rattle.planus_read.specs.Slices.{ShowsBytes}
 use Rattle.planus_read.specs.Reading.{text_reading, byte_list_reading, table_reading}
 use Rattle.planus_read.specs.Tables.{Reads}
 use Rattle.planus_read.specs.Values.{text, byte_list}

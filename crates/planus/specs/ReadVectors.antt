@@ -7,7 +7,7 @@ use Rattle.planus_read.specs.declared.located.Error.{Error}
 use Rattle.planus_read.specs.declared.plain.Plain.{Ghosts as PlainGhosts}
 use Rattle.planus_read.specs.Clauses.{Answer, shown}
 use Rattle.planus_read.specs.Located.{Located}
-use Rattle.planus_read.specs.Pieces.{ShowsBytes}
+use Rattle.planus_read.specs.Slices.{ShowsBytes}
 use Rattle.planus_read.specs.Reading.{vector_reading, text_reading, table_reading}
 use Rattle.planus_read.specs.ReadsBack.{PlainReads, ReferenceReads}
 use Rattle.planus_read.specs.Tables.{Reads}

@@ -10,7 +10,7 @@ use Rattle.std.specs.Int.{Width}
 use Rattle.std.specs.declared.alloc.Global.{Global}
 use Rattle.planus.specs.Steps.{Step, numbers, refs, unions, table, finish, clear}
 use Rattle.planus.specs.Kinds.{Kind, a_value, kind_of, naming_fault}
-use Rattle.planus_write.specs.Shared.{Switches}
+use Rattle.planus_write.specs.Shared.{CacheSettings}
 use Rattle.planus.specs.Runs.{Finish, Listed, State, nothing_written, LeadsTo, Runs}
 use Rattle.planus.specs.Runs.{ComesToTooLarge, width_of, fits_width}
 use Rattle.planus.specs.TableChecks.{table_fault}
@@ -94,14 +94,14 @@ finish_given finished =
 
 -- The run's result: its finishes, the first bad step, or a part that is too large. Out of memory is
 -- always allowed; `StepRefused` says when a step may return it.
-abbrev pub Replays : Switches → List Step → Result (List Finish) ReplayError → Type 0
-Replays switches steps (Ok finished) = (first_bad steps ≡ None) × Runs switches steps finished
-Replays switches steps (Err (BadStep step why)) =
+abbrev pub Replays : CacheSettings → List Step → Result (List Finish) ReplayError → Type 0
+Replays settings steps (Ok finished) = (first_bad steps ≡ None) × Runs settings steps finished
+Replays settings steps (Err (BadStep step why)) =
     (first_bad steps ≡ Some (step, why))
-    × ((before : State) × LeadsTo switches nothing_written (take step steps) before)
-Replays switches steps (Err TooLarge) = (n : ℕ) × (first_bad (take (n + 1) steps) ≡ None)
-    × ComesToTooLarge switches steps n
-Replays switches steps (Err OutOfMemory) = ⊤
+    × ((before : State) × LeadsTo settings nothing_written (take step steps) before)
+Replays settings steps (Err TooLarge) = (n : ℕ) × (first_bad (take (n + 1) steps) ≡ None)
+    × ComesToTooLarge settings steps n
+Replays settings steps (Err OutOfMemory) = ⊤
 
 -- a builder's error, as a replay's
 abbrev pub replay_error : BuildError → ReplayError
@@ -121,14 +121,14 @@ IsOutOfMemory _ = ⊥
 -- Out of memory aside, a list of steps has one result.
 abbrev pub AnswersAreOne : Type 0
 AnswersAreOne =
-    (switches : Switches) (steps : List Step) (a b : Result (List Finish) ReplayError)
-    → Replays switches steps a → Replays switches steps b
+    (settings : CacheSettings) (steps : List Step) (a b : Result (List Finish) ReplayError)
+    → Replays settings steps a → Replays settings steps b
     → IsOutOfMemory a ⊎ IsOutOfMemory b ⊎ (a ≡ b)
 
-abbrev pub IsAnswered : Switches → List Step → Type 0
-IsAnswered switches steps = (answer : Result (List Finish) ReplayError)
-    × Replays switches steps answer × (IsOutOfMemory answer → ⊥)
+abbrev pub IsAnswered : CacheSettings → List Step → Type 0
+IsAnswered settings steps = (answer : Result (List Finish) ReplayError)
+    × Replays settings steps answer × (IsOutOfMemory answer → ⊥)
 
 -- Every list of steps has a result other than out of memory.
 abbrev pub AnAnswerIsThere : Type 0
-AnAnswerIsThere = (switches : Switches) (steps : List Step) → IsAnswered switches steps
+AnAnswerIsThere = (settings : CacheSettings) (steps : List Step) → IsAnswered settings steps

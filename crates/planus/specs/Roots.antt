@@ -6,9 +6,9 @@ use Rattle.planus_read.specs.Located.{Located}
 use Rattle.planus_read.specs.Stands.{ReferenceStands}
 use Rattle.planus_write.specs.Contents.{Content}
 use Rattle.planus_write.specs.Finishing.{FinishGives}
-use Rattle.planus_write.specs.Past.{Past}
+use Rattle.planus_write.specs.History.{History}
 use Rattle.planus_write.specs.Preparing.{IsPrepared}
-use Rattle.planus_write.specs.State.{State, IsPast}
+use Rattle.planus_write.specs.State.{State, IsHistoryOf}
 use Rattle.planus_write.specs.declared.offset.Offset.{Offset}
 use Rattle.planus.specs.Contents.{WritesContents}
 use Rattle.planus.specs.ReadBack.{are_apart, TableStands, TableHolds}
@@ -24,7 +24,7 @@ pub record IsRoot {V : Type 0} (K : Type 0) (name : List ℕ) (table_of : V → 
       → IsOkAnd r (λ view. TableHolds bytes contents (table_of view))
   pub written :
       (contents : List (ℕ × Option Content)) (old new : State) (offset : Offset K)
-      (identifier : Option (List ℕ)) → (past : Past) × IsPast old past
+      (identifier : Option (List ℕ)) → (history : History) × IsHistoryOf old history
       → WritesContents contents old offset.distance new → offset.distance ≤ length new.bytes
       → FinishGives (IsPrepared offset) identifier new bytes → IsTrue (are_apart contents)
       → IsOkAnd r (λ view. TableHolds bytes contents (table_of view))

@@ -8,11 +8,11 @@ use Rattle.std.specs.List.{list_all}
 use Rattle.std.specs.Int.{Width, w8, w16, w32, w64, byte_len, to_le_bytes}
 use Rattle.planus_read.specs.Values as value
 use Rattle.planus_read.specs.Values.{Value, Field}
-use Rattle.planus_write.specs.Shared.{Switches}
+use Rattle.planus_write.specs.Shared.{CacheSettings}
 use Rattle.planus_back.specs.Parts.{Part, Written}
 use Rattle.planus_write.specs.Limits.{IsWithinLimit}
-use Rattle.planus_write.specs.Past.{Past, Entry, no_past, Puts, PutsAll, part_after, found_before}
-use Rattle.planus_write.specs.Past.{ComesToTooLarge as ComesToTooLargeEntry}
+use Rattle.planus_write.specs.History.{History, Entry, no_history, Puts, PutsAll, part_after, found_before}
+use Rattle.planus_write.specs.History.{ComesToTooLarge as ComesToTooLargeEntry}
 use Rattle.planus_write.specs.Parts.{Named, named_by, entries_of, finish_entry}
 use Rattle.planus_write.specs.Parts.{sized_finish_entry}
 use Rattle.planus.specs.Steps.{Step, text, bytes, numbers, refs, unions, table, finish}
@@ -146,7 +146,7 @@ pub record Finish : Type 0 where
 
 -- what was written since the last clear, and all finishes
 pub record State : Type 0 where
-  pub past : Past
+  pub history : History
   pub listed : List Listed
   pub next : ℕ
   pub finished : List Finish
@@ -154,7 +154,7 @@ pub record State : Type 0 where
 -- nothing is written before the step of this number
 abbrev pub nothing_since : ℕ → List Finish → State
 nothing_since next finished =
-    record { past = no_past; listed = []; next = next; finished = finished }
+    record { history = no_history; listed = []; next = next; finished = finished }
 
 -- the start of every run
 abbrev pub nothing_written : State
@@ -164,54 +164,54 @@ abbrev pub values_added : Option Value → ℕ → List ℕ → List Listed
 values_added None number got = []
 values_added (Some value) number got = record { step = number; named = named_by value got } ∷ []
 
-abbrev pub finishes_added : Step → State → Past → List Finish
+abbrev pub finishes_added : Step → State → History → List Finish
 finishes_added (finish front root identifier) before after =
     record { bytes = after.written.bytes; places = before.listed } ∷ []
 finishes_added _ before after = []
 
 -- a step that writes its entries
-pub record Writes (switches : Switches) (before : State) (step : Step)
+pub record Writes (settings : CacheSettings) (before : State) (step : Step)
     (after : State) : Type 0 where
   pub entries : List Entry
   pub are : entries_put before.listed step ≡ Some entries
   pub got : List ℕ
-  pub puts : PutsAll switches entries [] before.past got after.past
+  pub puts : PutsAll settings entries [] before.history got after.history
   pub listed : after.listed ≡ before.listed ++ values_added
       (value_of before.listed step) before.next got
   pub next : after.next ≡ before.next + 1
-  pub finished : after.finished ≡ before.finished ++ finishes_added step before after.past
+  pub finished : after.finished ≡ before.finished ++ finishes_added step before after.history
 
 -- nothing before a clear can be named
 abbrev pub cleared : State → State
 cleared before = nothing_since (before.next + 1) before.finished
 
-abbrev pub Advances : Switches → State → Step → State → Type 0
-Advances switches before clear after = after ≡ cleared before
-Advances switches before step after = Writes switches before step after
+abbrev pub Advances : CacheSettings → State → Step → State → Type 0
+Advances settings before clear after = after ≡ cleared before
+Advances settings before step after = Writes settings before step after
 
-abbrev pub LeadsTo : Switches → State → List Step → State → Type 0
-LeadsTo switches before [] after = after ≡ before
-LeadsTo switches before (step ∷ steps) after =
-    (between : State) × Advances switches before step between × LeadsTo switches between steps after
+abbrev pub LeadsTo : CacheSettings → State → List Step → State → Type 0
+LeadsTo settings before [] after = after ≡ before
+LeadsTo settings before (step ∷ steps) after =
+    (between : State) × Advances settings before step between × LeadsTo settings between steps after
 
 -- from nothing, the steps give these finishes
-abbrev pub Runs : Switches → List Step → List Finish → Type 0
-Runs switches steps finished = (end : State) × LeadsTo switches nothing_written steps end
+abbrev pub Runs : CacheSettings → List Step → List Finish → Type 0
+Runs settings steps finished = (end : State) × LeadsTo settings nothing_written steps end
     × (finished ≡ end.finished)
 
 -- one of the step's entries has a part that is too large
-pub record StepTooLarge (switches : Switches) (before : State) (step : Step) : Type 0 where
+pub record StepTooLarge (settings : CacheSettings) (before : State) (step : Step) : Type 0 where
   pub entries : List Entry
   pub are : entries_put before.listed step ≡ Some entries
-  pub too_large : ComesToTooLargeEntry switches entries [] before.past
+  pub too_large : ComesToTooLargeEntry settings entries [] before.history
 
 -- the step of this number has a part that is too large
-pub record ComesToTooLarge (switches : Switches) (steps : List Step) (n : ℕ) : Type 0 where
+pub record ComesToTooLarge (settings : CacheSettings) (steps : List Step) (n : ℕ) : Type 0 where
   pub step : Step
   pub there : slice_get steps n ≡ Some step
   pub before : State
-  pub run : LeadsTo switches nothing_written (take n steps) before
-  pub too_large : StepTooLarge switches before step
+  pub run : LeadsTo settings nothing_written (take n steps) before
+  pub too_large : StepTooLarge settings before step
 
 -- with the least padding the part isn't too large
 abbrev pub IsNotTooLarge : Part → Written → Type 0
@@ -219,18 +219,18 @@ IsNotTooLarge part written =
     IsWithinLimit (length written.bytes) part.size part.alignment written.promises
 
 -- an entry takes memory unless it is found or too large
-pub record AsksForMemory (switches : Switches) (entry : Entry) (got : List ℕ)
-    (before : Past) : Type 0 where
-  pub is_new : found_before switches entry before ≡ None
+pub record AsksForMemory (settings : CacheSettings) (entry : Entry) (got : List ℕ)
+    (before : History) : Type 0 where
+  pub is_new : found_before settings entry before ≡ None
   pub fits : IsNotTooLarge (part_after entry got before) before.written
 
 -- memory may run out for one of these entries, or after the last
-abbrev pub ComesToRefusedEntry : Switches → List Entry → List ℕ → Past → Type 0
-ComesToRefusedEntry switches [] got before = ⊤
-ComesToRefusedEntry switches (entry ∷ entries) got before =
-    AsksForMemory switches entry got before
-    ⊎ ((distance : ℕ) × (between : Past) × Puts switches entry got before distance between
-    × ComesToRefusedEntry switches entries (got ++ distance ∷ []) between)
+abbrev pub ComesToRefusedEntry : CacheSettings → List Entry → List ℕ → History → Type 0
+ComesToRefusedEntry settings [] got before = ⊤
+ComesToRefusedEntry settings (entry ∷ entries) got before =
+    AsksForMemory settings entry got before
+    ⊎ ((distance : ℕ) × (between : History) × Puts settings entry got before distance between
+    × ComesToRefusedEntry settings entries (got ++ distance ∷ []) between)
 
 -- a step takes memory before it writes, to narrow numbers or find values
 abbrev pub takes_list : Step → Bool
@@ -240,12 +240,12 @@ takes_list (unions items) = true
 takes_list _ = false
 
 -- memory may run out while the step's entries are written
-pub record EntriesRefused (switches : Switches) (before : State) (step : Step) : Type 0 where
+pub record EntriesRefused (settings : CacheSettings) (before : State) (step : Step) : Type 0 where
   pub entries : List Entry
   pub are : entries_put before.listed step ≡ Some entries
-  pub refused : ComesToRefusedEntry switches entries [] before.past
+  pub refused : ComesToRefusedEntry settings entries [] before.history
 
 -- memory may run out in the step
-abbrev pub StepRefused : Switches → State → Step → Type 0
-StepRefused switches before step =
-    (takes_list step ≡ true) ⊎ EntriesRefused switches before step
+abbrev pub StepRefused : CacheSettings → State → Step → Type 0
+StepRefused settings before step =
+    (takes_list step ≡ true) ⊎ EntriesRefused settings before step

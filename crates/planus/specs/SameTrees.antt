@@ -3,10 +3,10 @@ use Rattle.std.specs.Prelude.{◌≡◌, ℕ, List, [], ◌∷◌, Option, Some,
 use Rattle.planus_read.specs.Values.{Value, Field, text, byte_list, plain_list, reference_list}
 use Rattle.planus_read.specs.Values.{union_vector, table, plain, reference, tags, values}
 use Rattle.planus_read.specs.Stands.{ReferenceStands}
-use Rattle.planus_write.specs.Shared.{Switches}
+use Rattle.planus_write.specs.Shared.{CacheSettings}
 use Rattle.planus_write.specs.Parts.{Named}
 use Rattle.planus.specs.Steps.{Step, Front, finish}
-use Rattle.planus.specs.Headline.{root_at}
+use Rattle.planus.specs.FinishHolds.{root_at}
 use Rattle.planus.specs.Runs.{Finish, Listed, Runs, value_of, distance_at, value_distance}
 use Rattle.planus.specs.Runs.{tags_distance, references_distance}
 
@@ -81,6 +81,6 @@ pub record SameTrees (steps : List Step) (one other : Finish) : Type 0 where
 -- Two runs of the same steps have the same trees, whatever the cache settings.
 abbrev pub TreesAreTheSame : Type 0
 TreesAreTheSame =
-    (one other : Switches) (steps : List Step) (finished others : List Finish)
+    (one other : CacheSettings) (steps : List Step) (finished others : List Finish)
     → Runs one steps finished → Runs other steps others
     → AllPairs (SameTrees steps) finished others

@@ -40,7 +40,7 @@ pub use planus_read::Plain;
 pub use planus_read::PlainTotal;
 pub use planus_read::ReadAsRoot;
 pub use planus_read::ReadError;
-pub use planus_read::ReadPieceAsRoot;
+pub use planus_read::ReadSliceAsRoot;
 pub use planus_read::Result;
 pub use planus_read::SignedBytes;
 pub use planus_read::SignedItems;

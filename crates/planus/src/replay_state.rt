@@ -1,8 +1,8 @@
 //! The state of a replay.
 ghost use Rattle.std.specs.Prelude.{◌≡◌, [], ◌+◌, ◌<◌, ◌^◌, vec_len, length, map, IfOk, IfErr, Ok};
-ghost use Rattle.planus_write.specs.View.{switches_of};
-ghost use Rattle.planus_write.specs.Past.{no_past};
-ghost use Rattle.planus_write.specs.State.{IsPast};
+ghost use Rattle.planus_write.specs.View.{settings_of};
+ghost use Rattle.planus_write.specs.History.{no_history};
+ghost use Rattle.planus_write.specs.State.{IsHistoryOf};
 ghost use Rattle.planus_write.specs.Preparing.{Answers};
 ghost use Rattle.planus_write.specs.Unions.{WritesUnionVector, union_reach};
 ghost use Rattle.std.specs.List.{AllByRecursion};
@@ -118,9 +118,9 @@ fn narrowed<T: Narrow>(alloc: Global, items: &[u64]) -> Result<Option<Vec<T>>, A
 
 impl ReplayState {
     pub(crate) fn new(alloc: Global, caches: Caches) -> Result<ReplayState, ReplayError>
-        ensures past { IfOk result (λ replay. IsPast replay.builder no_past) }
-        ensures switches { IfOk result (λ replay. replay.builder.switches ≡ switches_of caches) }
-        ensures nothing { IfOk result (λ replay. state_with replay no_past ≡ nothing_written) }
+        ensures history { IfOk result (λ replay. IsHistoryOf replay.builder no_history) }
+        ensures settings { IfOk result (λ replay. replay.builder.settings ≡ settings_of caches) }
+        ensures nothing { IfOk result (λ replay. state_with replay no_history ≡ nothing_written) }
         ensures taken { IfOk result (λ replay. HasTaken replay []) }
         ensures error { IfErr result (λ error. error ≡ ReplayError.OutOfMemory) }
     {

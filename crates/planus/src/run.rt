@@ -2,9 +2,9 @@
 ghost use Rattle.std.specs.Prelude.{map, IfOk};
 ghost use Rattle.std.specs.List.{AllByRecursion};
 ghost use Rattle.planus.specs.Steps.{bare_step};
-ghost use Rattle.planus_write.specs.View.{switches_of};
+ghost use Rattle.planus_write.specs.View.{settings_of};
 ghost use Rattle.planus.specs.Replays.{finish_given, Replays, given_by};
-ghost use Rattle.planus.specs.Headline.{FinishHolds, AreFinishesOf, finishes_of};
+ghost use Rattle.planus.specs.FinishHolds.{FinishHolds, AreFinishesOf, finishes_of};
 
 use crate::faults::ReplayError;
 use crate::finishes::Finished;
@@ -21,11 +21,11 @@ use std::alloc::Global;
 /// more than 2147483647 bytes from the end, and [`ReplayError::OutOfMemory`] if an allocation
 /// fails.
 pub fn replay(alloc: Global, caches: Caches, steps: &[Step]) -> Result<Vec<Finished>, ReplayError>
-    ensures run { Replays (switches_of caches) (map bare_step steps.now) (given_by result) }
+    ensures run { Replays (settings_of caches) (map bare_step steps.now) (given_by result) }
     ensures holds { IfOk result (λ finished. AllByRecursion
-        (FinishHolds (switches_of caches) (map bare_step steps.now))
+        (FinishHolds (settings_of caches) (map bare_step steps.now))
         (map finish_given finished.items)) }
-    ensures of_steps { IfOk result (λ finished. AreFinishesOf (switches_of caches)
+    ensures of_steps { IfOk result (λ finished. AreFinishesOf (settings_of caches)
         (map bare_step steps.now) (finishes_of (map bare_step steps.now))
         (map finish_given finished.items)) }
 {

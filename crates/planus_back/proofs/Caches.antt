@@ -12,12 +12,12 @@ use mathlib.Core.Logic.{◌≢◌}
 use Rattle.planus_back.specs.CacheKeys.{key_at}
 use Rattle.planus_back.specs.declared.bucket.Bucket.{Bucket}
 use Rattle.planus_back.specs.Numbers.{number_of}
-use Rattle.planus_back.specs.Caches.{Held, Has, Fits, bucket}
+use Rattle.planus_back.specs.Caches.{CacheView, Has, Fits, bucket}
 use Rattle.planus_back.specs.Caches.{IsEmpty, Adds, FitsWhereKeyStands, FitsWhereItsKeyStands, IsBucketOf, IsFound}
 use Rattle.planus_back.specs.Buckets.{listed_at, distances_at, AddsAt, FoundAmong}
 use Rattle.planus_back.proofs.Buckets.{found_last, found_before}
 
-pub IsEmpty-nil : (s : Held) → s.last ≡ [] → s.earlier ≡ [] → IsEmpty s
+pub IsEmpty-nil : (s : CacheView) → s.last ≡ [] → s.earlier ≡ [] → IsEmpty s
 unfolding Has
 IsEmpty-nil s no_last no_earlier d h =
     let nil : bucket s h.0 ≡ [] = ap (λ last. distances_at last s.earlier h.0) no_last ∙ ap (λ earlier. distances_at [] earlier h.0) no_earlier in
@@ -72,7 +72,7 @@ module _ (before after : ℕ → List ℕ) (h d : ℕ) (adds : AddsAt before h d
     | inr w ↦ (let e : after q ≡ before q = elsewhere q w.1 in rw e (fits q k (rw (← e) below)))
   ]
 
-module _ (s t : Held) (h d : ℕ) (adds : AddsAt (bucket s) h d (bucket t)) where
+module _ (s t : CacheView) (h d : ℕ) (adds : AddsAt (bucket s) h d (bucket t)) where
   pub Adds-from : Adds s d t
   unfolding Has
   Adds-from o = (
@@ -94,15 +94,15 @@ key_at-front key_in front bytes d key h =
     let e : drop (length front + (length bytes - d)) (front ++ bytes) ≡ drop (length bytes - d) bytes = drop-append-add front bytes (length bytes - d) in
     grind (arith, common_steps, leb_tells, length-append, e, h)
 
-pub Fits-front : (key_in : List ℕ → Option (List ℕ)) (s : Held) (front bytes : List ℕ) → Fits key_in s bytes → Fits key_in s (front ++ bytes)
+pub Fits-front : (key_in : List ℕ → Option (List ℕ)) (s : CacheView) (front bytes : List ℕ) → Fits key_in s bytes → Fits key_in s (front ++ bytes)
 unfolding Fits
 Fits-front key_in s front bytes fits h k below = let x = fits h k below in (x.0, key_at-front key_in front bytes _ x.0 x.1, x.2)
 
-pub Fits-empty : (key_in : List ℕ → Option (List ℕ)) (s : Held) (bytes : List ℕ) → IsEmpty s → Fits key_in s bytes
+pub Fits-empty : (key_in : List ℕ → Option (List ℕ)) (s : CacheView) (bytes : List ℕ) → IsEmpty s → Fits key_in s bytes
 unfolding Fits Has
 Fits-empty key_in s bytes empty h k below = absurd (empty (get_or (bucket s h) k 0) (h, k, below, refl))
 
-pub found_in_bucket : (key_in : List ℕ → Option (List ℕ)) (s : Held) (bytes key : List ℕ) (r : Option ℕ) → Fits key_in s bytes
+pub found_in_bucket : (key_in : List ℕ → Option (List ℕ)) (s : CacheView) (bytes key : List ℕ) (r : Option ℕ) → Fits key_in s bytes
     → FoundAmong key_in (bucket s (number_of s.choice key)) bytes key r → IsFound key_in s bytes key r
 unfolding Fits Has
 found_in_bucket key_in s bytes key None fits none = λ d x stands.
@@ -113,17 +113,17 @@ found_in_bucket key_in s bytes key None fits none = λ d x stands.
     none x.1 (rw (← h) x.2) (rw (← h) at)
 found_in_bucket key_in s bytes key (Some d) fits found = ((number_of s.choice key, found.0.0, found.0.1, found.0.2), found.1)
 
-pub insert_adds : (s t old : Held) (h d : ℕ) (r : Result (Unit {0}) AllocError) → s ≡ old → OnOk r (AddsAt (bucket s) h d (bucket t)) → OnOk r (Adds old d t)
+pub insert_adds : (s t old : CacheView) (h d : ℕ) (r : Result (Unit {0}) AllocError) → s ≡ old → OnOk r (AddsAt (bucket s) h d (bucket t)) → OnOk r (Adds old d t)
 insert_adds s t old h d (Ok x) e adds = rw (← e) (Adds-from s t h d adds)
 insert_adds s t old h d (Err x) e adds = tt
 
-pub insert_fits : (key_in : List ℕ → Option (List ℕ)) (s t old : Held) (b : Bucket) (d : ℕ) (r : Result (Unit {0}) AllocError) → s ≡ old → t.choice ≡ s.choice
+pub insert_fits : (key_in : List ℕ → Option (List ℕ)) (s t old : CacheView) (b : Bucket) (d : ℕ) (r : Result (Unit {0}) AllocError) → s ≡ old → t.choice ≡ s.choice
     → OnOk r (AddsAt (bucket s) b.number d (bucket t)) → OnOk r (FitsWhereItsKeyStands key_in old b d t)
 unfolding IsBucketOf
 insert_fits key_in s t old b d (Ok x) e same_choice adds = λ key is. rw (← e) (Fits-from s t b.number d adds key_in key same_choice (ap (λ held. number_of held.choice key) e ∙ sym is))
 insert_fits key_in s t old b d (Err x) e same_choice adds = tt
 
-module _ (key_in : List ℕ → Option (List ℕ)) (old : Held) (b : Bucket) (bytes key : List ℕ) (its : IsBucketOf old key b) (fits : Fits key_in old bytes) where
+module _ (key_in : List ℕ → Option (List ℕ)) (old : CacheView) (b : Bucket) (bytes key : List ℕ) (its : IsBucketOf old key b) (fits : Fits key_in old bytes) where
   abbrev the_last : List ℕ
   the_last = option_to_list (lookup (nat_eq b.number) old.last)
 
@@ -139,6 +139,6 @@ module _ (key_in : List ℕ → Option (List ℕ)) (old : Held) (b : Bucket) (by
       let nothing : FoundAmong key_in the_last bytes key None = subst (λ x. FoundAmong key_in the_last bytes key x) is none in
       found_in_bucket key_in old bytes key r fits (rw (← its) (found_before key_in bytes key (listed_at old.earlier b.number) the_last r nothing found))
 
-pub Has-stands : (key_in : List ℕ → Option (List ℕ)) (s : Held) (bytes : List ℕ) (d : ℕ) → Fits key_in s bytes → Has s d → (key : List ℕ) × (key_at key_in bytes d ≡ Some key)
+pub Has-stands : (key_in : List ℕ → Option (List ℕ)) (s : CacheView) (bytes : List ℕ) (d : ℕ) → Fits key_in s bytes → Has s d → (key : List ℕ) × (key_at key_in bytes d ≡ Some key)
 unfolding Fits Has
 Has-stands key_in s bytes d fits x = let f = fits x.0 x.1 x.2 in (f.0, rw (← x.3) f.1)

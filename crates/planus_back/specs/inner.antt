@@ -1,5 +1,5 @@
 pub mod BackView
 pub mod Blocks
 pub mod Cells
-pub mod Handing
+pub mod IdentityHashes
 pub mod Sound

@@ -8,7 +8,7 @@ ghost use Rattle.planus_back.specs.Caches.{FitsWhereKeyStands, FitsWhereItsKeySt
 
 use crate::bucket::Bucket;
 use crate::cache_keys::GetCacheKey;
-use crate::handed::Handed;
+use crate::identity_hasher::IdentityHasher;
 use crate::keys::{Bytes, Key, Signed};
 use std::alloc::{AllocError, Global};
 use std::collections::HashMap;
@@ -20,9 +20,9 @@ use std::marker::{Model, PhantomData};
 #[derive(Drop)]
 pub struct Cache<C> {
     // The last distance of a key, by the key's masked hash.
-    last: HashMap<u64, u32, Handed>,
+    last: HashMap<u64, u32, IdentityHasher>,
     // Mostly there are none before the last, and then they take no memory.
-    earlier: HashMap<u64, Vec<u32>, Handed>,
+    earlier: HashMap<u64, Vec<u32>, IdentityHasher>,
     hash_mask: u64,
     alloc: Global,
     _marker: PhantomData<C>,
@@ -30,9 +30,9 @@ pub struct Cache<C> {
 
 impl<C> Model for Cache<C> {
     ghost use Rattle.planus_back.specs.Buckets.{lists_of};
-    ghost use Rattle.planus_back.specs.Caches.{Held};
+    ghost use Rattle.planus_back.specs.Caches.{CacheView};
 
-    ghost Value = { Held };
+    ghost Value = { CacheView };
 
     ghost view = { λ a. record {
       choice = a.hash_mask;
@@ -76,7 +76,7 @@ pub fn find_signed_key<C: GetCacheKey>(
 }
 
 fn put_aside(
-    earlier: &mut HashMap<u64, Vec<u32>, Handed>,
+    earlier: &mut HashMap<u64, Vec<u32>, IdentityHasher>,
     alloc: Global,
     hash: u64,
     distance: u32,
@@ -101,7 +101,7 @@ fn put_aside(
 #[inline(never)]
 fn replace_last(
     last: &mut u32,
-    earlier: &mut HashMap<u64, Vec<u32>, Handed>,
+    earlier: &mut HashMap<u64, Vec<u32>, IdentityHasher>,
     alloc: Global,
     hash: u64,
     distance: u32,
@@ -121,8 +121,8 @@ fn replace_last(
 /// Changes nothing on failure.
 #[inline]
 fn add(
-    last: &mut HashMap<u64, u32, Handed>,
-    earlier: &mut HashMap<u64, Vec<u32>, Handed>,
+    last: &mut HashMap<u64, u32, IdentityHasher>,
+    earlier: &mut HashMap<u64, Vec<u32>, IdentityHasher>,
     alloc: Global,
     hash: u64,
     distance: u32,
@@ -152,8 +152,8 @@ impl<C: GetCacheKey> Cache<C> {
         ensures { IfOk result IsEmpty }
     {
         Ok(Cache {
-            last: HashMap::with_hasher(alloc, Handed::new()),
-            earlier: HashMap::with_hasher(alloc, Handed::new()),
+            last: HashMap::with_hasher(alloc, IdentityHasher::new()),
+            earlier: HashMap::with_hasher(alloc, IdentityHasher::new()),
             hash_mask,
             alloc,
             _marker: PhantomData,
@@ -176,10 +176,10 @@ impl<C: GetCacheKey> Cache<C> {
     fn clear_all(&mut self)
         ensures { IsEmpty self.new }
     {
-        self.earlier = HashMap::with_hasher(self.alloc, Handed::new());
+        self.earlier = HashMap::with_hasher(self.alloc, IdentityHasher::new());
         // A clear of a map takes time by its capacity, however few entries it has.
         if self.last.len() < self.last.capacity() / 32 {
-            self.last = HashMap::with_hasher(self.alloc, Handed::new());
+            self.last = HashMap::with_hasher(self.alloc, IdentityHasher::new());
         } else {
             self.last.clear();
         }

@@ -1,7 +1,7 @@
 //! Laws of alignment constraints, padding and places, each stated by a contract.
 ghost use Rattle.std.specs.Prelude.{◌≡◌, ℕ, ◌+◌, ◌<◌, ◌≤◌, List, [], ◌∷◌, ◌++◌};
 ghost use Rattle.std.specs.List.{AllByRecursion};
-ghost use Rattle.planus_back.specs.Caches.{Held, Fits, EmptyFits};
+ghost use Rattle.planus_back.specs.Caches.{CacheView, Fits, EmptyFits};
 ghost use Rattle.planus_back.specs.Promises.{Promise, IsPowerOfTwo, Keep, greatest_alignment};
 ghost use Rattle.planus_back.specs.Padding.{promise_of, IsLeastPadding};
 ghost use Rattle.planus_back.specs.Parts.{Part};
@@ -17,7 +17,7 @@ pub fn empty_caches_fit<C: GetCacheKey>()
 
 /// Prepended bytes keep the fit of a cache.
 pub fn fit_is_kept<C: GetCacheKey>()
-    ensures { (held : Held) (front bytes : List ℕ) → Fits C.key_in held bytes
+    ensures { (held : CacheView) (front bytes : List ℕ) → Fits C.key_in held bytes
         → Fits C.key_in held (front ++ bytes) }
 {}
 

@@ -11,7 +11,7 @@ pub mod cache_keys;
 #[doc(hidden)]
 pub mod cells;
 pub mod fill;
-mod handed;
+mod identity_hasher;
 mod keys;
 pub mod laws;
 pub mod plain;

@@ -11,7 +11,7 @@ ghost use Rattle.std.specs.Prelude.{◌≡◌, ◌≤◌, length, pos, codes, If
 ghost use Rattle.std.specs.Int.{w16};
 ghost use Rattle.planus_read.specs.Clauses.{Answer, shown};
 ghost use Rattle.planus_read.specs.Located.{Located, Required as IsThere, OrDefault as OrElse};
-ghost use Rattle.planus_read.specs.Pieces.{ShowsBytes};
+ghost use Rattle.planus_read.specs.Slices.{ShowsBytes};
 ghost use Rattle.planus_read.specs.Reading.{text_reading, byte_list_reading, signed_reading};
 ghost use Rattle.planus_read.specs.Reading.{vector_reading, union_vector_reading, table_reading};
 ghost use Rattle.planus_read.specs.Tables.{FieldAnswer, UnionAnswer, UnionVectorAnswer};

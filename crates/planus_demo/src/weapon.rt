@@ -8,7 +8,7 @@ ghost use Rattle.std.specs.Prelude.{◌≡◌, ◌≤◌, [], ◌∷◌, length,
 ghost use Rattle.std.specs.Int.{w16};
 ghost use Rattle.planus_read.specs.Clauses.{Answer, shown};
 ghost use Rattle.planus_read.specs.Located.{Located, OrDefault as OrElse};
-ghost use Rattle.planus_read.specs.Pieces.{ShowsBytes};
+ghost use Rattle.planus_read.specs.Slices.{ShowsBytes};
 ghost use Rattle.planus_read.specs.Reading.{text_reading, signed_reading, table_reading};
 ghost use Rattle.planus_read.specs.Tables.{FieldAnswer, table_start};
 ghost use Rattle.planus_write.specs.State.{Grows};

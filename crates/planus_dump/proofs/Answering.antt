@@ -17,7 +17,7 @@ use Rattle.std.specs.Str.{IsUtf8, is_utf8}
 use Rattle.std.proofs.lemmas.Int.{ints}
 use Rattle.std.proofs.lemmas.List.{length-drop}
 use Rattle.planus_read.specs.Clauses.{Clause, clause, AllHold, FirstBroken, Answer, shown}
-use Rattle.planus_read.specs.Pieces.{ShowsBytes}
+use Rattle.planus_read.specs.Slices.{ShowsBytes}
 use Rattle.planus_read.specs.Reading.{union_vector_clauses, ZeroByte, object_clauses, number, target, count_at, items_at, signed_number, vtable_at, vtable_size_at, slots_of, Leads, TextThere, text_reading, text_clauses, head_clauses, TableThere, table_reading, table_clauses}
 use Rattle.planus_read.specs.Tables.{ShowsTable, BothSlots, tag_of, slot_of, table_object, table_slots, UnionAbsent, UnionThere, UnionAnswer, HalfVector, UnionVectorSlots}
 use Rattle.planus_read.specs.Places.{tagged_place_reading}
@@ -25,7 +25,7 @@ use Rattle.planus_read.specs.declared.place.TaggedPlace.{TaggedPlace}
 use Rattle.planus_dump.specs.Lines.{quoted}
 use Rattle.planus_dump.specs.Tests.{union_vector_tests, Test, test, is_zero_byte, answered, fault_text, head_tests, text_tests, table_tests, content_at}
 use Rattle.planus_dump.specs.Answers.{Seen, table_at, union_at, tagged_union, unions_at, union_vector_by, union_vector_at, some_of}
-use Rattle.planus_dump.specs.Seeing.{SeesUnion, answer_seen, table_seen}
+use Rattle.planus_dump.specs.ReadingViews.{SeesUnion, answer_seen, table_seen}
 use Rattle.planus_dump.proofs.Matching.{le_false, lt_false, eq_false, le_ℤ_match, Matches, all_pass, first_fails, le_match, eq_match, size_match, zero_match, utf8_match}
 
 pub record NumberIs (S : List ℕ) (p : ℕ) (w : Width) (v : ℕ) : Type 0 where
@@ -226,9 +226,9 @@ none_zero true b c e f g = cc
 
 pub union_at_both : (table : Table) (i : ℕ) → BothSlots table i → union_at (table_seen table) i ≡ tagged_union (table_seen table) i (tag_of table i)
 union_at_both table i both =
-    let past : nat_le (length (table_slots table)) (2 * i) ≡ false = le_false (length (table_slots table)) (2 * i) (omega (arith, both)) in
+    let history : nat_le (length (table_slots table)) (2 * i) ≡ false = le_false (length (table_slots table)) (2 * i) (omega (arith, both)) in
     let whole : nat_lt (length (table_slots table)) (2 * i + 4) ≡ false = lt_false (length (table_slots table)) (2 * i + 4) both in
-    rw (past, whole) refl
+    rw (history, whole) refl
 
 absent_tag : (table : Table) (i tag : ℕ) → (tag ≡ 0) ⊎ (slot_of table i ≡ 0) ⊎ (slot_of table (i + 1) ≡ 0) → tagged_union (table_seen table) i (Some tag) ≡ Ok None
 absent_tag table i tag h =
@@ -239,7 +239,7 @@ absent_tag table i tag h =
     zeros a b c h = grind (arith, nat_tests, eq-eqb a 0, eq-eqb b 0, eq-eqb c 0)
 
 pub union_absent : (table : Table) (i : ℕ) → UnionAbsent table i → union_at (table_seen table) i ≡ Ok None
-union_absent table i (inl past) = let e : nat_le (length (table_slots table)) (2 * i) ≡ true = le-leb (length (table_slots table)) (2 * i) past in rw e refl
+union_absent table i (inl history) = let e : nat_le (length (table_slots table)) (2 * i) ≡ true = le-leb (length (table_slots table)) (2 * i) history in rw e refl
 union_absent table i (inr (both, (tag, is, zero))) = union_at_both table i both ∙ ap (tagged_union (table_seen table) i) is ∙ absent_tag table i tag zero
 
 pub union_there : (table : Table) (i tag : ℕ) → UnionThere table i tag → union_at (table_seen table) i ≡ Ok (Some (record { tag = tag; offset = slot_of table (i + 1) }))

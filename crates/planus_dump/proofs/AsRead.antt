@@ -17,7 +17,7 @@ use Rattle.planus_read.proofs.Reading.{num_inside, num_value, num_there, text_th
 use Rattle.planus_dump.specs.Lines.{quoted, bytes_text, truth_text}
 use Rattle.planus_dump.specs.Tests.{Test, answered, number_test, text_tests, byte_list_tests, vector_tests, union_vector_tests, table_tests, content_at, fault_text}
 use Rattle.planus_dump.specs.Answers.{unsigned_at, signed_at, leaf_at, table_at, union_at, unions_at, some_of, tagged_union, SeenUnion}
-use Rattle.planus_dump.specs.Seeing.{answer_seen, table_seen}
+use Rattle.planus_dump.specs.ReadingViews.{answer_seen, table_seen}
 use Rattle.planus_dump.specs.AsRead.{SaysAsRead, items_in, unions_in, layout_in, ReadingsAreSaid, UnionsAreSaid, NoUnionVector, UnionVectorsAreSaid}
 use Rattle.planus_dump.specs.declared.values.Leaf.TheVariants.{Bool as LeafBool}
 use Rattle.planus_dump.proofs.Matching.{Matches, all_pass, first_fails, passed_all, le_match, le_false}

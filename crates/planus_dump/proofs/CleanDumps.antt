@@ -7,8 +7,8 @@ use Rattle.std.specs.String.{string_bytes}
 use Rattle.std.specs.declared.alloc.Global.{Global}
 use Rattle.planus_read.specs.Bytes.{position_of}
 use Rattle.planus_read.specs.Reading.{Leads}
-use Rattle.planus_read.proofs.PieceLaws.{references_lead}
-use Rattle.planus.specs.Headline.{root_at}
+use Rattle.planus_read.proofs.SliceLaws.{references_lead}
+use Rattle.planus.specs.FinishHolds.{root_at}
 use Rattle.planus_dump.specs.FaultLines.{is_fault_line, IsNoFault, HaveNoFault}
 use Rattle.planus_dump.specs.Events.{Event, line, deep, float}
 use Rattle.planus_dump.specs.Dumped.{greatest_depth, Shows, AreShown}
@@ -17,7 +17,7 @@ use Rattle.planus_dump.proofs.FaultLines.{good_names, lines_told}
 use Rattle.planus_dump.proofs.NoFaults.{tables_no_fault}
 
 pub finishes_have_no_fault : FinishesHaveNoFault
-finishes_have_no_fault switches steps given holds schema good fits =
+finishes_have_no_fault settings steps given holds schema good fits =
     let leads : Leads given.bytes (root_at holds.front) (position_of given.bytes holds.leads.0) = references_lead given.bytes (root_at holds.front) holds.leads.0 holds.leads.2 in
     let at_zero : root_at holds.front ≡ root_at holds.front + 0 = omega arith in
     tables_no_fault steps given holds.values schema (good_names schema good) greatest_depth schema.root holds.root holds.leads.0 (root_at holds.front) 0 (codes "root") fits holds.leads.1
@@ -35,7 +35,7 @@ lines_no_fault (one ∷ lines) [] is h = absurd is
 lines_no_fault (one ∷ lines) (e ∷ es) is h = (line_no_fault e (string_bytes one) is.0 h.0, lines_no_fault lines es is.1 h.1)
 
 pub dumps_have_no_fault : DumpsHaveNoFault
-dumps_have_no_fault switches steps given holds schema fits budget lines dumped =
+dumps_have_no_fault settings steps given holds schema fits budget lines dumped =
     let begin = dumped.1.0 in
-    let all : HaveNoFault (begin.front ++ []) = subst HaveNoFault begin.split (finishes_have_no_fault switches steps given holds schema dumped.0 fits) in
+    let all : HaveNoFault (begin.front ++ []) = subst HaveNoFault begin.split (finishes_have_no_fault settings steps given holds schema dumped.0 fits) in
     lines_no_fault lines.items begin.front begin.shown (subst HaveNoFault (append-nil begin.front) all)

@@ -13,7 +13,7 @@ use Rattle.std.proofs.lemmas.Bool.{eqb-true, eqb-false, ltb-true, ltb-false}
 use Rattle.planus_dump.specs.Lines.{item_path, field_path, value_line}
 use Rattle.planus_dump.specs.Answers.{Seen, SeenUnions}
 use Rattle.planus_dump.specs.Events.{variant_of, variant_events, fault_event, Event, line, deep, float, field_label, events, TableEvents, shape_events, fields_events, kind_events, item_events, items_events, union_events, union_items_events, stride_of}
-use Rattle.planus_dump.specs.Seeing.{IsFound, found_events, IsUnionIn}
+use Rattle.planus_dump.specs.ReadingViews.{IsFound, found_events, IsUnionIn}
 use Rattle.planus_read.specs.declared.place.TaggedPlace.{TaggedPlace}
 use Rattle.planus_read.specs.Places.{place_bytes, place_offset, tagged_tag, tagged_place}
 use Rattle.planus_dump.specs.declared.readings.Found.{Found}

@@ -18,13 +18,13 @@ use Rattle.planus_read.specs.ReadsBack.{ReadsBack}
 use Rattle.planus_read.specs.Tables.{Slot}
 use Rattle.planus_read.specs.TableReading.{SlotReads}
 use Rattle.planus_read.proofs.Reading.{num_inside, num_there, table_holds, number_of_signed, stood_inside}
-use Rattle.planus_read.proofs.PieceLaws.{references_lead, bytes_in_piece, stands_in_pieces, leads_in_pieces}
+use Rattle.planus_read.proofs.SliceLaws.{references_lead, bytes_in_slice, stands_in_slices, leads_in_slices}
 use Rattle.planus_read.proofs.ListItems.{num_of_bytes}
 use Rattle.planus_read.proofs.TableReading.{table_there, any_slot_reads, table_slot_bytes, slot_reads_whole}
 use Rattle.planus.specs.Steps.{Step, FieldStep, text, bytes, numbers, refs, unions, table, number_field, ref_field, tags_field, values_field}
 use Rattle.planus.specs.Slots.{greatest_field}
 use Rattle.planus.specs.Runs.{Finish, value_at, value_of, width_of, fits_width, numbers_value, fields_of, field_of, all_of, union_of, distance_at, tags_distance, references_distance}
-use Rattle.planus.specs.Headline.{ValueHolds}
+use Rattle.planus.specs.FinishHolds.{ValueHolds}
 use Rattle.planus.proofs.Lists.{made_of}
 use Rattle.planus_dump.specs.Lines.{item_path, field_path}
 use Rattle.planus_dump.specs.Tests.{table_tests}
@@ -175,7 +175,7 @@ module _ (steps : List Step) (given : Finish) (values : AllByRecursion (ValueHol
   field_no_fault kind (number_field size number) field k q path is e stands h =
       let one : IsNumber size number field = field_number given.places size number field e in
       let there : BytesStand given.bytes (k + q) one.item.bytes = subst (FieldStands given.bytes (k + q)) one.is stands in
-      let within : length one.item.bytes ≤ length (drop q (drop k given.bytes)) = stood_inside (drop q (drop k given.bytes)) one.item.bytes (bytes_in_piece given.bytes k q one.item.bytes there) in
+      let within : length one.item.bytes ≤ length (drop q (drop k given.bytes)) = stood_inside (drop q (drop k given.bytes)) one.item.bytes (bytes_in_slice given.bytes k q one.item.bytes there) in
       plain_field_event E kind size (drop k given.bytes) q path is (omega (arith, one.sized, one.some, length-drop q (drop k given.bytes))) h
   field_no_fault kind (ref_field n) field k q path is e stands h =
       let made = made_of value.reference (value_at given.places n) field e in
@@ -224,8 +224,8 @@ table_found B k start f entries stands leads =
     let whole : k ≡ start + (k - start) = omega arith in
     let from : start ≤ length B = omega arith in
     let S : List ℕ = drop start B in
-    let here : TableStands S (k - start) entries = stands_in_pieces B start (at (k - start)) (value.table entries) from (subst (λ n. Stands B (at n) (value.table entries)) whole stands) in
-    let leads_here : Leads S f (k - start) = leads_in_pieces B start f (k - start) (subst (Leads B (start + f)) whole leads) in
+    let here : TableStands S (k - start) entries = stands_in_slices B start (at (k - start)) (value.table entries) from (subst (λ n. Stands B (at n) (value.table entries)) whole stands) in
+    let leads_here : Leads S f (k - start) = leads_in_slices B start f (k - start) (subst (Leads B (start + f)) whole leads) in
     let facts = table_holds S f (k - start) here.vtable (vtable_size entries) (table_there S f (k - start) entries leads_here here) in
     let seen : Seen = record { object = drop (target S f) S; slots = slots_of S (target S f) } in
     let V : List ℕ = drop 4 (take (vtable_size entries) (drop here.vtable S)) in
@@ -292,7 +292,7 @@ module _ (B : List ℕ) (k : ℕ) (entries : List (ℕ × Field)) (seen : Seen) 
   union_none = by_length (le_or_lt (length seen.slots) (2 * i))
     where
       by_length : (length seen.slots ≤ 2 * i) ⊎ (2 * i < length seen.slots) → union_at seen i ≡ Ok None
-      by_length (inl past) = let test : nat_le (length seen.slots) (2 * i) ≡ true = le-leb (length seen.slots) (2 * i) past in rw test refl
+      by_length (inl history) = let test : nat_le (length seen.slots) (2 * i) ≡ true = le-leb (length seen.slots) (2 * i) history in rw test refl
       by_length (inr within) =
           let apart : slot_count entries ≢ i + 1 = λ e. no_last entries i e none in
           let count : length seen.slots ≡ 2 * slot_count entries = sees.slot_bytes in
@@ -388,7 +388,7 @@ module _ (steps : List Step) (given : Finish) (values : AllByRecursion (ValueHol
       let second : (4 ≤ Slot seen.slots (i + 1)) × FieldStands given.bytes (k + Slot seen.slots (i + 1)) referred = subst (SlotReads given.bytes k (Slot seen.slots (i + 1))) next (sees.slots (i + 1)) in
       let there : BytesStand given.bytes (k + Slot seen.slots i) one.item.bytes = subst (FieldStands given.bytes (k + Slot seen.slots i)) one.is first.1 in
       let byte : Num (drop k given.bytes) (Slot seen.slots i) w8 ≡ Some (from_le_bytes w8 one.item.bytes)
-      = num_of_bytes (drop k given.bytes) (Slot seen.slots i) w8 one.item.bytes (one.sized ∙ is.0) (bytes_in_piece given.bytes k (Slot seen.slots i) one.item.bytes there) in
+      = num_of_bytes (drop k given.bytes) (Slot seen.slots i) w8 one.item.bytes (one.sized ∙ is.0) (bytes_in_slice given.bytes k (Slot seen.slots i) one.item.bytes there) in
       let tagged : Num seen.object (Slot seen.slots i) w8 ≡ Some tag = ap (λ bytes. Num bytes (Slot seen.slots i) w8) sees.object ∙ byte ∙ ap (λ t. Some t) (one.again is.0) in
       let leads : ReferenceStands given.bytes (k + Slot seen.slots (i + 1)) made.0 = subst (FieldStands given.bytes (k + Slot seen.slots (i + 1))) (sym made.2) second.1 in
       let within : 2 * (i + 1) + 2 ≤ length seen.slots = slot_inside seen.slots (i + 1) second.0 in

@@ -14,7 +14,7 @@ use Rattle.planus_write.specs.Parts.{Named, position_with, position_in}
 use Rattle.planus.specs.Steps.{Step, FieldStep, number_field}
 use Rattle.planus.specs.Slots.{place_fault, alignment_of}
 use Rattle.planus.specs.Runs.{Finish, Listed, named_at, value_distance, tags_distance, references_distance, distance_at, value_at, value_of, width_of, field_width, plain_field, fits_width, field_of, fields_of, all_of, union_of}
-use Rattle.planus.specs.Headline.{ValueHolds}
+use Rattle.planus.specs.FinishHolds.{ValueHolds}
 use Rattle.planus.proofs.Lists.{made_of, made_after, all_made, all_named}
 use Rattle.planus.proofs.TableFields.{fields_made}
 use Rattle.planus_dump.specs.Describes.{held_at}

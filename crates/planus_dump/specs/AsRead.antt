@@ -17,7 +17,7 @@ use Rattle.planus_dump.specs.Tests.{fault_text}
 use Rattle.planus_dump.specs.Answers.{unsigned_at, signed_at, leaf_at, vector_at, union_vector_at}
 use Rattle.planus_dump.specs.Answers.{table_at, union_at, unions_at, Seen, SeenItems, SeenUnion}
 use Rattle.planus_dump.specs.Answers.{SeenUnions, some_of}
-use Rattle.planus_dump.specs.Seeing.{answer_seen, table_seen}
+use Rattle.planus_dump.specs.ReadingViews.{answer_seen, table_seen}
 use Rattle.planus_dump.specs.declared.values.Leaf.TheVariants.{Bool, Text, Bytes}
 
 -- the value if one is encoded, else the message of an error

@@ -3,10 +3,10 @@ use Rattle.std.specs.Prelude.{◌≡◌, ℕ, List, drop, codes, true, false, Ok
 use Rattle.std.specs.List.{AllByRecursion}
 use Rattle.std.specs.String.{string_bytes}
 use Rattle.std.specs.declared.alloc.Global.{Global}
-use Rattle.planus_write.specs.Shared.{Switches}
+use Rattle.planus_write.specs.Shared.{CacheSettings}
 use Rattle.planus.specs.Steps.{Step}
 use Rattle.planus.specs.Runs.{Finish}
-use Rattle.planus.specs.Headline.{FinishHolds, root_at}
+use Rattle.planus.specs.FinishHolds.{FinishHolds, root_at}
 use Rattle.planus_dump.specs.Lines.{value_line, fault_line, table_line, list_line, union_line}
 use Rattle.planus_dump.specs.Lines.{unions_line, struct_line, field_path, item_path}
 use Rattle.planus_dump.specs.FaultLines.{is_fault_line, HasNoSpace, HaveNoFault}
@@ -34,23 +34,23 @@ pub record PathsHaveNoSpace : Type 0 where
   pub item : (path : List ℕ) (i : ℕ) → HasNoSpace path → HasNoSpace (item_path path i)
 
 -- the bytes from the root's reference on: all of them, or those after the size
-abbrev pub piece_of : (switches : Switches) (steps : List Step) (given : Finish)
-    → FinishHolds switches steps given → List ℕ
-piece_of switches steps given holds = drop (root_at holds.front) given.bytes
+abbrev pub slice_of : (settings : CacheSettings) (steps : List Step) (given : Finish)
+    → FinishHolds settings steps given → List ℕ
+slice_of settings steps given holds = drop (root_at holds.front) given.bytes
 
 -- No event of a finish is an error, if the schema fits its root.
 abbrev pub FinishesHaveNoFault : Type 0
 FinishesHaveNoFault =
-    (switches : Switches) (steps : List Step) (given : Finish)
-    → (holds : FinishHolds switches steps given) → (schema : Schema) → is_good schema ≡ true
+    (settings : CacheSettings) (steps : List Step) (given : Finish)
+    → (holds : FinishHolds settings steps given) → (schema : Schema) → is_good schema ≡ true
     → Fits schema steps holds.root
-    → HaveNoFault (events_of schema (piece_of switches steps given holds))
+    → HaveNoFault (events_of schema (slice_of settings steps given holds))
 
 -- So no line of its dump is an error line.
 abbrev pub DumpsHaveNoFault : Type 0
 DumpsHaveNoFault =
-    (switches : Switches) (steps : List Step) (given : Finish)
-    → (holds : FinishHolds switches steps given) → (schema : Schema)
+    (settings : CacheSettings) (steps : List Step) (given : Finish)
+    → (holds : FinishHolds settings steps given) → (schema : Schema)
     → Fits schema steps holds.root → (budget : ℕ) (lines : Vec (String Global) Global)
-    → Dumped schema (piece_of switches steps given holds) budget (Ok lines)
+    → Dumped schema (slice_of settings steps given holds) budget (Ok lines)
     → AllByRecursion (λ line. is_fault_line (string_bytes line) ≡ false) lines.items

@@ -5,7 +5,7 @@ pub mod Tests
 pub mod Answers
 pub mod AsRead
 pub mod Events
-pub mod Seeing
+pub mod ReadingViews
 pub mod Dumped
 pub mod Views
 pub mod FaultLines

@@ -4,11 +4,11 @@ use Rattle.std.specs.Prelude.{Option, Some, None, Result, Ok, Err}
 use Rattle.std.specs.List.{AllByRecursion}
 use Rattle.std.specs.String.{string_bytes}
 use Rattle.std.specs.declared.alloc.Global.{Global}
-use Rattle.planus_write.specs.Shared.{Switches}
+use Rattle.planus_write.specs.Shared.{CacheSettings}
 use Rattle.planus.specs.Steps.{Step, root_first}
 use Rattle.planus.specs.Runs.{Finish}
 use Rattle.planus.specs.Replays.{Replays}
-use Rattle.planus.specs.Headline.{FinishHolds, finishes_of}
+use Rattle.planus.specs.FinishHolds.{FinishHolds, finishes_of}
 use Rattle.planus_dump.specs.FaultLines.{is_fault_line}
 use Rattle.planus_dump.specs.Describes.{Fits}
 use Rattle.planus_dump.specs.Dumped.{Dumped}
@@ -19,19 +19,19 @@ use Rattle.planus_dump.specs.declared.runs.DumpRunError.TheVariants.{Replay, Dum
 
 -- the result of the first finish's dump
 pub record DumpsFirst
-    (switches : Switches) (steps : List Step) (schema : Schema) (budget : ℕ)
+    (settings : CacheSettings) (steps : List Step) (schema : Schema) (budget : ℕ)
     (answer : Result (Vec (String Global) Global) DumpError) : Type 0 where
   pub given : Finish
   pub others : List Finish
-  pub run : Replays switches steps (Ok (given ∷ others))
+  pub run : Replays settings steps (Ok (given ∷ others))
   pub dumped : Dumped schema given.bytes budget answer
 
 -- the dump has no error line, if the schema fits the root's step
 pub record DumpsFit
-    (switches : Switches) (steps : List Step) (schema : Schema) (budget : ℕ)
+    (settings : CacheSettings) (steps : List Step) (schema : Schema) (budget : ℕ)
     (lines : Vec (String Global) Global) : Type 0 where
-  pub first : DumpsFirst switches steps schema budget (Ok lines)
-  pub holds : FinishHolds switches steps first.given
+  pub first : DumpsFirst settings steps schema budget (Ok lines)
+  pub holds : FinishHolds settings steps first.given
   pub of_first : slice_get (finishes_of steps) 0 ≡ Some holds.number
   pub no_fault :
       holds.front ≡ root_first → Fits schema steps holds.root
@@ -39,11 +39,11 @@ pub record DumpsFit
 
 -- the error of the run, none without a finish, or the first finish's result
 abbrev pub DumpsRun :
-    Switches → List Step → Schema → ℕ
+    CacheSettings → List Step → Schema → ℕ
     → Result (Option (Vec (String Global) Global)) DumpRunError → Type 0
-DumpsRun switches steps schema budget (Err (Replay error)) = Replays switches steps (Err error)
-DumpsRun switches steps schema budget (Err (Dump error)) =
-    DumpsFirst switches steps schema budget (Err error)
-DumpsRun switches steps schema budget (Ok None) = Replays switches steps (Ok [])
-DumpsRun switches steps schema budget (Ok (Some lines)) =
-    DumpsFit switches steps schema budget lines
+DumpsRun settings steps schema budget (Err (Replay error)) = Replays settings steps (Err error)
+DumpsRun settings steps schema budget (Err (Dump error)) =
+    DumpsFirst settings steps schema budget (Err error)
+DumpsRun settings steps schema budget (Ok None) = Replays settings steps (Ok [])
+DumpsRun settings steps schema budget (Ok (Some lines)) =
+    DumpsFit settings steps schema budget lines

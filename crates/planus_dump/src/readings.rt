@@ -1,15 +1,15 @@
 //! What is at a place, or in the slots of a table.
 ghost use Rattle.std.specs.Prelude.{◌≡◌, List, ℕ};
 ghost use Rattle.std.specs.Int.{w32, w64};
-ghost use Rattle.planus_read.specs.Pieces.{slice_bytes};
+ghost use Rattle.planus_read.specs.Slices.{slice_bytes};
 ghost use Rattle.planus_read.specs.Places.{place_bytes, place_offset};
 ghost use Rattle.planus_read.specs.Tables.{table_object};
 ghost use Rattle.planus_dump.specs.Lines.{value_text};
 ghost use Rattle.planus_dump.specs.Answers.{leaf_at, bits_at, table_at, union_at, vector_at};
 ghost use Rattle.planus_dump.specs.Events.{TableEvents, leaf_events, number_width};
-ghost use Rattle.planus_dump.specs.Seeing.{answer_seen, table_seen};
-ghost use Rattle.planus_dump.specs.Seeing.{SeesUnion, SeesPlace, IsFound, found_events};
-ghost use Rattle.planus_dump.specs.Seeing.{IsSliceFrom, IsFloat, values_seen};
+ghost use Rattle.planus_dump.specs.ReadingViews.{answer_seen, table_seen};
+ghost use Rattle.planus_dump.specs.ReadingViews.{SeesUnion, SeesPlace, IsFound, found_events};
+ghost use Rattle.planus_dump.specs.ReadingViews.{IsSliceFrom, IsFloat, values_seen};
 
 use crate::line::Bits;
 use crate::schemas::{Item, Number};
@@ -93,7 +93,7 @@ pub struct Position<'buf> {
 }
 
 impl<'buf> TableRead<'buf> for Position<'buf> {
-    ghost use Rattle.planus_dump.specs.Seeing.{IsPosition};
+    ghost use Rattle.planus_dump.specs.ReadingViews.{IsPosition};
 
     ghost reads = { λ S start f r. IsPosition S f r };
 

@@ -1,6 +1,6 @@
 //! Dumps of what steps finish.
 ghost use Rattle.std.specs.Prelude.{map};
-ghost use Rattle.planus_write.specs.View.{switches_of};
+ghost use Rattle.planus_write.specs.View.{settings_of};
 ghost use Rattle.planus.specs.Steps.{bare_step};
 ghost use Rattle.planus_dump.specs.Runs.{DumpsRun};
 
@@ -48,7 +48,7 @@ pub fn dump_run(
     schema: &Schema,
     budget: usize,
 ) -> Result<Option<Vec<String>>, DumpRunError>
-    ensures { DumpsRun (switches_of caches) (map bare_step steps.now) schema.now budget result }
+    ensures { DumpsRun (settings_of caches) (map bare_step steps.now) schema.now budget result }
 {
     let finished = match replay(alloc, caches, steps) {
         Ok(finished) => finished,

@@ -1,8 +1,8 @@
 //! The items of a union vector.
 ghost use Rattle.std.specs.Prelude.{◌≡◌};
 ghost use Rattle.planus_dump.specs.Answers.{unions_at};
-ghost use Rattle.planus_dump.specs.Seeing.{answer_seen, option_seen, table_seen};
-ghost use Rattle.planus_dump.specs.Seeing.{unions_seen, unions_view, GetsUnion};
+ghost use Rattle.planus_dump.specs.ReadingViews.{answer_seen, option_seen, table_seen};
+ghost use Rattle.planus_dump.specs.ReadingViews.{unions_seen, unions_view, GetsUnion};
 
 use crate::readings::{METHOD, TYPE};
 use planus::errors::ErrorKind;

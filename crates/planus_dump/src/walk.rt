@@ -7,7 +7,7 @@ ghost use Rattle.planus_dump.specs.Answers.{table_at, vector_at};
 ghost use Rattle.planus_dump.specs.Events.{events, kind_events, place_events, variant_of};
 ghost use Rattle.planus_dump.specs.Events.{field_label, buffer_events, stride_of as stride_lem};
 ghost use Rattle.planus_dump.specs.Events.{union_events, unions_events, list_events, table_events};
-ghost use Rattle.planus_dump.specs.Seeing.{table_seen, found_events, unions_seen};
+ghost use Rattle.planus_dump.specs.ReadingViews.{table_seen, found_events, unions_seen};
 ghost use Rattle.planus_dump.specs.inner.Shown.{shown, feed};
 ghost use Rattle.std.specs.Prelude.{Some, Ok};
 

@@ -7,8 +7,8 @@ use Rattle.std.proofs.lemmas.Bool.Decides.{Decides-int_eq}
 use Rattle.planus.specs.read.declared.table_reader.Table.{Table}
 use Rattle.planus.specs.write.Contents.{Content, written, written_union}
 use Rattle.planus.specs.write.declared.offset.Offset.{Offset}
-use Rattle.planus.specs.write.Past.{Past}
-use Rattle.planus.specs.write.State.{State, IsPast}
+use Rattle.planus.specs.write.History.{History}
+use Rattle.planus.specs.write.State.{State, IsHistoryOf}
 use Rattle.planus.specs.read.declared.located.Error.{Error}
 use Rattle.planus.specs.Contents.{WritesContents}
 use Rattle.planus.specs.read.Plain.{Shape}
@@ -142,12 +142,12 @@ ok_also P Q (Err e) also is = elim is [ ]
 pub written_reads_back
     : {V K E : Type 0} (table_of : V → Table) (before builder : State) (lines : List FieldLine)
     (root : Offset K) (identifier : Option (List ℕ)) (r : Result (Result V Error) E)
-    → IfOk r (RootIsRead table_of root identifier builder) → (past : Past) × IsPast before past
+    → IfOk r (RootIsRead table_of root identifier builder) → (history : History) × IsHistoryOf before history
     → WritesContents (contents_of lines) before root.distance builder
     → are_apart (contents_of lines) ≡ true
     → IfOk r (λ read. IsOkAnd read (λ view. ReadsBack before lines (table_of view)))
-written_reads_back table_of before builder lines root identifier (Err e) is past writes apart = tt
-written_reads_back table_of before builder lines root identifier (Ok read) is past writes apart =
+written_reads_back table_of before builder lines root identifier (Err e) is history writes apart = tt
+written_reads_back table_of before builder lines root identifier (Ok read) is history writes apart =
     ok_also _ (λ view. ReadsBack before lines (table_of view)) read
     (λ view found. reads_back before lines found.0 (table_of view) found.2 found.3 apart)
-    (is before (contents_of lines) past writes apart)
+    (is before (contents_of lines) history writes apart)

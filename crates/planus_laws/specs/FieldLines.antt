@@ -12,9 +12,9 @@ use Rattle.planus.specs.read.Shapes.{u32_shape}
 use Rattle.planus.specs.read.declared.plain.Plain.{Ghosts as PlainGhosts}
 use Rattle.planus.specs.write.Contents.{Content, written, written_union}
 use Rattle.planus.specs.write.Finishing.{FinishGives}
-use Rattle.planus.specs.write.Past.{Past}
+use Rattle.planus.specs.write.History.{History}
 use Rattle.planus.specs.write.Preparing.{IsPrepared}
-use Rattle.planus.specs.write.State.{State, IsPast}
+use Rattle.planus.specs.write.State.{State, IsHistoryOf}
 use Rattle.planus.specs.write.declared.offset.Offset.{Offset}
 use Rattle.planus.specs.write.declared.union_offset.UnionOffset.{UnionOffset}
 use Rattle.planus.specs.view.declared.item_errors.AsRead.{AsRead}
@@ -169,8 +169,8 @@ AllReturnGiven B table (line ∷ lines) = ReturnsGiven B table line × AllReturn
 -- Each table that a builder has is encoded in B, with all that it refers to.
 abbrev pub KeptTablesStandIn : List ℕ → State → Type 0
 KeptTablesStandIn B builder =
-    (past : Past) (contents : List (ℕ × Option Content)) (distance : ℕ) → IsPast builder past
-    → TableIsKept past contents distance → IsTrue (are_apart contents)
+    (history : History) (contents : List (ℕ × Option Content)) (distance : ℕ) → IsHistoryOf builder history
+    → TableIsKept history contents distance → IsTrue (are_apart contents)
     → TableStands B contents distance
 
 -- What is read of a root that a builder finishes: a view with all contents with which its table was
@@ -178,7 +178,7 @@ KeptTablesStandIn B builder =
 abbrev pub RootIsRead :
     {V K : Type 0} → (V → Table) → Offset K → Option (List ℕ) → State → Result V Error → Type 0
 RootIsRead table_of root identifier builder read =
-    (before : State) (contents : List (ℕ × Option Content)) → (past : Past) × IsPast before past
+    (before : State) (contents : List (ℕ × Option Content)) → (history : History) × IsHistoryOf before history
     → WritesContents contents before root.distance builder → IsTrue (are_apart contents)
     → IsOkAnd read
     (λ view. (B : List ℕ) × FinishGives (IsPrepared root) identifier builder B

@@ -47,7 +47,7 @@ pub trait Create<F>: TableKind {
         ensures { IfOk result (λ read. IsOkAnd read (λ view.
             ReadsBack builder.old (lines fields) (V.table view))) }
     {
-        builder.has_a_past();
+        builder.has_a_history();
         let root = Self::create(builder, fields)?;
         finish_and_read(builder, root, None)
     }

@@ -12,7 +12,7 @@ use planus::{TableView, read_size_prefixed, read_view};
 pub fn read_sized_root<'a, V: TableView<'a>>(bytes: &'a [u8]) -> Result<(V, &'a [u8]), ErrorKind>
     ensures { IsSizedRoot V.table bytes.entry.now result }
 {
-    let (piece, rest) = read_size_prefixed(bytes)?;
-    let view = read_view(piece, 0)?;
+    let (slice, rest) = read_size_prefixed(bytes)?;
+    let view = read_view(slice, 0)?;
     Ok((view, rest))
 }

@@ -54,9 +54,9 @@ pub fn tables(buffer: &[u8]) -> Result<usize, Error> {
 }
 
 fn tables_in(buffer: &[u8]) -> Result<Vector<'_, Result<TableRef<'_, Weapon>, Error>>, Error> {
-    let piece = SliceWithStartOffset::new(buffer, 0);
+    let slice = SliceWithStartOffset::new(buffer, 0);
     <Vector<'_, Result<TableRef<'_, Weapon>, Error>> as TableRead<'_>>::from_buffer(
-        piece, 0,
+        slice, 0,
     ).map_err(|kind| kind.with_error_location("Tables", "root", 0))
 }
 
@@ -69,9 +69,9 @@ pub fn unions(buffer: &[u8]) -> Result<usize, Error> {
 }
 
 fn unions_in(buffer: &[u8]) -> Result<UnionVector<'_, TaggedPlace<'_>>, Error> {
-    let piece = SliceWithStartOffset::new(buffer, 0);
+    let slice = SliceWithStartOffset::new(buffer, 0);
     <UnionVector<'_, TaggedPlace<'_>> as TableReadUnionVector<'_>>::from_buffer(
-        piece, 0, 4,
+        slice, 0, 4,
     ).map_err(|kind| kind.with_error_location("Unions", "root", 0))
 }
 

@@ -50,7 +50,7 @@ const PLAIN: &[(&str, Work)] = &[
         Work::ReadNumbers(Walk::Positions),
     ),
     (
-        "read a piece of 16 numbers",
+        "read a slice of 16 numbers",
         Work::ReadNumbers(Walk::Chunks),
     ),
     (

@@ -37,8 +37,8 @@ pub enum Walk {
 }
 
 fn root(buffer: &[u8]) -> Result<Table<'_>, Error> {
-    let piece = SliceWithStartOffset::new(buffer, 0);
-    Table::from_buffer(piece, 0).map_err(|kind| kind.with_error_location("Table", "root", 0))
+    let slice = SliceWithStartOffset::new(buffer, 0);
+    Table::from_buffer(slice, 0).map_err(|kind| kind.with_error_location("Table", "root", 0))
 }
 
 /// Returns a weapon's number plus the length of its string.
@@ -126,8 +126,8 @@ fn sum_by_windows(numbers: Vector<'_, u32>) -> usize {
 }
 
 pub fn walked(buffer: &[u8], walk: Walk) -> Result<usize, ErrorKind> {
-    let piece = SliceWithStartOffset::new(buffer, 0);
-    let list = <Vector<'_, u32> as TableRead<'_>>::from_buffer(piece, 0)?;
+    let slice = SliceWithStartOffset::new(buffer, 0);
+    let list = <Vector<'_, u32> as TableRead<'_>>::from_buffer(slice, 0)?;
     Ok(match walk {
         Walk::Each => sum_of(list),
         Walk::Positions => sum_by_positions(list),
@@ -145,8 +145,8 @@ pub fn texts(buffer: &[u8]) -> Result<usize, Error> {
 }
 
 fn texts_in(buffer: &[u8]) -> Result<Vector<'_, Result<&str, Error>>, Error> {
-    let piece = SliceWithStartOffset::new(buffer, 0);
-    <Vector<'_, Result<&str, Error>> as TableRead<'_>>::from_buffer(piece, 0).map_err(
+    let slice = SliceWithStartOffset::new(buffer, 0);
+    <Vector<'_, Result<&str, Error>> as TableRead<'_>>::from_buffer(slice, 0).map_err(
         |kind| kind.with_error_location("Texts", "root", 0),
     )
 }

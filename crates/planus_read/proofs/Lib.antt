@@ -4,6 +4,6 @@ pub mod Reading
 pub mod ReadingLaws
 pub mod TableReading
 pub mod ListItems
-pub mod PieceLaws
+pub mod SliceLaws
 pub mod ReadsBack
 pub mod SizePrefixed

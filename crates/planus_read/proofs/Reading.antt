@@ -17,7 +17,7 @@ use Rattle.planus_read.specs.declared.slice_helpers.SliceWithStartOffset.{SliceW
 use Rattle.planus_read.specs.Bytes.{Num, Int, BytesStand}
 use Rattle.planus_read.specs.Utf8.{utf8_clause}
 use Rattle.planus_read.specs.Clauses.{AllHold, FirstBroken, Answer, clause, shown}
-use Rattle.planus_read.specs.Pieces.{slice_bytes, ShowsBytes}
+use Rattle.planus_read.specs.Slices.{slice_bytes, ShowsBytes}
 use Rattle.planus_read.specs.Heads.{ShowsItems, IsTextOf, text_of_clauses}
 use Rattle.planus_read.specs.Reading.{number, Items, TableLayout, text_reading, table_reading}
 use Rattle.planus_read.specs.Reading.{Leads, target, head_clauses, count_at, items_at, HeadThere}
@@ -89,9 +89,9 @@ head_facts S f position count h =
     }
 
 abbrev pub Head : List ℕ → ℕ → ℕ → SliceWithStartOffset → ℕ → Type 0
-Head S start f piece count =
+Head S start f slice count =
     (items : Items) × HeadThere S f items.position items.count
-    × ShowsItems S start items (piece, count)
+    × ShowsItems S start items (slice, count)
 
 record HeadRead (S : List ℕ) (f : ℕ) (items : SliceWithStartOffset) (count : ℕ) : Type 0 where
   holds : AllHold (head_clauses S f [])
@@ -99,9 +99,9 @@ record HeadRead (S : List ℕ) (f : ℕ) (items : SliceWithStartOffset) (count :
   counted : count ≡ count_at S f
 
 head_read :
-    (S : List ℕ) (start f : ℕ) (piece : SliceWithStartOffset) (count : ℕ)
-    → Head S start f piece count → HeadRead S f piece count
-head_read S start f piece count h =
+    (S : List ℕ) (start f : ℕ) (slice : SliceWithStartOffset) (count : ℕ)
+    → Head S start f slice count → HeadRead S f slice count
+head_read S start f slice count h =
     let facts : HeadFacts S f h.0.position h.0.count = head_facts S f h.0.position h.0.count h.1 in
     record {
       holds = (facts.reference, (facts.inside, (facts.word, tt)));

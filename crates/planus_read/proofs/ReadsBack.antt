@@ -28,8 +28,8 @@ use Rattle.planus_read.proofs.ReadingLaws.{lawful_number, lawful_signed, lawful_
 use Rattle.planus_read.proofs.ReadingLaws.{lawful_byte_list, lawful_vector, lawful_union_vector}
 use Rattle.planus_read.proofs.ReadingLaws.{lawful_table}
 use Rattle.planus_read.proofs.Reading.{num_inside, number_of_signed}
-use Rattle.planus_read.proofs.PieceLaws.{references_lead, num_in_piece, leads_in_pieces}
-use Rattle.planus_read.proofs.PieceLaws.{bytes_in_piece, stands_in_pieces}
+use Rattle.planus_read.proofs.SliceLaws.{references_lead, num_in_slice, leads_in_slices}
+use Rattle.planus_read.proofs.SliceLaws.{bytes_in_slice, stands_in_slices}
 use Rattle.planus_read.proofs.ListItems.{num_of_bytes, plain_lists_read, reference_lists_read}
 use Rattle.planus_read.proofs.ListItems.{union_vectors_stand_read, plain_items_stand, reference_items_stand}
 use Rattle.planus_read.proofs.ListItems.{union_items_stand}
@@ -56,7 +56,7 @@ leads_on :
     → IsPlace (drop start B) start f place → LeadsOn B (position_of B distance) place
 leads_on B start f distance h place is =
     record {
-      piece = is.bytes ∙ ap (λ s. drop s B) (sym is.begin);
+      slice = is.bytes ∙ ap (λ s. drop s B) (sym is.begin);
       leads = subst (λ s. Leads B (s + place_offset place) (position_of B distance)) (sym is.begin)
           (subst (λ o. Leads B (start + o) (position_of B distance)) (sym is.offset)
           (references_lead B (start + f) distance h));
@@ -77,39 +77,39 @@ reference_reads B start f distance h =
 
 pub fields_read_back : FieldsReadBack
 fields_read_back B start f (plain item) h = plain_reads (drop start B) f item.bytes
-    (bytes_in_piece B start f item.bytes h)
+    (bytes_in_slice B start f item.bytes h)
 fields_read_back B start f (reference distance) h = reference_reads B start f distance h
 fields_read_back B start f (tags distance) h = reference_reads B start f distance h
 fields_read_back B start f (values distance) h = reference_reads B start f distance h
 
-record InPiece (B : List ℕ) (start f k : ℕ) : Type 0 where
+record InSlice (B : List ℕ) (start f k : ℕ) : Type 0 where
   inside : start ≤ length B
   whole : k ≡ start + (k - start)
   leads : Leads (drop start B) f (k - start)
 
-in_piece : (B : List ℕ) (start f k : ℕ) → Leads B (start + f) k → InPiece B start f k
-in_piece B start f k h =
+in_slice : (B : List ℕ) (start f k : ℕ) → Leads B (start + f) k → InSlice B start f k
+in_slice B start f k h =
     let here : start + f + byte_len w32 ≤ length B = num_inside B (start + f) w32 h.0 h.1 in
     let to : k ≡ start + f + h.0 = h.2 in
     let whole : k ≡ start + (k - start) = omega arith in
     record {
       inside = omega arith;
       whole = whole;
-      leads = leads_in_pieces B start f (k - start) (subst (Leads B (start + f)) whole h);
+      leads = leads_in_slices B start f (k - start) (subst (Leads B (start + f)) whole h);
     }
 
 stands_here :
-    (B : List ℕ) (start f k : ℕ) (v : Value) → InPiece B start f k → Stands B (at k) v
+    (B : List ℕ) (start f k : ℕ) (v : Value) → InSlice B start f k → Stands B (at k) v
     → Stands (drop start B) (at (k - start)) v
 stands_here B start f k v here h =
-    stands_in_pieces B start (at (k - start)) v here.inside
+    stands_in_slices B start (at (k - start)) v here.inside
     (subst (λ n. Stands B (at n) v) here.whole h)
 
 text_reads :
     (B : List ℕ) (k : ℕ) (bytes : List ℕ) → IsUtf8 bytes → Stands B (at k) (text bytes)
     → (start f : ℕ) → Leads B (start + f) k → IsAnswered (text_reading (drop start B) f) bytes
 text_reads B k bytes utf8 h start f to =
-    let here : InPiece B start f k = in_piece B start f k to in
+    let here : InSlice B start f k = in_slice B start f k to in
     (lawful_text (drop start B) f).answered bytes
     (k - start, here.leads, stands_here B start f k (text bytes) here h, utf8)
 
@@ -117,7 +117,7 @@ byte_list_reads :
     (B : List ℕ) (k : ℕ) (bytes : List ℕ) → Stands B (at k) (byte_list bytes) → (start f : ℕ)
     → Leads B (start + f) k → IsAnswered (byte_list_reading (drop start B) f) bytes
 byte_list_reads B k bytes h start f to =
-    let here : InPiece B start f k = in_piece B start f k to in
+    let here : InSlice B start f k = in_slice B start f k to in
     (lawful_byte_list (drop start B) f).answered bytes
     (k - start, here.leads, stands_here B start f k (byte_list bytes) here h)
 
@@ -126,7 +126,7 @@ plain_list_reads :
     → Stands B (at k) (plain_list size alignment items) → (start f : ℕ) → Leads B (start + f) k
     → ListReads (λ s f item. PlainReads (drop s B) f item) B k start f size items
 plain_list_reads B k size alignment items h start f to =
-    let here : InPiece B start f k = in_piece B start f k to in
+    let here : InSlice B start f k = in_slice B start f k to in
     let vector : Items = record { position = k - start + 4; count = length items } in
     record {
       position = k - start + 4;
@@ -135,7 +135,7 @@ plain_list_reads B k size alignment items h start f to =
           (plain_lists_read (drop start B) f (k - start) size alignment items here.leads
           (stands_here B start f k (plain_list size alignment items) here h));
       each = λ i item e. plain_reads (drop (k + 4) B) (i * size) item
-          (bytes_in_piece B (k + 4) (i * size) item
+          (bytes_in_slice B (k + 4) (i * size) item
           (plain_items_stand B k size alignment items h i item e).1);
     }
 
@@ -143,7 +143,7 @@ reference_list_reads :
     (B : List ℕ) (k : ℕ) (distances : List ℕ) → Stands B (at k) (reference_list distances)
     → (start f : ℕ) → Leads B (start + f) k → ListReads (ReferenceReads B) B k start f 4 distances
 reference_list_reads B k distances h start f to =
-    let here : InPiece B start f k = in_piece B start f k to in
+    let here : InSlice B start f k = in_slice B start f k to in
     let vector : Items = record { position = k - start + 4; count = length distances } in
     record {
       position = k - start + 4;
@@ -160,8 +160,8 @@ union_vector_reads :
     → (start f g : ℕ) → Leads B (start + f) kt → Leads B (start + g) kv
     → UnionVectorReads B kt kv start f g items
 union_vector_reads B kt kv items h start f g to_tags to_references =
-    let tags_here : InPiece B start f kt = in_piece B start f kt to_tags in
-    let references_here : InPiece B start g kv = in_piece B start g kv to_references in
+    let tags_here : InSlice B start f kt = in_slice B start f kt to_tags in
+    let references_here : InSlice B start g kv = in_slice B start g kv to_references in
     let vector : UnionItems = record {
       tags = kt - start + 4;
       references = kv - start + 4;
@@ -181,10 +181,10 @@ union_vector_reads B kt kv items h start f g to_tags to_references =
       vector = (lawful_union_vector (drop start B) f g).answered vector
           (union_vectors_stand_read (drop start B) f g (kt - start)
           (kv - start) items tags_here.leads references_here.leads
-          (stands_in_pieces B start (at_both (kt - start) (kv - start))
+          (stands_in_slices B start (at_both (kt - start) (kv - start))
           (union_vector items) tags_here.inside moved_there));
       each_tag = λ i item e. (lawful_number (drop (kt + 4) B) i w8).answered item.0
-          (sym (num_in_piece B (kt + 4) i w8 count_inside)
+          (sym (num_in_slice B (kt + 4) i w8 count_inside)
           ∙ (union_items_stand B kt kv items h i item e).0);
       each_reference = λ i item e. reference_reads B (kv + 4) (i * 4) item.1
           (union_items_stand B kt kv items h i item e).1;
@@ -199,8 +199,8 @@ table_reads B k entries h start f to = record {
   fields = fields;
 }
   where
-    here : InPiece B start f k
-    here = in_piece B start f k to
+    here : InSlice B start f k
+    here = in_slice B start f k to
 
     stands : TableStands (drop start B) (k - start) entries
     stands = stands_here B start f k (table entries) here h

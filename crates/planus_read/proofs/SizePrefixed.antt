@@ -11,7 +11,7 @@ use Rattle.planus_read.specs.declared.errors.ErrorKind.TheVariants.{InvalidOffse
 use Rattle.planus_read.specs.declared.slice_helpers.SliceWithStartOffset.{SliceWithStartOffset}
 use Rattle.planus_read.specs.Bytes.{Num}
 use Rattle.planus_read.specs.Clauses.{AllHold, FirstBroken}
-use Rattle.planus_read.specs.Pieces.{slice_bytes, slice_start}
+use Rattle.planus_read.specs.Slices.{slice_bytes, slice_start}
 use Rattle.planus_read.specs.Reading.{number}
 use Rattle.planus_read.specs.ReadingLaws.{Decides, IsOne, IsLawful, IsAnswered}
 use Rattle.planus_read.specs.SizePrefixed.{Prefixed, PrefixedThere, prefixed_clauses}
@@ -84,12 +84,12 @@ lawful_prefixed B = lawful (prefixed_reading B) (prefixed_errors B) decides one
         same_prefixed x y (a.content_is ∙ sym b.content_is) (a.rest_is ∙ sym b.rest_is)
 
 pub prefixed_answer :
-    (B : List ℕ) (size : ℕ) (piece : SliceWithStartOffset) (rest : Bor (List ℕ))
+    (B : List ℕ) (size : ℕ) (slice : SliceWithStartOffset) (rest : Bor (List ℕ))
     → Num B 0 w32 ≡ Some size → size ≤ length (drop 4 B)
-    → slice_bytes piece ≡ take size (drop 4 B) → slice_start piece ≡ 4
+    → slice_bytes slice ≡ take size (drop 4 B) → slice_start slice ≡ 4
     → rest.now ≡ drop size (drop 4 B)
-    → (x : Prefixed) × PrefixedThere B x.content x.rest × ShowsPrefixed x (piece, rest)
-prefixed_answer B size piece rest word fits content begin behind =
+    → (x : Prefixed) × PrefixedThere B x.content x.rest × ShowsPrefixed x (slice, rest)
+prefixed_answer B size slice rest word fits content begin behind =
     let long : length (take size (drop 4 B)) ≡ size = length-take-le size (drop 4 B) fits in (
       record { content = take size (drop 4 B); rest = drop size (drop 4 B) },
       record {

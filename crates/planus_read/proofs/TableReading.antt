@@ -22,7 +22,7 @@ use Rattle.planus_read.specs.Located.{Required}
 use Rattle.planus_read.specs.declared.errors.ErrorKind.{ErrorKind}
 use Rattle.planus_read.specs.declared.table_reader.Table.{Table}
 use Rattle.planus_read.proofs.ListItems.{num_of_bytes}
-use Rattle.planus_read.proofs.PieceLaws.{bytes_in_piece}
+use Rattle.planus_read.proofs.SliceLaws.{bytes_in_slice}
 use Rattle.planus_read.proofs.Reading.{num_inside, num_there, num_value}
 use Rattle.planus_read.proofs.Moves.{field_moves}
 
@@ -302,7 +302,7 @@ union_read {T} reads B k entries table h i (Some union) hold r it = by_answer r 
         ap (λ o. Num o (Slot (table_slots table) i) w8) h.object
         ∙ num_of_bytes (drop k B) (Slot (table_slots table) i) w8 (union.0 ∷ []) refl
         (subst (BytesStand (drop k B) (Slot (table_slots table) i)) hold.1.2
-        (bytes_in_piece B k (Slot (table_slots table) i) hold.1.0.bytes tag_slot.1))
+        (bytes_in_slice B k (Slot (table_slots table) i) hold.1.0.bytes tag_slot.1))
 
     same_tag : (tag : ℕ) → tag_of table i ≡ Some tag → tag ≡ union.0
     same_tag tag e = let f : Some tag ≡ Some union.0 = sym e ∙ tag_byte in cc

@@ -2,7 +2,7 @@
 use Rattle.std.specs.Prelude.{◌≡◌, ℕ, ◌+◌, List, [], ◌∷◌, take, drop}
 use Rattle.planus_read.specs.declared.slice_helpers.SliceWithStartOffset.{SliceWithStartOffset}
 use Rattle.planus_read.specs.Clauses.{Clause, clause}
-use Rattle.planus_read.specs.Pieces.{slice_bytes, slice_start}
+use Rattle.planus_read.specs.Slices.{slice_bytes, slice_start}
 use Rattle.planus_read.specs.Reading.{Items, ZeroByte}
 use Rattle.planus_read.specs.Utf8.{utf8_clause}
 use Rattle.planus_read.specs.declared.errors.ErrorKind.TheVariants.{MissingNullTerminator}

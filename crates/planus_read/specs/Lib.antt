@@ -4,7 +4,7 @@ pub mod Stands
 pub mod Aligned
 pub mod Moves
 pub mod Texts
-pub mod Pieces
+pub mod Slices
 pub mod Clauses
 pub mod Utf8
 pub mod Reading
@@ -25,6 +25,6 @@ pub mod Converted
 pub mod ReadingLaws
 pub mod TableReading
 pub mod ListItems
-pub mod PieceLaws
+pub mod SliceLaws
 pub mod SizePrefixed
 pub mod ReadsBack

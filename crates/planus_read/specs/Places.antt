@@ -3,7 +3,7 @@ use Rattle.std.specs.Prelude.{◌≡◌, ℕ, ◌+◌, List, [], drop}
 use Rattle.planus_read.specs.declared.place.Place.{Place}
 use Rattle.planus_read.specs.declared.place.TaggedPlace.{TaggedPlace}
 use Rattle.planus_read.specs.Clauses.{Reading}
-use Rattle.planus_read.specs.Pieces.{slice_bytes, slice_start}
+use Rattle.planus_read.specs.Slices.{slice_bytes, slice_start}
 use Rattle.planus_read.specs.Reading.{Leads}
 
 -- the bytes of a place's slice
@@ -41,7 +41,7 @@ abbrev pub tagged_place_reading : List ℕ → ℕ → ℕ → ℕ → Reading T
 tagged_place_reading S start tag f = record { There = IsTaggedPlace S start tag f; clauses = [] }
 
 pub record LeadsOn (B : List ℕ) (k : ℕ) (place : Place) : Type 0 where
-  pub piece : place_bytes place ≡ drop (place_start place) B
+  pub slice : place_bytes place ≡ drop (place_start place) B
   pub leads : Leads B (place_start place + place_offset place) k
 
 pub record TaggedLeadsOn (B : List ℕ) (tag k : ℕ) (tagged : TaggedPlace) : Type 0 where

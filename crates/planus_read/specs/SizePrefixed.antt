@@ -9,7 +9,7 @@ use Rattle.planus_read.specs.declared.errors.ErrorKind.TheVariants.{InvalidLengt
 use Rattle.planus_read.specs.declared.slice_helpers.SliceWithStartOffset.{SliceWithStartOffset}
 use Rattle.planus_read.specs.Bytes.{Num}
 use Rattle.planus_read.specs.Clauses.{Clause, clause, Reading, Answer}
-use Rattle.planus_read.specs.Pieces.{slice_bytes, slice_start}
+use Rattle.planus_read.specs.Slices.{slice_bytes, slice_start}
 use Rattle.planus_read.specs.Reading.{number, number_clause}
 use Rattle.planus_read.specs.ReadingLaws.{IsAnswered}
 

@@ -8,7 +8,7 @@ use Rattle.planus_read.specs.declared.errors.ErrorKind.TheVariants.{InvalidOffse
 use Rattle.planus_read.specs.declared.errors.ErrorKind.TheVariants.{InvalidVtableLength}
 use Rattle.planus_read.specs.declared.table_reader.Table.{Table}
 use Rattle.planus_read.specs.Bytes.{Num}
-use Rattle.planus_read.specs.Pieces.{slice_bytes, slice_start}
+use Rattle.planus_read.specs.Slices.{slice_bytes, slice_start}
 use Rattle.planus_read.specs.Reading.{TableLayout}
 
 -- a type's results by a slice's bytes, its start and an offset in it

@@ -9,14 +9,14 @@ ghost use Rattle.planus_read.specs.Reading.{head_reading, text_reading, byte_lis
 ghost use Rattle.planus_read.specs.Reading.{vector_reading, union_vector_reading, table_reading};
 ghost use Rattle.planus_read.specs.ReadingLaws.{IsLawful, IsShown};
 ghost use Rattle.planus_read.specs.Heads.{ShowsItems};
-ghost use Rattle.planus_read.specs.Pieces.{ShowsBytes};
+ghost use Rattle.planus_read.specs.Slices.{ShowsBytes};
 ghost use Rattle.planus_read.specs.SignedBytes.{ShowsSigned};
 ghost use Rattle.planus_read.specs.SizePrefixed.{prefixed_reading, ShowsPrefixed};
 ghost use Rattle.planus_read.specs.SizePrefixed.{BuffersAreRead, StreamsRead};
 ghost use Rattle.planus_read.specs.SizePrefixed.{CutsAreRefused};
 ghost use Rattle.planus_read.specs.Tables.{ShowsTable};
-ghost use Rattle.planus_read.specs.PieceLaws.{ReferencesLead, LeadsInPieces, FieldsStandInPieces};
-ghost use Rattle.planus_read.specs.PieceLaws.{StandsInPieces};
+ghost use Rattle.planus_read.specs.SliceLaws.{ReferencesLead, LeadsInSlices, FieldsStandInSlices};
+ghost use Rattle.planus_read.specs.SliceLaws.{StandsInSlices};
 ghost use Rattle.planus_read.specs.ReadsBack.{FieldsReadBack, WhatStandsReadsBack};
 ghost use Rattle.planus_read.specs.TableReading.{FieldsRead, UnionsRead, UnionVectorsRead};
 ghost use Rattle.planus_read.specs.Moves.{KeepsStanding, KeepsLeading, StandsAlone, LeadsAlone};
@@ -84,11 +84,11 @@ pub fn streams_are_read()
 {}
 
 /// What is encoded is encoded in each slice that begins no further on.
-pub fn pieces_keep_what_stands()
+pub fn slices_keep_what_stands()
     ensures reference { ReferencesLead }
-    ensures leads { LeadsInPieces }
-    ensures field { FieldsStandInPieces }
-    ensures value { StandsInPieces }
+    ensures leads { LeadsInSlices }
+    ensures field { FieldsStandInSlices }
+    ensures value { StandsInSlices }
 {}
 
 /// Item i of a vector follows the count and i items.

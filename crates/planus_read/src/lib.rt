@@ -26,7 +26,7 @@ pub use signed_items::SignedItems;
 pub use size_prefixed::{has_identifier, read_size_prefixed};
 pub use slice_helpers::{ArrayWithStartOffset, SliceWithStartOffset};
 pub use traits::{
-    ReadAsRoot, ReadError, ReadPieceAsRoot, Stride, TableRead, TableReadUnion,
+    ReadAsRoot, ReadError, ReadSliceAsRoot, Stride, TableRead, TableReadUnion,
     TableReadUnionVector, VectorRead, VectorReadInner, VectorReadUnion,
 };
 

@@ -5,7 +5,7 @@ ghost use Rattle.planus_read.specs.Clauses.{Answer, FirstBroken};
 ghost use Rattle.planus_read.specs.declared.errors.ErrorKind.{ErrorKind};
 ghost use Rattle.planus_read.specs.Items.{item_method, plain_name};
 ghost use Rattle.planus_read.specs.Located.{Located};
-ghost use Rattle.planus_read.specs.Pieces.{slice_bytes};
+ghost use Rattle.planus_read.specs.Slices.{slice_bytes};
 ghost use Rattle.planus_read.specs.Plain.{Shape, own_reading, plain_reading};
 
 use crate::errors::{Error, ErrorKind};

@@ -35,7 +35,7 @@ impl<'buf, const N: usize> fmt::Debug for ArrayWithStartOffset<'buf, N> {
 }
 
 impl<'buf> SliceWithStartOffset<'buf> {
-    ghost use Rattle.planus_read.specs.Pieces.{slice_bytes, slice_start, IsAdvanced, IsArrayAt};
+    ghost use Rattle.planus_read.specs.Slices.{slice_bytes, slice_start, IsAdvanced, IsArrayAt};
 
     /// Creates a slice that begins at this offset in bytes. Requires its end to be below 2^64.
     #[inline]
@@ -85,7 +85,7 @@ impl<'buf> SliceWithStartOffset<'buf> {
     /// Returns the slice from `amount` bytes on, or [`ErrorKind::InvalidOffset`] past the end.
     #[inline]
     pub fn advance(&self, amount: usize) -> Result<Self, ErrorKind>
-        ensures piece { IfOk result (λ piece. IsAdvanced self.now amount piece) }
+        ensures slice { IfOk result (λ slice. IsAdvanced self.now amount slice) }
         ensures error { IfErr result (λ e.
             (length (slice_bytes self.now) < amount) × (e ≡ ErrorKind.InvalidOffset)) }
     {
@@ -148,7 +148,7 @@ impl<'buf> SliceWithStartOffset<'buf> {
 }
 
 impl<'buf, const N: usize> ArrayWithStartOffset<'buf, N> {
-    ghost use Rattle.planus_read.specs.Pieces.{array_bytes, array_start, IsArrayAt};
+    ghost use Rattle.planus_read.specs.Slices.{array_bytes, array_start, IsArrayAt};
 
     /// Creates an array that begins at this offset in bytes. Requires its end to be below 2^64, and
     /// `N` below 2^63.

@@ -3,7 +3,7 @@
 ghost use Rattle.std.specs.Prelude.{◌≡◌, ◌<◌, ◌≤◌, ◌+◌, ◌*◌, ◌^◌, [], length};
 ghost use Rattle.std.specs.Prelude.{IfOk, IfErr, IfSome, IfNone};
 ghost use Rattle.planus_read.specs.Clauses.{Answer, shown, AllHold, FirstBroken};
-ghost use Rattle.planus_read.specs.Pieces.{slice_bytes, slice_start};
+ghost use Rattle.planus_read.specs.Slices.{slice_bytes, slice_start};
 ghost use Rattle.planus_read.specs.Located.{Located, Required};
 ghost use Rattle.planus_read.specs.Reading.{table_reading, word_clauses, object_clauses};
 ghost use Rattle.planus_read.specs.Reading.{vtable_at, slots_of};

@@ -3,7 +3,7 @@
 ghost use Rattle.std.specs.Prelude.{◌≡◌, ◌≤◌, ◌+◌, ℕ, List, length, Result as std_result};
 ghost use Rattle.planus_read.specs.declared.errors.ErrorKind.{ErrorKind};
 ghost use Rattle.planus_read.specs.declared.located.Error.{Error};
-ghost use Rattle.planus_read.specs.Pieces.{slice_bytes, slice_start};
+ghost use Rattle.planus_read.specs.Slices.{slice_bytes, slice_start};
 ghost use Rattle.planus_read.specs.Items.{item_method};
 ghost use Rattle.planus_read.specs.Located.{Located};
 
@@ -23,13 +23,13 @@ pub trait ReadAsRoot<'a>: Sized {
 }
 
 /// What can be read as the root of a slice.
-pub trait ReadPieceAsRoot<'a>: Sized {
+pub trait ReadSliceAsRoot<'a>: Sized {
     ghost reads_root: { List ℕ → ℕ → std_result Self Error → Type 0 };
 
     /// Returns the view of the slice's root. Errors are as of [`ReadAsRoot::read_as_root`], at the
     /// offset at which the slice starts.
-    fn read_piece_as_root(piece: SliceWithStartOffset<'a>) -> Result<Self>
-        ensures { reads_root (slice_bytes piece.entry) (slice_start piece.entry) result };
+    fn read_slice_as_root(slice: SliceWithStartOffset<'a>) -> Result<Self>
+        ensures { reads_root (slice_bytes slice.entry) (slice_start slice.entry) result };
 }
 
 /// What can be read as a field. Fails with [`ErrorKind::InvalidOffset`] if the field, or the count

@@ -6,7 +6,7 @@ use Rattle.planus.specs.Steps.{Step}
 use Rattle.planus_script.specs.Script.{Read, read_lines, then_read, onto_read, is_skipped, command_of, script_of, lines_of}
 use Rattle.planus.specs.Steps.{bare_step}
 use Rattle.planus_script.specs.inner.Steps.{read_of}
-use Rattle.planus_write.specs.Shared.{Switches}
+use Rattle.planus_write.specs.Shared.{CacheSettings}
 use Rattle.planus.specs.Replays.{first_bad_after, first_bad_or, broken_check, Replays, given_by}
 use Rattle.planus_script.specs.inner.Outputs.{NamesStep}
 use Rattle.planus_script.specs.declared.script.ReadFault.{ReadFault}
@@ -52,17 +52,17 @@ bad_within earlier (step ∷ steps) n why h = at_check (broken_check earlier ste
     at_check (Some y) e later = let same : length earlier ≡ n = ap number_of_bad e in omega arith
     at_check None e later = let below : n < length (earlier ++ step ∷ []) + length steps = later e in omega (arith, length-append earlier (step ∷ []), below)
 
-bad_named : (switches : Switches) (input : List ℕ) (script : Script) (answer : Result (Vec Finished Global) ReplayError) → script_of input ≡ Ok (read_of script)
-    → Replays switches (map bare_step script.steps.items) (given_by answer) → NamesStep (length script.numbers.items) answer
-bad_named switches input script (Ok finished) e h = tt
-bad_named switches input script (Err OutOfMemory) e h = tt
-bad_named switches input script (Err TooLarge) e h = tt
-bad_named switches input script (Err (BadStep step why)) e h =
+bad_named : (settings : CacheSettings) (input : List ℕ) (script : Script) (answer : Result (Vec Finished Global) ReplayError) → script_of input ≡ Ok (read_of script)
+    → Replays settings (map bare_step script.steps.items) (given_by answer) → NamesStep (length script.numbers.items) answer
+bad_named settings input script (Ok finished) e h = tt
+bad_named settings input script (Err OutOfMemory) e h = tt
+bad_named settings input script (Err TooLarge) e h = tt
+bad_named settings input script (Err (BadStep step why)) e h =
     let many : length script.numbers.items ≡ length (map bare_step script.steps.items) = subst AsMany e (lines_as_many 1 (lines_of input)) in
     let below : step < 0 + length (map bare_step script.steps.items) = bad_within [] (map bare_step script.steps.items) step why h.0 in
     omega (arith, many, below)
 
-pub names_step : (switches : Switches) (input numbers : List ℕ) (steps : List code.Step) (script : Script) (answer : Result (Vec Finished Global) ReplayError) → numbers ≡ script.numbers.items → steps ≡ script.steps.items
-    → script_of input ≡ Ok (read_of script) → Replays switches (map bare_step steps) (given_by answer) → NamesStep (length numbers) answer
-names_step switches input numbers steps script answer n s e h =
-    subst (λ xs. NamesStep (length xs) answer) (sym n) (bad_named switches input script answer e (subst (λ xs. Replays switches (map bare_step xs) (given_by answer)) s h))
+pub names_step : (settings : CacheSettings) (input numbers : List ℕ) (steps : List code.Step) (script : Script) (answer : Result (Vec Finished Global) ReplayError) → numbers ≡ script.numbers.items → steps ≡ script.steps.items
+    → script_of input ≡ Ok (read_of script) → Replays settings (map bare_step steps) (given_by answer) → NamesStep (length numbers) answer
+names_step settings input numbers steps script answer n s e h =
+    subst (λ xs. NamesStep (length xs) answer) (sym n) (bad_named settings input script answer e (subst (λ xs. Replays settings (map bare_step xs) (given_by answer)) s h))

@@ -15,7 +15,7 @@ by_test p xs true h =
     let below : position_or_len p xs < length xs = grind (arith, nat_tests, h) in
     (below, slice_split_first p xs 0 below)
 by_test p xs false h =
-    let past : length xs ≤ position_or_len p xs = grind (arith, nat_tests, h) in
+    let history : length xs ≤ position_or_len p xs = grind (arith, nat_tests, h) in
     slice_split_none p xs (λ k d high. fails_before_first p xs k d (omega arith))
 
 pub parts_at_position : (p : ℕ → Bool) (xs : List ℕ) (r : Option ℕ) → r ≡ position p xs → PartsAt p xs r

@@ -5,7 +5,7 @@ use Rattle.std.proofs.lemmas.List.{length-drop}
 use Rattle.planus_read.proofs.Reading.{num_inside, vector_holds}
 use Rattle.planus_read.specs.Clauses.{FirstBroken}
 use Rattle.planus_read.specs.Heads.{ShowsItems}
-use Rattle.planus_read.specs.Pieces.{slice_bytes}
+use Rattle.planus_read.specs.Slices.{slice_bytes}
 use Rattle.planus_read.specs.Reading.{Items, HeadThere, VectorThere, items_at, count_at}
 use Rattle.planus_read.specs.Reading.{union_vector_clauses}
 use Rattle.planus_read.specs.declared.errors.ErrorKind.TheVariants.{UnionVectorLengthsMismatched}

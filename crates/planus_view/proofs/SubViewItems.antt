@@ -7,7 +7,7 @@ use Rattle.std.proofs.lemmas.List.{length-drop}
 use Rattle.std.specs.Int.{Width, w8, w16, w32, w64, w128, byte_len, cast_signed}
 use Rattle.std.specs.Option.{option_map}
 use Rattle.planus_view.specs.Views.{View}
-use Rattle.planus_read.proofs.PieceLaws.{num_in_piece}
+use Rattle.planus_read.proofs.SliceLaws.{num_in_slice}
 use Rattle.planus_read.specs.Bytes.{Num}
 use Rattle.planus_view.specs.Laws.{SameItems, ItemsOfSubViews}
 use Rattle.planus_view.proofs.SubViewTexts.{same_texts}
@@ -22,7 +22,7 @@ num_behind S p f w one =
     (λ (h : length S < p).
     none_past S (p + f) w (omega arith)
     ∙ sym (none_past (drop p S) f w (omega (arith, length-drop p S))))
-    (λ (h : p ≤ length S). num_in_piece S p f w h) (cases_lt (length S) p)
+    (λ (h : p ≤ length S). num_in_slice S p f w h) (cases_lt (length S) p)
 
 some_bytes : (w : Width) → 1 ≤ byte_len w
 some_bytes w8 = omega arith

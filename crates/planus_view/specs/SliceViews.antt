@@ -1,6 +1,6 @@
 -- Views of items in a slice.
 use Rattle.std.specs.Prelude.{ℕ, ◌*◌, List}
-use Rattle.planus_read.specs.Pieces.{slice_bytes, slice_start}
+use Rattle.planus_read.specs.Slices.{slice_bytes, slice_start}
 use Rattle.planus_view.specs.Views.{View, IsSubView}
 use Rattle.planus_view.specs.declared.vector.SliceView.{SliceView}
 

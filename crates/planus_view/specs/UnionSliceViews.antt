@@ -2,7 +2,7 @@
 use Rattle.std.specs.Prelude.{ℕ, ◌*◌, List, slice_index, Result}
 use Rattle.planus_read.specs.Converted.{Converted}
 use Rattle.planus_read.specs.Located.{Located}
-use Rattle.planus_read.specs.Pieces.{slice_bytes, slice_start}
+use Rattle.planus_read.specs.Slices.{slice_bytes, slice_start}
 use Rattle.planus_read.specs.declared.errors.ErrorKind.{ErrorKind}
 use Rattle.planus_read.specs.declared.located.Error.{Error}
 use Rattle.planus_view.specs.UnionViews.{UnionView, IsSubView}

@@ -2,7 +2,7 @@
 
 ghost use Rattle.std.specs.Prelude.{◌≡◌, ◌*◌, ◌≤◌, [], length};
 ghost use Rattle.planus_read.specs.Items.{item_method};
-ghost use Rattle.planus_read.specs.Pieces.{slice_bytes};
+ghost use Rattle.planus_read.specs.Slices.{slice_bytes};
 
 use crate::copies::EachRead;
 use crate::item_errors::{AsRead, ItemError};

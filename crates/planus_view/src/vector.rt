@@ -1,7 +1,7 @@
 //! Vectors in a buffer.
 
 ghost use Rattle.std.specs.Prelude.{◌≡◌, ◌*◌, ◌≤◌, [], length, IfOk, IfErr};
-ghost use Rattle.planus_read.specs.Pieces.{slice_bytes};
+ghost use Rattle.planus_read.specs.Slices.{slice_bytes};
 
 use crate::copies::{CopyError, EachItem, EachRead, FromItem, copy_items};
 use crate::vector_of::VectorOf;

@@ -6,7 +6,7 @@ use Rattle.std.proofs.lemmas.Grind.{common_steps}
 use Rattle.std.proofs.lemmas.Bool.{cases_lt}
 use Rattle.std.specs.Prelude.{◌↔◌, slice_index}
 use Rattle.planus_back.specs.CacheKeys.{key_at}
-use Rattle.planus_back.specs.Caches.{Held, Has, Fits, IsEmpty, Adds, IsBucketOf, FitsWhereItsKeyStands}
+use Rattle.planus_back.specs.Caches.{CacheView, Has, Fits, IsEmpty, Adds, IsBucketOf, FitsWhereItsKeyStands}
 use Rattle.planus_back.specs.declared.bucket.Bucket.{Bucket}
 use Rattle.planus_back.proofs.Caches.{key_at-front, Fits-front, Fits-empty, Has-stands}
 use Rattle.planus_write.specs.Holding.{Holding, few, many, FindContents, Holds, HoldsNothing, HoldsMore, HoldingFits, FitsInFront}
@@ -45,18 +45,18 @@ one_more-fits contents_in distances bytes contents distance fits front stands i 
       | inr le ↦ (contents, grind (arith, common_steps, le, below, stands))
     ]
 
-pub cache_more-fits : (contents_in : FindContents) (old new : Held) (bucket : Bucket) (bytes contents : List ℕ) (distance : ℕ) → HoldingFits contents_in (many old) bytes
+pub cache_more-fits : (contents_in : FindContents) (old new : CacheView) (bucket : Bucket) (bytes contents : List ℕ) (distance : ℕ) → HoldingFits contents_in (many old) bytes
     → IsBucketOf old contents bucket → FitsWhereItsKeyStands contents_in old bucket distance new → FitsInFront contents_in bytes contents distance (many new)
 cache_more-fits contents_in old new bucket bytes contents distance fits its more front stands =
     more contents its (front ++ bytes) (Fits-front contents_in old front bytes fits) stands
 
-abbrev pub HasFirst : Held → List ℕ → ℕ → Type 0
+abbrev pub HasFirst : CacheView → List ℕ → ℕ → Type 0
 HasFirst held distances n = (distance : ℕ) → Has held distance ↔ ((i : ℕ) × (i < n) × (slice_index distances i ≡ distance))
 
-pub has-none : (held : Held) (distances : List ℕ) → IsEmpty held → HasFirst held distances 0
+pub has-none : (held : CacheView) (distances : List ℕ) → IsEmpty held → HasFirst held distances 0
 has-none held distances empty distance = (λ has. absurd (empty distance has), λ x. absurd (omega (arith, x.1)))
 
-pub has-next : (old new : Held) (distances : List ℕ) (n : ℕ) → HasFirst old distances n → Adds old (slice_index distances n) new → HasFirst new distances (n + 1)
+pub has-next : (old new : CacheView) (distances : List ℕ) (n : ℕ) → HasFirst old distances n → Adds old (slice_index distances n) new → HasFirst new distances (n + 1)
 has-next old new distances n has adds distance = (
   λ x. elim ((adds distance).0 x) [
     | inl there ↦ (let i = (has distance).0 there in (i.0, omega (arith, i.1), i.2))
@@ -68,7 +68,7 @@ has-next old new distances n has adds distance = (
   ],
 )
 
-pub spilled : (contents_in : FindContents) (distances bytes contents : List ℕ) (old new : Held) (bucket : Bucket) (distance : ℕ) → Fits contents_in old bytes
+pub spilled : (contents_in : FindContents) (distances bytes contents : List ℕ) (old new : CacheView) (bucket : Bucket) (distance : ℕ) → Fits contents_in old bytes
     → HasFirst old distances (length distances) → IsBucketOf old contents bucket → Adds old distance new → FitsWhereItsKeyStands contents_in old bucket distance new
     → KeepsIf true contents_in bytes contents distance (few distances) (many new)
 spilled contents_in distances bytes contents old new bucket distance fits has its adds more = (
@@ -79,17 +79,17 @@ spilled contents_in distances bytes contents old new bucket distance fits has it
   cache_more-fits contents_in old new bucket bytes contents distance fits its more,
 )
 
-pub spilled_if : (r : Result (Unit {0}) AllocError) (contents_in : FindContents) (distances bytes contents : List ℕ) (old new : Held) (bucket : Bucket) (distance : ℕ) → Fits contents_in old bytes
+pub spilled_if : (r : Result (Unit {0}) AllocError) (contents_in : FindContents) (distances bytes contents : List ℕ) (old new : CacheView) (bucket : Bucket) (distance : ℕ) → Fits contents_in old bytes
     → HasFirst old distances (length distances) → IsBucketOf old contents bucket → OnOk r (Adds old distance new) → OnOk r (FitsWhereItsKeyStands contents_in old bucket distance new)
     → OnOk r (KeepsIf true contents_in bytes contents distance (few distances) (many new))
 spilled_if (Ok done) contents_in distances bytes contents old new bucket distance fits has its adds more = spilled contents_in distances bytes contents old new bucket distance fits has its adds more
 spilled_if (Err error) contents_in distances bytes contents old new bucket distance fits has its adds more = tt
 
-module _ (contents_in : FindContents) (bytes contents : List ℕ) (distance : ℕ) (held : Held) (distances : List ℕ) where
+module _ (contents_in : FindContents) (bytes contents : List ℕ) (distance : ℕ) (held : CacheView) (distances : List ℕ) where
   abbrev pub held_if : Bool → Holding
   held_if is_many = cond is_many (many held) (few distances)
 
-  pub kept_in_cache : (is_many : Bool) (bucket : Bucket) (new : Held) (r : Result (Unit {0}) AllocError) → LooksIn (held_if is_many) contents (Some bucket)
+  pub kept_in_cache : (is_many : Bool) (bucket : Bucket) (new : CacheView) (r : Result (Unit {0}) AllocError) → LooksIn (held_if is_many) contents (Some bucket)
       → HoldingFits contents_in (held_if is_many) bytes → OnOk r (Adds held distance new) → OnOk r (FitsWhereItsKeyStands contents_in held bucket distance new)
       → OnOk r (KeepsIf true contents_in bytes contents distance (held_if is_many) (cond is_many (many new) (few distances)))
   kept_in_cache true bucket new (Ok done) looks fits adds more = (adds, cache_more-fits contents_in held new bucket bytes contents distance fits looks more)

@@ -6,11 +6,11 @@ use Rattle.std.specs.Int.{w32, to_le_bytes, cast_unsigned}
 use Rattle.planus_back.specs.CacheKeys.{vtable_in}
 use Rattle.planus_back.specs.Parts.{Part}
 use Rattle.planus_write.specs.inner.Backed.{Backed, Plans}
-use Rattle.planus_write.specs.Past.{Past, unshared_entry}
-use Rattle.planus_write.specs.Placing.{PutsDown}
+use Rattle.planus_write.specs.History.{History, unshared_entry}
+use Rattle.planus_write.specs.Placing.{PlacesEntry}
 use Rattle.planus_write.specs.Shared.{vtables}
 use Rattle.planus_write.specs.inner.Sharing.{FindsIf, KeepsIf}
-use Rattle.planus_write.specs.State.{State, IsPast}
+use Rattle.planus_write.specs.State.{State, IsHistoryOf}
 use Rattle.planus_write.specs.Tables.{vtable_part, vtable_entry, word_part}
 use Rattle.planus_write.specs.View.{state_of}
 use Rattle.planus_write.specs.inner.WholeTables.{PutsPart, PutsParts, PutsPartsIf, PutsTable, PutsTableIf}
@@ -103,19 +103,19 @@ module _ (vtable : List ℕ) (body : Part) (old new : Backed) (first second thir
   }
 
 module _ (vtable : List ℕ) (body : Part) (a : Inside) (off : a.vtables.on ≡ false) (is_vtable : vtable_in vtable ≡ Some vtable) where
-  vtable_down : (place : ℕ) (new : Backed) → PutsPart (vtable_part vtable) a.backing place new → PutsDown (vtable_entry vtable) [] (state_of a) place (state_of (record a { backing = new }))
+  vtable_down : (place : ℕ) (new : Backed) → PutsPart (vtable_part vtable) a.backing place new → PlacesEntry (vtable_entry vtable) [] (state_of a) place (state_of (record a { backing = new }))
   vtable_down place new h =
       let none : FindsIf a.vtables.on vtable_in a.vtables.holding a.backing.bytes vtable None = subst (λ on. FindsIf on vtable_in a.vtables.holding a.backing.bytes vtable None) (sym off) refl in
       let keeps : KeepsIf a.vtables.on vtable_in a.backing.bytes vtable place a.vtables.holding a.vtables.holding = subst (λ on. KeepsIf on vtable_in a.backing.bytes vtable place a.vtables.holding a.vtables.holding) (sym off) refl in
       let there = new_bytes (length vtable) 2 place a.backing h.between new vtable h.room refl h.put ∙ append_assoc vtable (replicate h.room.padding 0) a.backing.bytes in
       let in_front : vtable_in new.bytes ≡ Some vtable = ap vtable_in there ∙ vtable_in_front vtable (replicate h.room.padding 0 ++ a.backing.bytes) vtable is_vtable in
       let long : length new.bytes ≡ place = new_length (length vtable) 2 place a.backing h.between new vtable h.room refl h.put in
-      shared_down vtables vtable (vtable_part vtable) [] a.backing (state_of a).switches (state_of a).holdings place h.between new a.vtables.holding vtable none h.room keeps refl refl h.put
+      shared_down vtables vtable (vtable_part vtable) [] a.backing (state_of a).settings (state_of a).holdings place h.between new a.vtables.holding vtable none h.room keeps refl refl h.put
       (at_its_place vtable_in new.bytes place vtable long in_front) (new_vtables vtable)
 
   part_down : (part : Part) (old new : Backed) (place : ℕ) → PutsPart part old place new
-      → PutsDown (unshared_entry part) [] (state_of (record a { backing = old })) place (state_of (record a { backing = new }))
-  part_down part old new place h = part_put part place old h.between new (state_of a).switches (state_of a).holdings h.room h.count h.put
+      → PlacesEntry (unshared_entry part) [] (state_of (record a { backing = old })) place (state_of (record a { backing = new }))
+  part_down part old new place h = part_put part place old h.between new (state_of a).settings (state_of a).holdings h.room h.count h.put
 
   puts_table : (new : Backed) → PutsParts vtable body a.backing new → PutsTable vtable body (state_of a) (state_of (record a { backing = new }))
   puts_table new h = record {
@@ -127,19 +127,19 @@ module _ (vtable : List ℕ) (body : Part) (a : Inside) (off : a.vtables.on ≡ 
     body_put = part_down body h.first h.second h.body_at h.body_put;
     table_at = h.table_at;
     word_put = part_down (word_part h.vtable_at) h.second new h.table_at h.word_put;
-    last = sym (part_ends (word_part h.vtable_at) h.table_at h.second h.word_put.between new (state_of a).switches (state_of a).holdings h.word_put.room h.word_put.count h.word_put.put);
+    last = sym (part_ends (word_part h.vtable_at) h.table_at h.second h.word_put.between new (state_of a).settings (state_of a).holdings h.word_put.room h.word_put.count h.word_put.put);
   }
 
   pub puts_table_if : (put : Bool) (new : Backed) → PutsPartsIf put vtable body a.backing new → PutsTableIf put vtable body (state_of a) (state_of (record a { backing = new }))
   puts_table_if true new h = puts_table new h
   puts_table_if false new h = ap (λ backing. state_of (record a { backing = backing })) h
 
-pub table_sound : (put : Bool) (vtable : List ℕ) (body : Part) (old new : State) → (past : Past) × IsPast old past → PutsTableIf put vtable body old new → (past : Past) × IsPast new past
+pub table_sound : (put : Bool) (vtable : List ℕ) (body : Part) (old new : State) → (history : History) × IsHistoryOf old history → PutsTableIf put vtable body old new → (history : History) × IsHistoryOf new history
 table_sound true vtable body old new sound h =
     let first = still_sound (vtable_entry vtable) [] old h.first h.vtable_at sound h.vtable_put in
     let second = still_sound (unshared_entry body) [] h.first h.second h.body_at first h.body_put in
     still_sound (unshared_entry (word_part h.vtable_at)) [] h.second new h.table_at second h.word_put
-table_sound false vtable body old new sound h = subst (λ (state : State). (past : Past) × IsPast state past) (sym h) sound
+table_sound false vtable body old new sound h = subst (λ (state : State). (history : History) × IsHistoryOf state history) (sym h) sound
 
 pub table_put : (put : Bool) (vtable : List ℕ) (body : Part) (old new : State) → put ≡ true → PutsTableIf put vtable body old new → PutsTable vtable body old new
 table_put put vtable body old new is h = subst (λ b. PutsTableIf b vtable body old new) is h

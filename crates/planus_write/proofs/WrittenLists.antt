@@ -11,7 +11,7 @@ use Rattle.planus_back.specs.Promises.{IsPowerOfTwo}
 use Rattle.planus_back.specs.Padding.{greatest_place}
 use Rattle.planus_back.specs.Parts.{Part}
 use Rattle.planus_back.proofs.PaddingLaws.{exists}
-use Rattle.planus_write.specs.Past.{Entry, unshared_entry}
+use Rattle.planus_write.specs.History.{Entry, unshared_entry}
 use Rattle.planus_write.specs.Parts.{items_bytes, items_part, count_part, filled_part}
 use Rattle.planus_write.specs.Items.{Item}
 use Rattle.planus_write.specs.State.{State}
@@ -63,8 +63,8 @@ count_fits count stride size place same positive le =
 pub refused_by_size : (part : Part) (got : List ℕ) (old : State) → IsPowerOfTwo part.alignment → greatest_place < part.size → Refuses (unshared_entry part) got old TooLarge old
 refused_by_size part got old power far = record {
   unchanged = refl;
-  cause = λ past h.
-      let padded = exists (length old.bytes) old.delayed old.mask past.written.promises part.size part.alignment h.described power in
+  cause = λ history h.
+      let padded = exists (length old.bytes) old.delayed old.mask history.written.promises part.size part.alignment h.described power in
       record {
         is_new = refl;
         too_large = record {
@@ -76,11 +76,11 @@ refused_by_size part got old power far = record {
 }
 
 pub put_behind : (part : Part) (before got : List ℕ) (old : State) (distance : ℕ) (new : State) → WritesEntry (unshared_entry part) before old (Ok distance) new → WritesEntry (unshared_entry part) got old (Ok distance) new
-put_behind part before got old distance new h = record { grows = h.grows; reached = h.reached; fits = h.fits; puts = h.puts; room = h.room; switches = h.switches }
+put_behind part before got old distance new h = record { grows = h.grows; reached = h.reached; fits = h.fits; puts = h.puts; room = h.room; settings = h.settings }
 
 pub refused_behind : (part : Part) (before got : List ℕ) (old : State) (error : BuildError) (new : State) → WritesEntry (unshared_entry part) before old (Err error) new → WritesEntry (unshared_entry part) got old (Err error) new
-refused_behind part before got old TooLarge new h = record { unchanged = h.unchanged; cause = λ past is_past. (let c = h.cause past is_past in record { is_new = c.is_new; too_large = c.too_large }) }
-refused_behind part before got old OutOfMemory new h = record { unchanged = h.unchanged; cause = λ past is_past. (let c = h.cause past is_past in record { is_new = c.is_new; lacks = c.lacks }) }
+refused_behind part before got old TooLarge new h = record { unchanged = h.unchanged; cause = λ history is_history. (let c = h.cause history is_history in record { is_new = c.is_new; too_large = c.too_large }) }
+refused_behind part before got old OutOfMemory new h = record { unchanged = h.unchanged; cause = λ history is_history. (let c = h.cause history is_history in record { is_new = c.is_new; lacks = c.lacks }) }
 
 module _ (part : Part) (count : ℕ) (old : State) where
   abbrev counted : List Entry

@@ -1,7 +1,7 @@
 -- A union vector is written.
 use Rattle.std.proofs.Common.{◌≡◌, ℕ, List, [], ◌∷◌, ◌++◌, length, map, refl, ap, ◌∙◌, subst, inl, inr}
 use Rattle.std.specs.Prelude.{Ok, Err}
-use Rattle.planus_write.specs.Past.{Entry, unshared_entry}
+use Rattle.planus_write.specs.History.{Entry, unshared_entry}
 use Rattle.planus_write.specs.Parts.{list_entries, tags_entries, tags_part, count_part, tags_in}
 use Rattle.planus_write.specs.Parts.{distances_in, last_of}
 use Rattle.planus_write.specs.Items.{Item, reference_item}

@@ -5,9 +5,9 @@ use Rattle.planus_read.specs.Values.{Value, Field, Plain, plain, reference, tags
 use Rattle.planus_read.specs.Values.{values as values_field, reference_list, union_vector}
 use Rattle.planus_write.specs.Kept.{IsKept}
 use Rattle.planus_write.specs.Parts.{Named}
-use Rattle.planus_write.specs.Past.{Past}
+use Rattle.planus_write.specs.History.{History}
 use Rattle.planus_write.specs.Placing.{Outcome}
-use Rattle.planus_write.specs.State.{State, IsPast, Extends}
+use Rattle.planus_write.specs.State.{State, IsHistoryOf, Extends}
 use Rattle.planus_write.specs.Unions.{union_reach}
 use Rattle.planus_write.specs.declared.union_offset.UnionOffset.{UnionOffset}
 use Rattle.planus_write.specs.declared.union_vector_offset.UnionVectorOffset.{UnionVectorOffset}
@@ -37,12 +37,12 @@ as_unions (one ∷ others) = union_and one.0 one.1 (as_unions others)
 abbrev pub named_at : ℕ → Named
 named_at distance = record { distance = distance; tags = None }
 
-abbrev pub AllKept : Past → List Value → List ℕ → Type 0
-AllKept past [] [] = ⊤
-AllKept past (one ∷ others) (distance ∷ distances) =
-    IsKept past one (named_at distance) × AllKept past others distances
-AllKept past [] (distance ∷ distances) = ⊥
-AllKept past (one ∷ others) [] = ⊥
+abbrev pub AllKept : History → List Value → List ℕ → Type 0
+AllKept history [] [] = ⊤
+AllKept history (one ∷ others) (distance ∷ distances) =
+    IsKept history one (named_at distance) × AllKept history others distances
+AllKept history [] (distance ∷ distances) = ⊥
+AllKept history (one ∷ others) [] = ⊥
 
 abbrev pub named_at_both : (tags_at values_at : ℕ) → Named
 named_at_both tags_at values_at = record { distance = values_at; tags = Some tags_at }
@@ -50,71 +50,71 @@ named_at_both tags_at values_at = record { distance = values_at; tags = Some tag
 abbrev mutual
   -- The field holds this, and the value it refers to is stored. What is at an earlier distance is
   -- for the caller to know.
-  pub FieldIs : Past → Content → Field → Type 0
-  FieldIs past (item content) field = field ≡ plain content
-  FieldIs past (value content) field =
-      (distance : ℕ) × (field ≡ reference distance) × IsKept past content (named_at distance)
-  FieldIs past (values contents) field =
+  pub FieldIs : History → Content → Field → Type 0
+  FieldIs history (item content) field = field ≡ plain content
+  FieldIs history (value content) field =
+      (distance : ℕ) × (field ≡ reference distance) × IsKept history content (named_at distance)
+  FieldIs history (values contents) field =
       (distance : ℕ) × (field ≡ reference distance)
-      × ((distances : List ℕ) × IsKept past (reference_list distances) (named_at distance)
-      × AllKept past contents distances)
-  FieldIs past (written distance) field = field ≡ reference distance
-  FieldIs past (union_tags contents) field =
+      × ((distances : List ℕ) × IsKept history (reference_list distances) (named_at distance)
+      × AllKept history contents distances)
+  FieldIs history (written distance) field = field ≡ reference distance
+  FieldIs history (union_tags contents) field =
       (tags_at values_at : ℕ) × (field ≡ tags tags_at)
       × ((unions : List (ℕ × ℕ))
-      × IsKept past (union_vector unions) (named_at_both tags_at values_at)
-      × UnionsAre past contents unions)
-  FieldIs past (union_values contents) field =
+      × IsKept history (union_vector unions) (named_at_both tags_at values_at)
+      × UnionsAre history contents unions)
+  FieldIs history (union_values contents) field =
       (tags_at values_at : ℕ) × (field ≡ values_field values_at)
       × ((unions : List (ℕ × ℕ))
-      × IsKept past (union_vector unions) (named_at_both tags_at values_at)
-      × UnionsAre past contents unions)
-  FieldIs past (written_tags distance) field = field ≡ tags distance
-  FieldIs past (written_values distance) field = field ≡ values_field distance
+      × IsKept history (union_vector unions) (named_at_both tags_at values_at)
+      × UnionsAre history contents unions)
+  FieldIs history (written_tags distance) field = field ≡ tags distance
+  FieldIs history (written_values distance) field = field ≡ values_field distance
 
-  pub UnionsAre : Past → Unions → List (ℕ × ℕ) → Type 0
-  UnionsAre past no_unions [] = ⊤
-  UnionsAre past (union_and tag content others) (union ∷ unions) =
-      (union.0 ≡ tag) × FieldIs past content (reference union.1) × UnionsAre past others unions
-  UnionsAre past no_unions (union ∷ unions) = ⊥
-  UnionsAre past (union_and tag content others) [] = ⊥
+  pub UnionsAre : History → Unions → List (ℕ × ℕ) → Type 0
+  UnionsAre history no_unions [] = ⊤
+  UnionsAre history (union_and tag content others) (union ∷ unions) =
+      (union.0 ≡ tag) × FieldIs history content (reference union.1) × UnionsAre history others unions
+  UnionsAre history no_unions (union ∷ unions) = ⊥
+  UnionsAre history (union_and tag content others) [] = ⊥
 
-abbrev pub Comes : Past → State → (Past → Type 0) → Type 0
-Comes past new Holds = (after : Past) × IsPast new after × Extends past after × Holds after
+abbrev pub Comes : History → State → (History → Type 0) → Type 0
+Comes history new Holds = (after : History) × IsHistoryOf new after × Extends history after × Holds after
 
 -- Once a value is prepared, its field holds the value's content.
 pub record PreparesContent {X A : Type 0} (may : X → State → Type 0) (outcome : X → Outcome A)
     (content : X → Content) (field : A → Field) : Type 0 where
   pub comes :
-      (x : X) (old : State) (prepared : A) (new : State) (past : Past) → may x old
-      → outcome x old (Ok prepared) new → IsPast old past
-      → Comes past new (λ after. FieldIs after (content x) (field prepared))
+      (x : X) (old : State) (prepared : A) (new : State) (history : History) → may x old
+      → outcome x old (Ok prepared) new → IsHistoryOf old history
+      → Comes history new (λ after. FieldIs after (content x) (field prepared))
 
 -- A written union holds this, or both are absent.
-abbrev pub UnionHolds : {T : Type 0} → Past → Option (ℕ × Content) → Option (UnionOffset T) → Type 0
-UnionHolds past None None = ⊤
-UnionHolds past (Some content) (Some union) =
-    (union.tag ≡ content.0) × FieldIs past content.1 (reference (union_reach union))
-UnionHolds past None (Some union) = ⊥
-UnionHolds past (Some content) None = ⊥
+abbrev pub UnionHolds : {T : Type 0} → History → Option (ℕ × Content) → Option (UnionOffset T) → Type 0
+UnionHolds history None None = ⊤
+UnionHolds history (Some content) (Some union) =
+    (union.tag ≡ content.0) × FieldIs history content.1 (reference (union_reach union))
+UnionHolds history None (Some union) = ⊥
+UnionHolds history (Some content) None = ⊥
 
 -- The same for a union that is always present, such as an item.
 pub record PreparesUnionItem {X T : Type 0} (may : X → State → Type 0)
     (outcome : X → Outcome (UnionOffset T)) (content : X → ℕ × Content) : Type 0 where
   pub comes :
-      (x : X) (old : State) (prepared : UnionOffset T) (new : State) (past : Past) → may x old
-      → outcome x old (Ok prepared) new → IsPast old past
-      → Comes past new (λ after. UnionHolds after (Some (content x)) (Some prepared))
+      (x : X) (old : State) (prepared : UnionOffset T) (new : State) (history : History) → may x old
+      → outcome x old (Ok prepared) new → IsHistoryOf old history
+      → Comes history new (λ after. UnionHolds after (Some (content x)) (Some prepared))
 
 -- A written union vector's two fields hold these, or both are absent.
-abbrev pub UnionVectorHolds : {T : Type 0} → Past → Option (Content × Content)
+abbrev pub UnionVectorHolds : {T : Type 0} → History → Option (Content × Content)
     → Option (UnionVectorOffset T) → Type 0
-UnionVectorHolds past None None = ⊤
-UnionVectorHolds past (Some contents) (Some vector) =
-    FieldIs past contents.0 (tags vector.tags.distance)
-    × FieldIs past contents.1 (values_field vector.values.distance)
-UnionVectorHolds past None (Some vector) = ⊥
-UnionVectorHolds past (Some contents) None = ⊥
+UnionVectorHolds history None None = ⊤
+UnionVectorHolds history (Some contents) (Some vector) =
+    FieldIs history contents.0 (tags vector.tags.distance)
+    × FieldIs history contents.1 (values_field vector.values.distance)
+UnionVectorHolds history None (Some vector) = ⊥
+UnionVectorHolds history (Some contents) None = ⊥
 
 abbrev pub unions_hold : List (ℕ × Content) → Content × Content
 unions_hold contents = (union_tags (as_unions contents), union_values (as_unions contents))

@@ -3,9 +3,9 @@ use Rattle.std.specs.Prelude.{◌≡◌, ℕ, List, [], length, Result, Ok, Err,
 use Rattle.std.specs.Borrow.{follows_so, MutBor, Bor, Fml}
 use mathlib.Core.Option.{none}
 use Rattle.planus_write.specs.State.{State}
-use Rattle.planus_write.specs.Past.{Entry}
+use Rattle.planus_write.specs.History.{Entry}
 use Rattle.planus_write.specs.Parts.{finish_entry, sized_finish_entry}
-use Rattle.planus_write.specs.Placing.{Outcome, then_does, PutsDown, Refuses}
+use Rattle.planus_write.specs.Placing.{Outcome, then_does, PlacesEntry, Refuses}
 use Rattle.planus_write.specs.declared.errors.BuildError.{BuildError}
 use Rattle.planus_write.specs.declared.offset.Offset.{Offset}
 use Rattle.planus_write.specs.contracts.builder.Builder.{the_row}
@@ -13,7 +13,7 @@ use Rattle.planus_write.specs.contracts.builder.Builder.{the_row}
 -- The entry's bytes were prepended, at a length that keeps every alignment constraint without
 -- padding.
 pub record PutsInFront (entry : Entry) (old : State) (distance : ℕ) (new : State) : Type 0 where
-  pub puts : PutsDown entry [] old distance new
+  pub puts : PlacesEntry entry [] old distance new
   pub whole : distance ≡ length new.bytes
   pub kept : new.delayed ≡ 0
 

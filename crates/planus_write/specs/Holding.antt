@@ -4,12 +4,12 @@ use Rattle.std.specs.Prelude.{MatchOption}
 use Rattle.std.specs.Prelude.{◌↔◌, ◌⊎◌}
 use mathlib.Core.Logic.{◌≢◌}
 use Rattle.planus_back.specs.CacheKeys.{key_at}
-use Rattle.planus_back.specs.Caches.{Held, Has, Fits}
+use Rattle.planus_back.specs.Caches.{CacheView, Has, Fits}
 
 -- The distances of few contents; or the view of the cache of many.
 pub data Holding : Type 0 where
   few : List ℕ → Holding
-  many : Held → Holding
+  many : CacheView → Holding
 
 -- how contents are found at the front of some bytes
 abbrev pub FindContents : Type 0

@@ -7,8 +7,8 @@ use Rattle.planus_read.specs.Values.{Value, text, byte_list}
 use Rattle.planus_read.specs.Stands.{Stands}
 use Rattle.planus_read.specs.Moves.{moved}
 use Rattle.planus_read.specs.Aligned.{AlignedAt}
-use Rattle.planus_write.specs.Shared.{Kind, texts, byte_lists, vtables, Seen}
-use Rattle.planus_write.specs.Past.{Past}
+use Rattle.planus_write.specs.Shared.{Kind, texts, byte_lists, vtables, Cached}
+use Rattle.planus_write.specs.History.{History}
 use Rattle.planus_write.specs.Parts.{Named, position_in}
 
 abbrev pub TagsReached : ℕ → Option ℕ → Type 0
@@ -17,27 +17,27 @@ TagsReached length (Some tags) = tags ≤ length
 
 -- The value is encoded at its distances, and aligned in all bytes that end in this and whose length
 -- keeps the constraints.
-pub record IsKept (past : Past) (value : Value) (named : Named) : Type 0 where
-  pub reached : named.distance ≤ length past.written.bytes
-  pub tags_reached : TagsReached (length past.written.bytes) named.tags
-  pub stands : Stands past.written.bytes (position_in past.written.bytes named) value
-  pub aligned : (front : List ℕ) → Keep past.written.promises (length (front ++ past.written.bytes))
-      → AlignedAt (front ++ past.written.bytes)
-      (moved (length front) (position_in past.written.bytes named)) value
+pub record IsKept (history : History) (value : Value) (named : Named) : Type 0 where
+  pub reached : named.distance ≤ length history.written.bytes
+  pub tags_reached : TagsReached (length history.written.bytes) named.tags
+  pub stands : Stands history.written.bytes (position_in history.written.bytes named) value
+  pub aligned : (front : List ℕ) → Keep history.written.promises (length (front ++ history.written.bytes))
+      → AlignedAt (front ++ history.written.bytes)
+      (moved (length front) (position_in history.written.bytes named)) value
 
 -- Cached contents are stored at the distance; a vtable's at a multiple of 2.
-abbrev pub KindIsKept : Past → Kind → List ℕ → ℕ → Type 0
-KindIsKept past texts bytes distance =
-    IsKept past (text bytes) (record { distance = distance; tags = None })
-KindIsKept past byte_lists bytes distance =
-    IsKept past (byte_list bytes) (record { distance = distance; tags = None })
-KindIsKept past vtables bytes distance =
-    (distance ≤ length past.written.bytes)
-    × BytesStand past.written.bytes (position_of past.written.bytes distance) bytes
-    × ((L : ℕ) → Keep past.written.promises L → 2 ∣ (L - distance))
+abbrev pub KindIsKept : History → Kind → List ℕ → ℕ → Type 0
+KindIsKept history texts bytes distance =
+    IsKept history (text bytes) (record { distance = distance; tags = None })
+KindIsKept history byte_lists bytes distance =
+    IsKept history (byte_list bytes) (record { distance = distance; tags = None })
+KindIsKept history vtables bytes distance =
+    (distance ≤ length history.written.bytes)
+    × BytesStand history.written.bytes (position_of history.written.bytes distance) bytes
+    × ((L : ℕ) → Keep history.written.promises L → 2 ∣ (L - distance))
 
-abbrev pub SeenIsKept : Past → Seen → Type 0
-SeenIsKept past seen = KindIsKept past seen.contents.kind seen.contents.bytes seen.distance
+abbrev pub CachedIsKept : History → Cached → Type 0
+CachedIsKept history cached = KindIsKept history cached.contents.kind cached.contents.bytes cached.distance
 
-abbrev pub AllSeenKept : Past → Type 0
-AllSeenKept past = AllByRecursion (SeenIsKept past) past.seen
+abbrev pub AllCachedKept : History → Type 0
+AllCachedKept history = AllByRecursion (CachedIsKept history) history.cached

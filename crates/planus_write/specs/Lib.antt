@@ -1,5 +1,5 @@
 pub mod Shared
-pub mod Past
+pub mod History
 pub mod Items
 pub mod Tables
 pub mod Parts

@@ -12,7 +12,7 @@ use Rattle.planus_read.specs.Values.{table}
 use Rattle.planus_read.specs.Bytes.{position_of}
 use Rattle.planus_read.specs.Stands.{Position, at, at_both}
 use Rattle.planus_write.specs.Shared.{texts, byte_lists}
-use Rattle.planus_write.specs.Past.{Entry, unshared_entry}
+use Rattle.planus_write.specs.History.{Entry, unshared_entry}
 use Rattle.planus_write.specs.Items.{Item, plain_item, reference_item}
 use Rattle.planus_write.specs.Tables.{IsTable, table_entries}
 

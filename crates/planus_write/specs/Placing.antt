@@ -6,8 +6,8 @@ use Rattle.planus_back.specs.Padding.{greatest_place}
 use Rattle.planus_back.specs.Parts.{Part}
 use Rattle.planus_write.specs.Limits.{IsWithinLimit, ExceedsRoom}
 use Rattle.planus_write.specs.Shared.{Contents, shared_as}
-use Rattle.planus_write.specs.Past.{Past, Entry, part_after, found_before, Puts, PutsTooLarge}
-use Rattle.planus_write.specs.State.{State, IsPast}
+use Rattle.planus_write.specs.History.{History, Entry, part_after, found_before, Puts, PutsTooLarge}
+use Rattle.planus_write.specs.State.{State, IsHistoryOf}
 use Rattle.planus_write.specs.declared.errors.BuildError.{BuildError}
 use Rattle.planus_write.specs.declared.errors.BuildError.TheVariants.{OutOfMemory, TooLarge}
 
@@ -26,16 +26,16 @@ then_does {A} {B} first second old (Err error) new =
 
 -- The entry was written, in any history, and got this distance. Where padding and part fit the
 -- room, the room falls by their bytes.
-pub record PutsDown (entry : Entry) (got : List ℕ) (old : State) (distance : ℕ)
+pub record PlacesEntry (entry : Entry) (got : List ℕ) (old : State) (distance : ℕ)
     (new : State) : Type 0 where
   pub grows : (front : List ℕ) × (new.bytes ≡ front ++ old.bytes)
   pub reached : distance ≤ length new.bytes
   pub fits : length new.bytes ≤ greatest_place
-  pub puts : (past : Past) → IsPast old past → (after : Past)
-      × Puts old.switches entry got past distance after × IsPast new after
+  pub puts : (history : History) → IsHistoryOf old history → (after : History)
+      × Puts old.settings entry got history distance after × IsHistoryOf new after
   pub room : length new.bytes ≤ length old.bytes + old.room
       → length new.bytes + new.room ≡ length old.bytes + old.room
-  pub switches : new.switches ≡ old.switches
+  pub settings : new.settings ≡ old.settings
 
 -- Padding and part exceed the room. A shared part need only be within the limit, since its cache
 -- may lack memory.
@@ -45,16 +45,16 @@ MayLackMemory None part old promises =
 MayLackMemory (Some contents) part old promises =
     IsWithinLimit (length old.bytes) part.size part.alignment promises
 
-pub record RefusedMemory (entry : Entry) (got : List ℕ) (old : State) (past : Past) : Type 0 where
-  pub is_new : found_before old.switches entry past ≡ None
-  pub lacks : MayLackMemory (shared_as old.switches entry.contents)
-      (part_after entry got past) old past.written.promises
+pub record RefusedMemory (entry : Entry) (got : List ℕ) (old : State) (history : History) : Type 0 where
+  pub is_new : found_before old.settings entry history ≡ None
+  pub lacks : MayLackMemory (shared_as old.settings entry.contents)
+      (part_after entry got history) old history.written.promises
 
 abbrev pub RefusedFor : Entry → List ℕ → State → BuildError → Type 0
-RefusedFor entry got old TooLarge = (past : Past) → IsPast old past
-    → PutsTooLarge old.switches entry got past
-RefusedFor entry got old OutOfMemory = (past : Past) → IsPast old past
-    → RefusedMemory entry got old past
+RefusedFor entry got old TooLarge = (history : History) → IsHistoryOf old history
+    → PutsTooLarge old.settings entry got history
+RefusedFor entry got old OutOfMemory = (history : History) → IsHistoryOf old history
+    → RefusedMemory entry got old history
 
 -- Unchanged, except that a shared part may have got room before its cache failed.
 abbrev pub LeftAsItWas : BuildError → Option Contents → State → State → Type 0
@@ -66,12 +66,12 @@ LeftAsItWas TooLarge shared old new = new ≡ old
 -- The entry failed; no byte, constraint or cached contents have changed.
 pub record Refuses (entry : Entry) (got : List ℕ) (old : State) (error : BuildError)
     (new : State) : Type 0 where
-  pub unchanged : LeftAsItWas error (shared_as old.switches entry.contents) old new
+  pub unchanged : LeftAsItWas error (shared_as old.settings entry.contents) old new
   pub cause : RefusedFor entry got old error
 
 -- The entry was written and got the returned distance, or it failed.
 abbrev pub WritesEntry : Entry → List ℕ → Outcome ℕ
-WritesEntry entry got old (Ok distance) new = PutsDown entry got old distance new
+WritesEntry entry got old (Ok distance) new = PlacesEntry entry got old distance new
 WritesEntry entry got old (Err error) new = Refuses entry got old error new
 
 -- The same where the distance isn't returned.

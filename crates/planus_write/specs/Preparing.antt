@@ -2,7 +2,7 @@ use Rattle.std.specs.Prelude.{◌≡◌, ℕ, ◌+◌, ◌*◌, ◌≤◌, List,
 use Rattle.std.specs.Prelude.{slice_get, Some, Result, Ok, Err, Vec}
 use Rattle.std.specs.declared.alloc.Global.{Global}
 use Rattle.std.specs.List.{AllByRecursion}
-use Rattle.planus_write.specs.Past.{Entry}
+use Rattle.planus_write.specs.History.{Entry}
 use Rattle.planus_write.specs.Parts.{text_entry, byte_list_entry, list_entries, last_of}
 use Rattle.planus_write.specs.Items.{Item}
 use Rattle.planus_write.specs.State.{State, Grows}

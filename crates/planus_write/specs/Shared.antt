@@ -22,39 +22,39 @@ abbrev pub same_contents : Contents → Contents → Bool
 same_contents a b = same_kind a.kind b.kind && bytes_eq a.bytes b.bytes
 
 -- for each kind, whether equal contents are written once
-pub record Switches : Type 0 where
+pub record CacheSettings : Type 0 where
   pub texts_on : Bool
   pub byte_lists_on : Bool
   pub vtables_on : Bool
 
 -- equal contents of every kind are written once
-abbrev pub all_on : Switches
+abbrev pub all_on : CacheSettings
 all_on = record { texts_on = true; byte_lists_on = true; vtables_on = true }
 
-abbrev pub is_on : Switches → Kind → Bool
-is_on switches texts = switches.texts_on
-is_on switches byte_lists = switches.byte_lists_on
-is_on switches vtables = switches.vtables_on
+abbrev pub is_on : CacheSettings → Kind → Bool
+is_on settings texts = settings.texts_on
+is_on settings byte_lists = settings.byte_lists_on
+is_on settings vtables = settings.vtables_on
 
-abbrev pub shared_as : Switches → Option Contents → Option Contents
-shared_as switches None = None
-shared_as switches (Some contents) = if is_on switches contents.kind then Some contents else None
+abbrev pub shared_as : CacheSettings → Option Contents → Option Contents
+shared_as settings None = None
+shared_as settings (Some contents) = if is_on settings contents.kind then Some contents else None
 
 -- contents, and the distance at which they were written
-pub record Seen : Type 0 where
+pub record Cached : Type 0 where
   pub contents : Contents
   pub distance : ℕ
 
 -- the distance of equal contents of the same kind, if they were written
-abbrev pub distance_seen : List Seen → Contents → Option ℕ
-distance_seen [] contents = None
-distance_seen (one ∷ seen) contents =
-    if same_contents one.contents contents then Some one.distance else distance_seen seen contents
+abbrev pub distance_cached : List Cached → Contents → Option ℕ
+distance_cached [] contents = None
+distance_cached (one ∷ cached) contents =
+    if same_contents one.contents contents then Some one.distance else distance_cached cached contents
 
-abbrev pub earlier_distance : List Seen → Option Contents → Option ℕ
-earlier_distance seen None = None
-earlier_distance seen (Some contents) = distance_seen seen contents
+abbrev pub earlier_distance : List Cached → Option Contents → Option ℕ
+earlier_distance cached None = None
+earlier_distance cached (Some contents) = distance_cached cached contents
 
-abbrev pub and_seen : Option Contents → ℕ → List Seen → List Seen
-and_seen None distance seen = seen
-and_seen (Some contents) distance seen = record { contents = contents; distance = distance } ∷ seen
+abbrev pub and_cached : Option Contents → ℕ → List Cached → List Cached
+and_cached None distance cached = cached
+and_cached (Some contents) distance cached = record { contents = contents; distance = distance } ∷ cached

@@ -5,10 +5,10 @@ use Rattle.planus_read.specs.Bytes.{BytesStand}
 use Rattle.planus_read.specs.Values.{Value}
 use Rattle.planus_read.specs.Stands.{ReferenceStands}
 use Rattle.planus_read.specs.SizePrefixed.{IsPrefixed}
-use Rattle.planus_write.specs.Shared.{Switches}
-use Rattle.planus_write.specs.Past.{Past, Entry, PutsAll, ComesToTooLarge}
-use Rattle.planus_write.specs.Kept.{IsKept, AllSeenKept}
-use Rattle.planus_write.specs.State.{State, IsPast, Extends}
+use Rattle.planus_write.specs.Shared.{CacheSettings}
+use Rattle.planus_write.specs.History.{History, Entry, PutsAll, ComesToTooLarge}
+use Rattle.planus_write.specs.Kept.{IsKept, AllCachedKept}
+use Rattle.planus_write.specs.State.{State, IsHistoryOf, Extends}
 use Rattle.planus_write.specs.Preparing.{WritesEntries}
 use Rattle.planus_write.specs.declared.errors.BuildError.TheVariants.{TooLarge}
 use Rattle.planus_write.specs.Parts.{finish_part, identifier_bytes, IsWritten, entries_of, Named}
@@ -16,31 +16,31 @@ use Rattle.planus_write.specs.Parts.{named_by, sized_finish_part}
 
 -- What is stored stays so, whatever is prepended.
 abbrev pub KeptStays : Type 0
-KeptStays = (before after : Past) (value : Value) (named : Named) → Extends before after
+KeptStays = (before after : History) (value : Value) (named : Named) → Extends before after
     → IsKept before value named → IsKept after value named
 
 -- Once a value's entries are written, it and all that was cached are stored, if that was stored
 -- before and its references lead into earlier bytes.
 abbrev pub ValuesAreKept : Type 0
 ValuesAreKept =
-    (switches : Switches) (value : Value) (before : Past) (got : List ℕ) (after : Past)
-    → IsWritten (length before.written.bytes) value → AllSeenKept before
-    → PutsAll switches (entries_of value) [] before got after
-    → IsKept after value (named_by value got) × AllSeenKept after × Extends before after
+    (settings : CacheSettings) (value : Value) (before : History) (got : List ℕ) (after : History)
+    → IsWritten (length before.written.bytes) value → AllCachedKept before
+    → PutsAll settings (entries_of value) [] before got after
+    → IsKept after value (named_by value got) × AllCachedKept after × Extends before after
 
 -- Entries that a builder wrote are written in every history it may have; where one was too large,
 -- every history comes to that.
 abbrev pub EntriesArePut : Type 0
 EntriesArePut =
-    (entries : List Entry) (got : List ℕ) (old : State) (all : List ℕ) (new : State) (past : Past)
-    → WritesEntries entries got old (Ok all) new → IsPast old past
-    → (after : Past) × PutsAll old.switches entries got past all after × IsPast new after
+    (entries : List Entry) (got : List ℕ) (old : State) (all : List ℕ) (new : State) (history : History)
+    → WritesEntries entries got old (Ok all) new → IsHistoryOf old history
+    → (after : History) × PutsAll old.settings entries got history all after × IsHistoryOf new after
 
 abbrev pub EntriesAreTooLarge : Type 0
 EntriesAreTooLarge =
-    (entries : List Entry) (got : List ℕ) (old : State) (new : State) (past : Past)
-    → WritesEntries entries got old (Err TooLarge) new → IsPast old past
-    → ComesToTooLarge old.switches entries got past
+    (entries : List Entry) (got : List ℕ) (old : State) (new : State) (history : History)
+    → WritesEntries entries got old (Err TooLarge) new → IsHistoryOf old history
+    → ComesToTooLarge old.settings entries got history
 
 -- The reference of a placed finish leads to the root, if that is in earlier bytes.
 abbrev pub FinishesLead : Type 0

@@ -3,10 +3,10 @@ use Rattle.std.specs.Prelude.{◌≡◌, ℕ, List, ◌++◌, length, Option, So
 use Rattle.planus_back.specs.CacheKeys.{key_at, bytes_in, vtable_in}
 use Rattle.planus_back.specs.Descriptions.{Describes}
 use Rattle.planus_write.specs.Holding.{Holding, Holds, HoldingFits}
-use Rattle.planus_write.specs.Shared.{Kind, texts, byte_lists, vtables, Switches, Seen}
-use Rattle.planus_write.specs.Shared.{distance_seen}
-use Rattle.planus_write.specs.Past.{Past}
-use Rattle.planus_write.specs.Kept.{AllSeenKept}
+use Rattle.planus_write.specs.Shared.{Kind, texts, byte_lists, vtables, CacheSettings, Cached}
+use Rattle.planus_write.specs.Shared.{distance_cached}
+use Rattle.planus_write.specs.History.{History}
+use Rattle.planus_write.specs.Kept.{AllCachedKept}
 use Rattle.planus_back.specs.Promises.{Promise}
 
 -- what is remembered of each kind of contents
@@ -33,34 +33,34 @@ pub record State : Type 0 where
   pub delayed : ℕ
   pub mask : ℕ
   pub room : ℕ
-  pub switches : Switches
+  pub settings : CacheSettings
   pub holdings : Holdings
 
 -- What is remembered of a kind fits the bytes, and finds contents exactly where they were cached.
-pub record FindsSeen (state : State) (seen : List Seen) (kind : Kind) : Type 0 where
+pub record FindsCached (state : State) (cached : List Cached) (kind : Kind) : Type 0 where
   pub fits : HoldingFits (contents_in kind) (holding_of state.holdings kind) state.bytes
   pub finds : (bytes : List ℕ) (distance : ℕ)
-      → (distance_seen seen (record { kind = kind; bytes = bytes }) ≡ Some distance)
+      → (distance_cached cached (record { kind = kind; bytes = bytes }) ≡ Some distance)
       ↔ (Holds (holding_of state.holdings kind) distance
       × (key_at (contents_in kind) state.bytes distance ≡ Some bytes))
 
 -- A possible history: the builder has its bytes, describes its constraints, and finds its cached
 -- contents, all of which are stored.
-pub record IsPast (state : State) (past : Past) : Type 0 where
-  pub bytes : past.written.bytes ≡ state.bytes
-  pub described : Describes (length state.bytes) state.delayed state.mask past.written.promises
-  pub seen : (kind : Kind) → FindsSeen state past.seen kind
-  pub kept : AllSeenKept past
+pub record IsHistoryOf (state : State) (history : History) : Type 0 where
+  pub bytes : history.written.bytes ≡ state.bytes
+  pub described : Describes (length state.bytes) state.delayed state.mask history.written.promises
+  pub cached : (kind : Kind) → FindsCached state history.cached kind
+  pub kept : AllCachedKept history
 
-pub record Extends (before after : Past) : Type 0 where
+pub record Extends (before after : History) : Type 0 where
   pub bytes : (front : List ℕ) × (after.written.bytes ≡ front ++ before.written.bytes)
   pub promises : (more : List Promise) × (after.written.promises ≡ more ++ before.written.promises)
-  pub seen : (more : List Seen) × (after.seen ≡ more ++ before.seen)
+  pub cached : (more : List Cached) × (after.cached ≡ more ++ before.cached)
 
 -- The old bytes are the end of the new ones, all of any history is still there, and the cache
 -- settings are as they were.
 pub record Grows (old new : State) : Type 0 where
   pub bytes : (front : List ℕ) × (new.bytes ≡ front ++ old.bytes)
-  pub past : (past : Past) → IsPast old past → (after : Past) × IsPast new after
-      × Extends past after
-  pub switches : new.switches ≡ old.switches
+  pub history : (history : History) → IsHistoryOf old history → (after : History) × IsHistoryOf new after
+      × Extends history after
+  pub settings : new.settings ≡ old.settings

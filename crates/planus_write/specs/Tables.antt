@@ -8,7 +8,7 @@ use Rattle.planus_read.specs.Values.{Field, plain, reference, tags, values, fiel
 use Rattle.planus_read.specs.Values.{vtable_size}
 use Rattle.planus_read.specs.Aligned.{field_alignment}
 use Rattle.planus_write.specs.Shared.{vtables}
-use Rattle.planus_write.specs.Past.{Entry, unshared_entry}
+use Rattle.planus_write.specs.History.{Entry, unshared_entry}
 use Rattle.planus_write.specs.Items.{Item, plain_item, reference_item}
 
 abbrev pub field_item : Field → Item

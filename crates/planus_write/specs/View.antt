@@ -1,9 +1,9 @@
 use Rattle.std.specs.Prelude.{ℕ, ◌+◌, ◌≤◌, ◌^◌, List, length}
 use Rattle.planus_back.specs.Padding.{greatest_place}
-use Rattle.planus_write.specs.Shared.{Switches}
+use Rattle.planus_write.specs.Shared.{CacheSettings}
 use Rattle.planus_write.specs.inner.Backed.{Backed}
-use Rattle.planus_write.specs.State.{State, Holdings, IsPast}
-use Rattle.planus_write.specs.Past.{Past}
+use Rattle.planus_write.specs.State.{State, Holdings, IsHistoryOf}
+use Rattle.planus_write.specs.History.{History}
 use Rattle.planus_write.specs.declared.backing.Backing.TheInside as backing
 use Rattle.planus_write.specs.declared.builder.Builder.TheInside as builder
 use Rattle.planus_write.specs.declared.caches.Caches.{Caches}
@@ -13,8 +13,8 @@ use Rattle.planus_write.specs.TableWriting.{Writer, WasTold}
 use Rattle.planus_back.specs.Promises.{IsPowerOfTwo}
 
 -- the cache settings
-abbrev pub switches_of : Caches → Switches
-switches_of caches = record {
+abbrev pub settings_of : Caches → CacheSettings
+settings_of caches = record {
   texts_on = caches.texts;
   byte_lists_on = caches.bytes;
   vtables_on = caches.vtables;
@@ -32,13 +32,13 @@ backed_of a = record {
 abbrev pub IsSmall : backing.Inside → Type 0
 IsSmall a = length a.inner.bytes ≤ greatest_place
 
-abbrev pub state_from : Backed → Switches → Holdings → State
-state_from backed switches holdings = record {
+abbrev pub state_from : Backed → CacheSettings → Holdings → State
+state_from backed settings holdings = record {
   bytes = backed.bytes;
   delayed = backed.delayed;
   mask = backed.mask;
   room = backed.room;
-  switches = switches;
+  settings = settings;
   holdings = holdings;
 }
 
@@ -58,7 +58,7 @@ state_of a =
 
 -- A builder always has some history.
 abbrev pub IsSound : builder.Inside → Type 0
-IsSound a = (past : Past) × IsPast (state_of a) past
+IsSound a = (history : History) × IsHistoryOf (state_of a) history
 
 -- a writer, by its fields
 abbrev pub writer_of : {N : ℕ} → table_writer.Inside N → Writer

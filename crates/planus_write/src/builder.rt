@@ -55,12 +55,12 @@ impl Model for Builder {
 impl Builder {
     ghost use Rattle.std.specs.Borrow.{sem};
     ghost use Rattle.planus_write.specs.Shared.{all_on};
-    ghost use Rattle.planus_write.specs.Past.{Past, no_past, unshared_entry};
+    ghost use Rattle.planus_write.specs.History.{History, no_history, unshared_entry};
     ghost use Rattle.planus_write.specs.Parts.{filled_part, count_part};
     ghost use Rattle.planus_write.specs.Tables.{vtable_entry, word_part};
-    ghost use Rattle.planus_write.specs.State.{IsPast};
+    ghost use Rattle.planus_write.specs.State.{IsHistoryOf};
     ghost use Rattle.planus_write.specs.InBuilder.{IsIn};
-    ghost use Rattle.planus_write.specs.View.{switches_of};
+    ghost use Rattle.planus_write.specs.View.{settings_of};
     ghost use Rattle.planus_write.specs.Placing.{WritesEntry, WritesPart};
     ghost use Rattle.planus_write.specs.inner.WholeTables.{PutsTableIf};
     ghost use Rattle.planus_write.specs.Preparing.{WritesText, WritesByteList};
@@ -71,8 +71,8 @@ impl Builder {
 
     /// Creates an empty builder with all caches on, or fails with [`BuildError::OutOfMemory`].
     pub fn new(alloc: Global) -> Result<Builder, BuildError>
-        ensures past { IfOk result (λ builder. IsPast builder no_past) }
-        ensures switches { IfOk result (λ builder. builder.switches ≡ all_on) }
+        ensures history { IfOk result (λ builder. IsHistoryOf builder no_history) }
+        ensures settings { IfOk result (λ builder. builder.settings ≡ all_on) }
         ensures error { IfErr result (λ error. error ≡ BuildError.OutOfMemory) }
     {
         Builder::with_capacity(alloc, 0)
@@ -80,9 +80,9 @@ impl Builder {
 
     /// Creates such a builder with room for `capacity` bytes.
     pub fn with_capacity(alloc: Global, capacity: usize) -> Result<Builder, BuildError>
-        ensures past { IfOk result (λ builder. IsPast builder no_past) }
+        ensures history { IfOk result (λ builder. IsHistoryOf builder no_history) }
         ensures room { IfOk result (λ builder. capacity ≤ builder.room) }
-        ensures switches { IfOk result (λ builder. builder.switches ≡ all_on) }
+        ensures settings { IfOk result (λ builder. builder.settings ≡ all_on) }
         ensures error { IfErr result (λ error. error ≡ BuildError.OutOfMemory) }
     {
         Builder::with_caches(alloc, capacity, Caches::all())
@@ -95,9 +95,9 @@ impl Builder {
         capacity: usize,
         caches: Caches,
     ) -> Result<Builder, BuildError>
-        ensures past { IfOk result (λ builder. IsPast builder no_past) }
+        ensures history { IfOk result (λ builder. IsHistoryOf builder no_history) }
         ensures room { IfOk result (λ builder. capacity ≤ builder.room) }
-        ensures switches { IfOk result (λ builder. builder.switches ≡ switches_of caches) }
+        ensures settings { IfOk result (λ builder. builder.settings ≡ settings_of caches) }
         ensures error { IfErr result (λ error. error ≡ BuildError.OutOfMemory) }
     {
         Ok(Builder {
@@ -158,17 +158,17 @@ impl Builder {
 
     /// States that the builder has some history, for clauses about every history. Does nothing.
     #[inline]
-    pub fn has_a_past(&self)
-        ensures { (past : Past) × IsPast self.now past }
+    pub fn has_a_history(&self)
+        ensures { (history : History) × IsHistoryOf self.now history }
     {
         let _backing = &self.backing;
     }
 
     /// Removes all bytes and constraints, and forgets the contents written. Keeps the memory.
     pub fn clear(&mut self)
-        ensures past { IsPast self.new no_past }
+        ensures history { IsHistoryOf self.new no_history }
         ensures room { self.new.room ≡ length self.old.bytes + self.old.room }
-        ensures switches { self.new.switches ≡ self.old.switches }
+        ensures settings { self.new.settings ≡ self.old.settings }
     {
         self.backing.clear();
         self.texts.clear();
@@ -190,7 +190,7 @@ impl Builder {
 
     #[inline(never)]
     fn write_shared_text(&mut self, text: &str) -> Written
-        requires { self.old.switches.texts_on ≡ true }
+        requires { self.old.settings.texts_on ≡ true }
         ensures { WritesEntry (text_entry text.now) [] self.old (place_of result) self.new }
     {
         Written::from(self.write_text_if(true, text))
@@ -198,7 +198,7 @@ impl Builder {
 
     #[inline(never)]
     fn write_new_text(&mut self, text: &str) -> Written
-        requires { self.old.switches.texts_on ≡ false }
+        requires { self.old.settings.texts_on ≡ false }
         ensures { WritesEntry (text_entry text.now) [] self.old (place_of result) self.new }
     {
         Written::from(self.write_text_if(false, text))
@@ -206,7 +206,7 @@ impl Builder {
 
     #[inline(always)]
     fn write_text_if(&mut self, shared: bool, text: &str) -> Result<u32, BuildError>
-        requires { self.old.switches.texts_on ≡ shared }
+        requires { self.old.settings.texts_on ≡ shared }
         ensures { WritesEntry (text_entry text.now) [] self.old result self.new }
     {
         let bytes = text.as_bytes();
@@ -244,7 +244,7 @@ impl Builder {
 
     #[inline(never)]
     fn write_shared_list<L: ByteItems>(&mut self, list: &L) -> Written
-        requires { self.old.switches.byte_lists_on ≡ true }
+        requires { self.old.settings.byte_lists_on ≡ true }
         ensures { WritesEntry (byte_list_entry (L.bytes_of list.now)) [] self.old (place_of result)
             self.new }
     {
@@ -253,7 +253,7 @@ impl Builder {
 
     #[inline(never)]
     fn write_new_list<L: ByteItems>(&mut self, list: &L) -> Written
-        requires { self.old.switches.byte_lists_on ≡ false }
+        requires { self.old.settings.byte_lists_on ≡ false }
         ensures { WritesEntry (byte_list_entry (L.bytes_of list.now)) [] self.old (place_of result)
             self.new }
     {
@@ -262,7 +262,7 @@ impl Builder {
 
     #[inline(always)]
     fn write_list_if<L: ByteItems>(&mut self, shared: bool, list: &L) -> Result<u32, BuildError>
-        requires { self.old.switches.byte_lists_on ≡ shared }
+        requires { self.old.settings.byte_lists_on ≡ shared }
         ensures { WritesEntry (byte_list_entry (L.bytes_of list.now)) [] self.old result self.new }
     {
         let size = list.count() + 4;

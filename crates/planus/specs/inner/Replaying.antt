@@ -5,9 +5,9 @@ use Rattle.std.specs.Int.{Width}
 use Rattle.std.specs.List.{list_all}
 use Rattle.std.specs.declared.alloc.Global.{Global}
 use Rattle.std.specs.Option.{option_map}
-use Rattle.planus_write.specs.Past.{Past}
+use Rattle.planus_write.specs.History.{History}
 use Rattle.planus_write.specs.State as builder
-use Rattle.planus_write.specs.State.{IsPast}
+use Rattle.planus_write.specs.State.{IsHistoryOf}
 use Rattle.planus_write.specs.Placing.{Outcome}
 use Rattle.planus_write.specs.declared.errors.BuildError.TheVariants as build
 use Rattle.planus_write.specs.Parts.{Named}
@@ -35,9 +35,9 @@ abbrev pub values_listed : ReplayState → List Listed
 values_listed replay = listed_from replay.first (names replay)
 
 -- the state of the run with this history
-abbrev pub state_with : ReplayState → Past → State
-state_with replay past = record {
-  past = past;
+abbrev pub state_with : ReplayState → History → State
+state_with replay history = record {
+  history = history;
   listed = values_listed replay;
   next = replay.first + length replay.offsets.items;
   finished = map finish_given replay.finished.items;
@@ -102,10 +102,10 @@ WritesValue {A} name outcome old (Err (BadStep number why)) new = ⊥
 
 -- why a step failed
 abbrev pub Stopped : ReplayState → Step → ReplayError → Type 0
-Stopped old step OutOfMemory = (past : Past) → IsPast old.builder past
-    → StepRefused old.builder.switches (state_with old past) step
-Stopped old step TooLarge = (past : Past) → IsPast old.builder past
-    → StepTooLarge old.builder.switches (state_with old past) step
+Stopped old step OutOfMemory = (history : History) → IsHistoryOf old.builder history
+    → StepRefused old.builder.settings (state_with old history) step
+Stopped old step TooLarge = (history : History) → IsHistoryOf old.builder history
+    → StepTooLarge old.builder.settings (state_with old history) step
 Stopped old step (BadStep number why) =
     (number ≡ old.first + length old.offsets.items) × (check_by (name_fault old) step ≡ Some why)
 
@@ -128,10 +128,10 @@ pub record HasTaken (replay : ReplayState) (steps : List Step) : Type 0 where
 -- one step was taken, for any history
 pub record Takes (old : ReplayState) (step : Step) (new : ReplayState) : Type 0 where
   pub taken : (steps : List Step) → HasTaken old steps → HasTaken new (steps ++ step ∷ [])
-  pub advances : (past : Past) → IsPast old.builder past
-      → (after : Past) × IsPast new.builder after
-      × Advances old.builder.switches (state_with old past) step (state_with new after)
-  pub switches : new.builder.switches ≡ old.builder.switches
+  pub advances : (history : History) → IsHistoryOf old.builder history
+      → (after : History) × IsHistoryOf new.builder after
+      × Advances old.builder.settings (state_with old history) step (state_with new after)
+  pub settings : new.builder.settings ≡ old.builder.settings
 
 -- one step was taken, or failed
 abbrev pub Advanced : ReplayState → Step → Result (Unit {0}) ReplayError → ReplayState → Type 0

@@ -7,10 +7,10 @@ use Rattle.planus_read.specs.Values.{Field}
 use Rattle.planus_fields.specs.Contents.{PreparesOptional}
 use Rattle.planus_fields.specs.Fields.{reach_if}
 use Rattle.planus_write.specs.Contents.{Content, Comes}
-use Rattle.planus_write.specs.Past.{Past}
+use Rattle.planus_write.specs.History.{History}
 use Rattle.planus_write.specs.Placing.{Outcome}
 use Rattle.planus_write.specs.Preparing.{IsLawful}
-use Rattle.planus_write.specs.State.{State, IsPast, Grows}
+use Rattle.planus_write.specs.State.{State, IsHistoryOf, Grows}
 use Rattle.planus_write.specs.Tables.{IsField, Declared, declared_of}
 use Rattle.planus_write.specs.declared.errors.BuildError.{BuildError}
 use Rattle.planus_write.specs.lemmas.Laws.{grows_on, extends_on, reached_still}
@@ -66,8 +66,8 @@ pub field_has_contents : {X Y A B : Type 0} {may : X → State → Type 0}
     (λ y old answer new. PreparesAs value (outcome (of y)) old answer new)
     (λ y. (slot, content (of y)) ∷ []) (λ prepared. field_in slot field (value prepared))
 field_has_contents {X} {Y} {A} {B} {may} {outcome} {content} {field} of value slot prepares = record {
-  comes = λ y old prepared new past may done is_past.
-      let near = prepares.comes (of y) old (value prepared) new past may done is_past in (
+  comes = λ y old prepared new history may done is_history.
+      let near = prepares.comes (of y) old (value prepared) new history may done is_history in (
         near.0,
         near.1,
         near.2,
@@ -130,15 +130,15 @@ module _ {X Y A B : Type 0} {may : X → State → Type 0} {others_may : Y → S
       (λ both. contents both.0 ++ others_contents both.1)
       (λ prepared. there prepared.0 ++ others_there prepared.1)
   both_have_contents {contents} {others_contents} {there} {others_there} holds others_hold = record {
-    comes = λ both old prepared new past may done is_past.
-        let near = holds.comes both.0 old done.0 done.1 past may.0 done.2 is_past in
+    comes = λ both old prepared new history may done is_history.
+        let near = holds.comes both.0 old done.0 done.1 history may.0 done.2 is_history in
         let grown = first.grows both.0 old (Ok done.0) done.1 may.0 done.2 in
         let far = others_hold.comes both.1 done.1 done.3.0 done.3.1 near.0
         (second.stays both.1 old done.1 grown may.1) done.3.2 near.1 in
         let same : prepared ≡ (done.0, done.3.0) = let h = done.3.3.0 in cc in (
           far.0,
-          subst (λ state. IsPast state far.0) (sym done.3.3.1) far.1,
-          extends_on past near.0 far.0 near.2 far.2,
+          subst (λ state. IsHistoryOf state far.0) (sym done.3.3.1) far.1,
+          extends_on history near.0 far.0 near.2 far.2,
           subst
               (λ prepared. FieldsAre far.0 (there_of (contents both.0 ++ others_contents both.1))
               (there prepared.0 ++ others_there prepared.1))

@@ -4,7 +4,7 @@ use Rattle.std.specs.Int.{w8, to_le_bytes}
 use Rattle.std.specs.Option.{option_map}
 use Rattle.std.proofs.Common.{subst, sym, ap}
 use Rattle.planus_read.specs.Values.{Field, plain, reference, tags, values as values_field}
-use Rattle.planus_write.specs.Past.{Past}
+use Rattle.planus_write.specs.History.{History}
 use Rattle.planus_write.specs.State.{Extends}
 use Rattle.planus_write.specs.Unions.{union_reach}
 use Rattle.planus_write.specs.declared.offset.Offset.{Offset}
@@ -18,7 +18,7 @@ use Rattle.planus_write.specs.lemmas.ContentLaws.{field_stays}
 
 pub union_value_holds : {T U : Type 0} (offset_of : UnionOffset T → Offset U)
     → ((union : UnionOffset T) → (offset_of union).distance ≡ union_reach union)
-    → (before after : Past) (content : Option (ℕ × Content)) (union : Option (UnionOffset T))
+    → (before after : History) (content : Option (ℕ × Content)) (union : Option (UnionOffset T))
     → Extends before after → UnionHolds before content union
     → HoldsIf after (value_content content) (λ offset. reference offset.distance)
     (option_map offset_of union)
@@ -29,7 +29,7 @@ union_value_holds offset_of is before after (Some content) (Some union) extends 
 union_value_holds offset_of is before after None (Some union) extends holds = holds
 union_value_holds offset_of is before after (Some content) None extends holds = holds
 
-pub union_tag_holds : {T : Type 0} (before after : Past) (content : Option (ℕ × Content))
+pub union_tag_holds : {T : Type 0} (before after : History) (content : Option (ℕ × Content))
     (union : Option (UnionOffset T)) → UnionHolds before content union
     → HoldsIf after (tag_content content)
     (λ tag. plain (record { bytes = to_le_bytes w8 tag; alignment = 1 }))
@@ -43,7 +43,7 @@ union_tag_holds before after (Some content) None holds = holds
 module _ {T A : Type 0} (of : UnionVectorOffset T → A) (field : A → Field) where
   pub list_tags_hold
       : ((vector : UnionVectorOffset T) → field (of vector) ≡ tags vector.tags.distance)
-      → (before after : Past) (contents : Option (Content × Content))
+      → (before after : History) (contents : Option (Content × Content))
       (vector : Option (UnionVectorOffset T))
       → Extends before after → UnionVectorHolds before contents vector
       → HoldsIf after (tags_content contents) field (option_map of vector)
@@ -56,7 +56,7 @@ module _ {T A : Type 0} (of : UnionVectorOffset T → A) (field : A → Field) w
 
   pub list_values_hold
       : ((vector : UnionVectorOffset T) → field (of vector) ≡ values_field vector.values.distance)
-      → (before after : Past) (contents : Option (Content × Content))
+      → (before after : History) (contents : Option (Content × Content))
       (vector : Option (UnionVectorOffset T))
       → Extends before after → UnionVectorHolds before contents vector
       → HoldsIf after (values_content contents) field (option_map of vector)

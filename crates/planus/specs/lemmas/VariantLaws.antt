@@ -2,10 +2,10 @@
 use Rattle.std.specs.Prelude.{ℕ, ◌≤◌, length, Some, Result, Ok, Err}
 use Rattle.std.proofs.Common.{subst, sym}
 use Rattle.planus_read.specs.Values.{reference}
-use Rattle.planus_write.specs.Past.{Past}
+use Rattle.planus_write.specs.History.{History}
 use Rattle.planus_write.specs.Placing.{Outcome}
 use Rattle.planus_write.specs.Preparing.{IsLawful}
-use Rattle.planus_write.specs.State.{State, Grows, IsPast}
+use Rattle.planus_write.specs.State.{State, Grows, IsHistoryOf}
 use Rattle.planus_write.specs.Unions.{union_reach}
 use Rattle.planus_write.specs.declared.errors.BuildError.{BuildError}
 use Rattle.planus_write.specs.declared.offset.Offset.{Offset}
@@ -43,12 +43,12 @@ pub variant_prepared
     (λ x. (tag, content (of x)))
 variant_prepared {X} {Y} {K} {T} {may} {outcome} {content} tag of lawful = record { comes = comes }
   where
-    comes : (x : X) (old : State) (union : UnionOffset T) (new : State) (past : Past)
+    comes : (x : X) (old : State) (union : UnionOffset T) (new : State) (history : History)
         → may (of x) old
-        → WritesVariant tag (outcome (of x)) old (Ok union) new → IsPast old past
-        → Comes past new (λ after. UnionHolds after (Some (tag, content (of x))) (Some union))
-    comes x old union new past may done is_past =
-        let near = lawful.comes (of x) old done.1.0 new past may done.1.1 is_past in (
+        → WritesVariant tag (outcome (of x)) old (Ok union) new → IsHistoryOf old history
+        → Comes history new (λ after. UnionHolds after (Some (tag, content (of x))) (Some union))
+    comes x old union new history may done is_history =
+        let near = lawful.comes (of x) old done.1.0 new history may done.1.1 is_history in (
           near.0,
           near.1,
           near.2,

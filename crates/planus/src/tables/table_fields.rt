@@ -1,7 +1,7 @@
 //! Tables and vectors of tables, read back.
 ghost use Rattle.std.specs.Prelude.{ℕ, Result as std_result};
 ghost use Rattle.planus_read.specs.declared.located.Error.{Error};
-ghost use Rattle.planus_read.specs.Pieces.{slice_bytes, slice_start};
+ghost use Rattle.planus_read.specs.Slices.{slice_bytes, slice_start};
 ghost use Rattle.planus.specs.Accessors.{IsTableField, IsTableRequired};
 ghost use Rattle.planus.specs.Accessors.{IsTableVector, IsTableVectorRequired};
 ghost use Rattle.planus.specs.ItemAccessors.{GetsTable, IsTableItem};

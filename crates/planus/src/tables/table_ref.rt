@@ -12,7 +12,7 @@ use crate::tables::table_view::TableView;
 use planus_read::errors::ErrorKind;
 use planus_read::table_reader::Table;
 use planus_read::{
-    Error, ReadAsRoot, ReadError, ReadPieceAsRoot, Result, SliceWithStartOffset, Stride, TableRead,
+    Error, ReadAsRoot, ReadError, ReadSliceAsRoot, Result, SliceWithStartOffset, Stride, TableRead,
     VectorReadInner,
 };
 use std::alloc::AllocError;
@@ -79,20 +79,20 @@ impl<'a, K: TableKind> ReadAsRoot<'a> for TableRef<'a, K> {
         K.name (codes "read_as_root") 0 r };
 
     fn read_as_root(slice: &'a [u8]) -> Result<TableRef<'a, K>> {
-        ReadPieceAsRoot::read_piece_as_root(SliceWithStartOffset::new(slice, 0))
+        ReadSliceAsRoot::read_slice_as_root(SliceWithStartOffset::new(slice, 0))
     }
 }
 
-impl<'a, K: TableKind> ReadPieceAsRoot<'a> for TableRef<'a, K> {
+impl<'a, K: TableKind> ReadSliceAsRoot<'a> for TableRef<'a, K> {
     ghost reads_root = { λ S start r.
         Located (Answer (shown (ShowsView S start) (table_reading S 0)))
         K.name (codes "read_as_root") start r };
 
-    fn read_piece_as_root(piece: SliceWithStartOffset<'a>) -> Result<TableRef<'a, K>> {
-        match <TableRef<'a, K> as TableRead<'a>>::from_buffer(piece, 0) {
+    fn read_slice_as_root(slice: SliceWithStartOffset<'a>) -> Result<TableRef<'a, K>> {
+        match <TableRef<'a, K> as TableRead<'a>>::from_buffer(slice, 0) {
             Ok(view) => Ok(view),
             Err(kind) => {
-                let start = piece.offset_from_start();
+                let start = slice.offset_from_start();
                 Err(kind.with_error_location(K::name(), "read_as_root", start))
             }
         }

@@ -1,7 +1,7 @@
 //! Equal contents, which a builder writes once, also without memory.
 
 use super::runs::{add, add_field, add_finish};
-use super::settings::Switches;
+use super::settings::CacheSettings;
 use super::tables::{ONE_VTABLE, TWO_VTABLES, put};
 use crate::tests::check;
 use planus::{BuildError, Builder, ByteList, Caches, FieldValue, Step, replay};
@@ -29,8 +29,17 @@ fn push_equal_tables(alloc: Global, steps: &mut Vec<Step>) -> Result<(), AllocEr
 }
 
 fn vtables_are_shared(alloc: Global, steps: &[Step]) -> bool {
-    replays_to(alloc, Switches::of(7).caches(u64::MAX), steps, ONE_VTABLE)
-        && replays_to(alloc, Switches::of(6).caches(u64::MAX), steps, TWO_VTABLES)
+    replays_to(
+        alloc,
+        CacheSettings::of(7).caches(u64::MAX),
+        steps,
+        ONE_VTABLE,
+    ) && replays_to(
+        alloc,
+        CacheSettings::of(6).caches(u64::MAX),
+        steps,
+        TWO_VTABLES,
+    )
 }
 
 fn equal_vtables_in(alloc: Global) -> Result<bool, AllocError> {
@@ -173,7 +182,7 @@ fn entries_in_1024_bytes(alloc: Global, caches: Caches) -> Result<Option<bool>, 
 
 #[test]
 fn entries_with_refused_memory(rt: HostRuntime) -> Result<(), Fail> {
-    let refused = entries_in_1024_bytes(rt.alloc(), Switches::of(7).caches(0))?;
+    let refused = entries_in_1024_bytes(rt.alloc(), CacheSettings::of(7).caches(0))?;
     check(&rt, holds_or_says(&rt, refused)?, "refused entries");
     Ok(())
 }

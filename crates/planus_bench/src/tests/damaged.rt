@@ -63,46 +63,46 @@ const FAR_SLOTS: [usize; 7] = [
 ];
 
 fn number_agrees<'buf, T: TableRead<'buf> + Into<i128>>(
-    piece: SliceWithStartOffset<'buf>,
+    slice: SliceWithStartOffset<'buf>,
     f: usize,
     plain: Option<i128>,
 ) -> bool {
-    same_number(T::from_buffer(piece, f), plain)
+    same_number(T::from_buffer(slice, f), plain)
 }
 
-fn unsigned_agree(piece: SliceWithStartOffset<'_>, f: usize) -> bool {
-    let (bytes, at) = (piece.as_slice(), f as i128);
-    number_agrees::<u8>(piece, f, unsigned(bytes, at, 1))
-        && number_agrees::<u16>(piece, f, unsigned(bytes, at, 2))
-        && number_agrees::<u32>(piece, f, unsigned(bytes, at, 4))
-        && number_agrees::<u64>(piece, f, unsigned(bytes, at, 8))
+fn unsigned_agree(slice: SliceWithStartOffset<'_>, f: usize) -> bool {
+    let (bytes, at) = (slice.as_slice(), f as i128);
+    number_agrees::<u8>(slice, f, unsigned(bytes, at, 1))
+        && number_agrees::<u16>(slice, f, unsigned(bytes, at, 2))
+        && number_agrees::<u32>(slice, f, unsigned(bytes, at, 4))
+        && number_agrees::<u64>(slice, f, unsigned(bytes, at, 8))
 }
 
-fn signed_agree(piece: SliceWithStartOffset<'_>, f: usize) -> bool {
-    let (bytes, at) = (piece.as_slice(), f as i128);
-    number_agrees::<i8>(piece, f, signed(bytes, at, 1))
-        && number_agrees::<i16>(piece, f, signed(bytes, at, 2))
-        && number_agrees::<i32>(piece, f, signed(bytes, at, 4))
-        && number_agrees::<i64>(piece, f, signed(bytes, at, 8))
+fn signed_agree(slice: SliceWithStartOffset<'_>, f: usize) -> bool {
+    let (bytes, at) = (slice.as_slice(), f as i128);
+    number_agrees::<i8>(slice, f, signed(bytes, at, 1))
+        && number_agrees::<i16>(slice, f, signed(bytes, at, 2))
+        && number_agrees::<i32>(slice, f, signed(bytes, at, 4))
+        && number_agrees::<i64>(slice, f, signed(bytes, at, 8))
 }
 
-fn truths_agree(piece: SliceWithStartOffset<'_>, f: usize) -> bool {
-    let plain = number(piece.as_slice(), f as i128, 1);
-    match <bool as TableRead<'_>>::from_buffer(piece, f) {
+fn truths_agree(slice: SliceWithStartOffset<'_>, f: usize) -> bool {
+    let plain = number(slice.as_slice(), f as i128, 1);
+    match <bool as TableRead<'_>>::from_buffer(slice, f) {
         Ok(truth) => matches!(plain, Some(number) if truth == (number != 0)),
         Err(kind) => plain.is_none() && matches!(kind, ErrorKind::InvalidOffset),
     }
 }
 
-fn numbers_agree(piece: SliceWithStartOffset<'_>, f: usize) -> bool {
-    unsigned_agree(piece, f) && signed_agree(piece, f) && truths_agree(piece, f)
+fn numbers_agree(slice: SliceWithStartOffset<'_>, f: usize) -> bool {
+    unsigned_agree(slice, f) && signed_agree(slice, f) && truths_agree(slice, f)
 }
 
-fn heads_agree(piece: SliceWithStartOffset<'_>, f: usize) -> bool {
-    let start = piece.offset_from_start() as i128;
+fn heads_agree(slice: SliceWithStartOffset<'_>, f: usize) -> bool {
+    let start = slice.offset_from_start() as i128;
     match (
-        array_from_buffer(piece, f),
-        head(piece.as_slice(), f as i128),
+        array_from_buffer(slice, f),
+        head(slice.as_slice(), f as i128),
     ) {
         (Ok((items, count)), Some(plain)) => {
             items.offset_from_start() as i128 == start.wrapping_add(plain.items)
@@ -114,11 +114,11 @@ fn heads_agree(piece: SliceWithStartOffset<'_>, f: usize) -> bool {
 }
 
 fn all_agree(bytes: &[u8], f: usize, start: u32, slots: &[usize]) -> bool {
-    let piece = SliceWithStartOffset::new(bytes, start as usize);
-    numbers_agree(piece, f)
-        && heads_agree(piece, f)
-        && lists_agree(piece, f)
-        && tables_agree(piece, f, slots)
+    let slice = SliceWithStartOffset::new(bytes, start as usize);
+    numbers_agree(slice, f)
+        && heads_agree(slice, f)
+        && lists_agree(slice, f)
+        && tables_agree(slice, f, slots)
 }
 
 fn prefixes_agree(bytes: &[u8], slots: &[usize]) -> Result<(), (usize, usize)> {

@@ -133,7 +133,7 @@ impl<'a> Found<'a> {
             && self.field_agrees::<u8>(slot)
     }
 
-    fn pieces_agree(&self, slot: usize) -> bool {
+    fn slices_agree(&self, slot: usize) -> bool {
         self.field_agrees::<&[u8]>(slot)
             && self.field_agrees::<Table<'_>>(slot)
             && self.field_agrees::<Place<'_>>(slot)
@@ -158,7 +158,7 @@ impl<'a> Found<'a> {
 
     fn agrees_at(&self, slot: usize) -> bool {
         self.values_agree(slot)
-            && self.pieces_agree(slot)
+            && self.slices_agree(slot)
             && self.vectors_agree(slot)
             && self.unions_agree(slot)
     }
@@ -173,10 +173,10 @@ impl<'a> Found<'a> {
     }
 }
 
-pub fn tables_agree(piece: SliceWithStartOffset<'_>, f: usize, slots: &[usize]) -> bool {
-    let start = piece.offset_from_start() as i128;
-    let plain = table(piece.as_slice(), 0, f as i128);
-    match (Table::from_buffer(piece, f), plain) {
+pub fn tables_agree(slice: SliceWithStartOffset<'_>, f: usize, slots: &[usize]) -> bool {
+    let start = slice.offset_from_start() as i128;
+    let plain = table(slice.as_slice(), 0, f as i128);
+    match (Table::from_buffer(slice, f), plain) {
         (Ok(table), Ok(plain)) => Found {
             table,
             plain,
@@ -188,20 +188,20 @@ pub fn tables_agree(piece: SliceWithStartOffset<'_>, f: usize, slots: &[usize]) 
     }
 }
 
-fn field_agrees<'a, T: TableRead<'a> + Field>(piece: SliceWithStartOffset<'a>, f: usize) -> bool {
+fn field_agrees<'a, T: TableRead<'a> + Field>(slice: SliceWithStartOffset<'a>, f: usize) -> bool {
     let spot = Spot {
-        bytes: piece.as_slice(),
-        start: piece.offset_from_start() as i128,
+        bytes: slice.as_slice(),
+        start: slice.offset_from_start() as i128,
         from: 0,
         at: f as i128,
     };
-    T::agrees(T::from_buffer(piece, f), spot)
+    T::agrees(T::from_buffer(slice, f), spot)
 }
 
-pub fn lists_agree(piece: SliceWithStartOffset<'_>, f: usize) -> bool {
-    field_agrees::<&str>(piece, f)
-        && field_agrees::<&[u8]>(piece, f)
-        && field_agrees::<SignedBytes<'_>>(piece, f)
-        && field_agrees::<Vector<'_, u16>>(piece, f)
-        && field_agrees::<Vector<'_, Result<&str, Error>>>(piece, f)
+pub fn lists_agree(slice: SliceWithStartOffset<'_>, f: usize) -> bool {
+    field_agrees::<&str>(slice, f)
+        && field_agrees::<&[u8]>(slice, f)
+        && field_agrees::<SignedBytes<'_>>(slice, f)
+        && field_agrees::<Vector<'_, u16>>(slice, f)
+        && field_agrees::<Vector<'_, Result<&str, Error>>>(slice, f)
 }

@@ -3,7 +3,7 @@ use super::runs::{
     Named, add, add_field, add_finish, are_same, bytes, counts, list, refs, table, text,
     two_references, unions,
 };
-use super::settings::Switches;
+use super::settings::CacheSettings;
 use crate::tests::check;
 use planus::{Caches, Field, FieldValue, Finished, ReplayError, Step, Why, replay};
 use std::alloc::{AllocError, Global};
@@ -114,10 +114,10 @@ fn gives(alloc: Global, caches: Caches, steps: &[Step], want: &[Finished]) -> bo
 }
 
 fn replays_agree(alloc: Global, steps: &[Step]) -> Result<bool, Fail> {
-    let switches = Switches::of(7);
-    let want = plain_run(alloc, switches, steps)?;
+    let settings = CacheSettings::of(7);
+    let want = plain_run(alloc, settings, steps)?;
     for mask in [0, 1, 2, 0xff, 1 << 63, u64::MAX] {
-        if !gives(alloc, switches.caches(mask), steps, want.as_slice()) {
+        if !gives(alloc, settings.caches(mask), steps, want.as_slice()) {
             return Ok(false);
         }
     }

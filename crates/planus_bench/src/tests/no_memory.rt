@@ -1,7 +1,7 @@
 use super::caches::text_at;
 use super::parts::{FOUR_WRITES, last_is, puts_four};
 use super::runs::{add, add_finish, word};
-use super::settings::Switches;
+use super::settings::CacheSettings;
 use crate::tests::check;
 use planus::{BuildError, Builder, Caches, Offset, ReplayError, Step, Text, replay};
 use planus_back::{ByteVec, Cache};
@@ -70,7 +70,7 @@ fn builder_goes_on(alloc: Global, caches: Caches) -> Result<Option<bool>, AllocE
 
 #[test]
 fn a_builder_with_refused_memory(rt: HostRuntime) -> Result<(), Fail> {
-    let goes_on = builder_goes_on(rt.alloc(), Switches::of(0).caches(0))?;
+    let goes_on = builder_goes_on(rt.alloc(), CacheSettings::of(0).caches(0))?;
     check(&rt, holds_or_says(&rt, goes_on)?, "a builder");
     Ok(())
 }

@@ -1,6 +1,6 @@
 //! A plain, slow run of steps, which finds padding by trying.
 
-use super::settings::{Kind, Switches};
+use super::settings::{CacheSettings, Kind};
 use planus::{Field, FieldValue, Finished, Step, StepPlace};
 use std::alloc::{AllocError, Global};
 use std::test::Fail;
@@ -20,7 +20,7 @@ struct Written {
     parts: Vec<(usize, usize)>,
     values: Vec<StepPlace>,
     shared: Vec<Shared>,
-    switches: Switches,
+    settings: CacheSettings,
     alloc: Global,
 }
 
@@ -83,13 +83,13 @@ fn push_vtable(bytes: &mut Vec<u8>, fields: &[Field]) -> Result<(), AllocError> 
 }
 
 impl Written {
-    fn nothing(alloc: Global, switches: Switches) -> Written {
+    fn nothing(alloc: Global, settings: CacheSettings) -> Written {
         Written {
             reversed: Vec::new(alloc),
             parts: Vec::new(alloc),
             values: Vec::new(alloc),
             shared: Vec::new(alloc),
-            switches,
+            settings,
             alloc,
         }
     }
@@ -171,7 +171,7 @@ impl Written {
     }
 
     fn share(&mut self, kind: Kind, contents: &[u8]) -> Result<(), AllocError> {
-        if self.switches.is_on(kind) {
+        if self.settings.is_on(kind) {
             self.shared.push(Shared {
                 kind,
                 contents: Vec::from_slice(self.alloc, contents)?,
@@ -413,19 +413,23 @@ impl Written {
 
 fn take_steps(
     alloc: Global,
-    switches: Switches,
+    settings: CacheSettings,
     steps: &[Step],
     finished: &mut Vec<Finished>,
 ) -> Result<(), Fail> {
-    let mut written = Written::nothing(alloc, switches);
+    let mut written = Written::nothing(alloc, settings);
     for number in 0..steps.len() {
         written.step(number, &steps[number], finished)?;
     }
     Ok(())
 }
 
-pub fn plain_run(alloc: Global, switches: Switches, steps: &[Step]) -> Result<Vec<Finished>, Fail> {
+pub fn plain_run(
+    alloc: Global,
+    settings: CacheSettings,
+    steps: &[Step],
+) -> Result<Vec<Finished>, Fail> {
     let mut finished = Vec::new(alloc);
-    take_steps(alloc, switches, steps, &mut finished)?;
+    take_steps(alloc, settings, steps, &mut finished)?;
     Ok(finished)
 }

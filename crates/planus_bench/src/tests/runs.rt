@@ -2,7 +2,7 @@
 
 use super::plain_run::plain_run;
 use super::read_back::reads_back;
-use super::settings::Switches;
+use super::settings::CacheSettings;
 use super::unions::two_texts;
 use crate::tests::check;
 use planus::{Caches, Field, FieldValue, Finished, Step, replay};
@@ -343,12 +343,12 @@ fn gives(alloc: Global, caches: Caches, steps: &[Step], want: &[Finished]) -> Re
 fn replays_agree_in(
     rt: &impl Abort,
     alloc: Global,
-    switches: Switches,
+    settings: CacheSettings,
     steps: &[Step],
 ) -> Result<(), Fail> {
-    let want = plain_run(alloc, switches, steps)?;
+    let want = plain_run(alloc, settings, steps)?;
     for mask in [0, 1, 2, 0xff, 1 << 63, u64::MAX] {
-        let caches = switches.caches(mask);
+        let caches = settings.caches(mask);
         let agrees = gives(alloc, caches, steps, want.as_slice())?;
         assert!(rt; agrees, "{} steps, {caches:?}", steps.len());
     }
@@ -357,7 +357,7 @@ fn replays_agree_in(
 
 fn replays_agree(rt: &impl Abort, alloc: Global, steps: &[Step]) -> Result<(), Fail> {
     for number in 0..8 {
-        replays_agree_in(rt, alloc, Switches::of(number), steps)?;
+        replays_agree_in(rt, alloc, CacheSettings::of(number), steps)?;
     }
     Ok(())
 }

@@ -8,15 +8,15 @@ pub enum Kind {
 }
 
 #[derive(Clone, Copy, Debug)]
-pub struct Switches {
+pub struct CacheSettings {
     vtables: bool,
     texts: bool,
     bytes: bool,
 }
 
-impl Switches {
-    pub fn of(number: u8) -> Switches {
-        Switches {
+impl CacheSettings {
+    pub fn of(number: u8) -> CacheSettings {
+        CacheSettings {
             vtables: number & 1 != 0,
             texts: number & 2 != 0,
             bytes: number & 4 != 0,

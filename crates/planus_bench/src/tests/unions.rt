@@ -1,6 +1,6 @@
 use super::plain_run::plain_run;
 use super::runs::{add, add_field, add_finish, word};
-use super::settings::Switches;
+use super::settings::CacheSettings;
 use crate::tests::check;
 use planus::{Caches, FieldValue, Finished, Step, StepPlace, replay};
 use std::alloc::{AllocError, Global};
@@ -62,7 +62,7 @@ fn replays_to_two_texts(alloc: Global, steps: &[Step]) -> bool {
 }
 
 fn runs_plainly_to_two_texts(alloc: Global, steps: &[Step]) -> Result<bool, Fail> {
-    let run = plain_run(alloc, Switches::of(7), steps)?;
+    let run = plain_run(alloc, CacheSettings::of(7), steps)?;
     Ok(is_two_texts(run.as_slice()))
 }
 

@@ -8,7 +8,7 @@ use crate::weapon::{Weapon, WeaponRef};
 use planus::errors::ErrorKind;
 use planus::{
     BuildError, Builder, Caches, DefaultValue, Error, Offset, OrDefault, ReadAsRoot,
-    ReadPieceAsRoot, Required, SliceWithStartOffset, TableRead, TableRef, TableWriter, Text,
+    ReadSliceAsRoot, Required, SliceWithStartOffset, TableRead, TableRef, TableWriter, Text,
     Vector, read_size_prefixed, variant,
 };
 use std::alloc::Global;
@@ -154,7 +154,7 @@ const NO_ROOT: &[u8] = b"\x03\0\0\0\0\0\0";
 
 fn sized_weapon(bytes: &[u8]) -> Option<planus::Result<TableRef<'_, Weapon>>> {
     match read_size_prefixed(bytes) {
-        Ok((piece, _rest)) => Some(ReadPieceAsRoot::read_piece_as_root(piece)),
+        Ok((slice, _rest)) => Some(ReadSliceAsRoot::read_slice_as_root(slice)),
         Err(_) => None,
     }
 }

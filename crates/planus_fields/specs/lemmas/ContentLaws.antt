@@ -5,10 +5,10 @@ use Rattle.std.specs.Bool.{Decides}
 use Rattle.std.proofs.Common.{refl, subst, sym}
 use Rattle.planus_read.specs.Values.{Field}
 use Rattle.planus_fields.specs.Fields.{MayIf, PreparesIf, LeftOutWhere}
-use Rattle.planus_write.specs.Past.{Past}
+use Rattle.planus_write.specs.History.{History}
 use Rattle.planus_write.specs.Placing.{Outcome}
 use Rattle.planus_write.specs.Preparing.{Answers}
-use Rattle.planus_write.specs.State.{State, IsPast}
+use Rattle.planus_write.specs.State.{State, IsHistoryOf}
 use Rattle.planus_write.specs.Contents.{Content, Comes, PreparesContent}
 use Rattle.planus_fields.specs.Contents.{HoldsIf, unless, holds_if, PreparesOptional, is_empty}
 use Rattle.planus_write.specs.lemmas.ContentLaws.{stays_there}
@@ -21,33 +21,33 @@ pub left_out_prepared : {X A : Type 0} {may : X → State → Type 0} {outcome :
 left_out_prepared {X} {A} {may} {outcome} {content} {field} is_default Default decides lawful =
     record { comes = comes }
   where
-    holds : (x : X) (prepared : Option A) (new : State) (past : Past) (b : Bool) → is_default x ≡ b
-        → Comes past new (λ after. HoldsIf after (unless b (Some (content x))) field prepared)
-        → Comes past new
+    holds : (x : X) (prepared : Option A) (new : State) (history : History) (b : Bool) → is_default x ≡ b
+        → Comes history new (λ after. HoldsIf after (unless b (Some (content x))) field prepared)
+        → Comes history new
         (λ after. HoldsIf after (unless (is_default x) (Some (content x))) field prepared)
-    holds x prepared new past b is there =
-        subst (λ (b : Bool). Comes past new
+    holds x prepared new history b is there =
+        subst (λ (b : Bool). Comes history new
         (λ after. HoldsIf after (unless b (Some (content x))) field prepared))
         (sym is) there
 
-    written : (x : X) (old : State) (found : A) (new : State) (past : Past) (b : Bool) → may x old
-        → is_default x ≡ b → (Default x → ⊥) → outcome x old (Ok found) new → IsPast old past
-        → Comes past new
+    written : (x : X) (old : State) (found : A) (new : State) (history : History) (b : Bool) → may x old
+        → is_default x ≡ b → (Default x → ⊥) → outcome x old (Ok found) new → IsHistoryOf old history
+        → Comes history new
         (λ after. HoldsIf after (unless (is_default x) (Some (content x))) field (Some found))
-    written x old found new past false may is other done is_past =
-        holds x (Some found) new past false is (lawful.comes x old found new past may done is_past)
-    written x old found new past true may is other done is_past =
+    written x old found new history false may is other done is_history =
+        holds x (Some found) new history false is (lawful.comes x old found new history may done is_history)
+    written x old found new history true may is other done is_history =
         absurd (other ((decides x).0 is))
 
-    comes : (x : X) (old : State) (prepared : Option A) (new : State) (past : Past) → may x old
-        → LeftOutWhere (Default x) (outcome x) old (Ok prepared) new → IsPast old past
-        → Comes past new
+    comes : (x : X) (old : State) (prepared : Option A) (new : State) (history : History) → may x old
+        → LeftOutWhere (Default x) (outcome x) old (Ok prepared) new → IsHistoryOf old history
+        → Comes history new
         (λ after. HoldsIf after (unless (is_default x) (Some (content x))) field prepared)
-    comes x old None new past may done is_past =
-        holds x None new past true ((decides x).1 done.0)
-        (stays_there past old new (λ after. ⊤) done.1 is_past tt)
-    comes x old (Some found) new past may done is_past =
-        written x old found new past (is_default x) may refl done.0 done.1 is_past
+    comes x old None new history may done is_history =
+        holds x None new history true ((decides x).1 done.0)
+        (stays_there history old new (λ after. ⊤) done.1 is_history tt)
+    comes x old (Some found) new history may done is_history =
+        written x old found new history (is_default x) may refl done.0 done.1 is_history
 
 pub always_prepared : {X A : Type 0} {may : X → State → Type 0} {outcome : X → Outcome A}
     {content : X → Content} {field : A → Field} → PreparesContent may outcome content field
@@ -60,11 +60,11 @@ pub never_prepared : {X A : Type 0} {may : X → State → Type 0} {field : A �
     → PreparesOptional {X = X} may (λ x old answer new. Answers None old answer new) (λ x. None)
     field
 never_prepared {X} {A} {may} {field} = record {
-  comes = λ x old prepared new past may done is_past.
+  comes = λ x old prepared new history may done is_history.
       (let same : None ≡ prepared = cc in
-      subst (λ (prepared : Option A). Comes past new (λ after. HoldsIf after None field prepared))
+      subst (λ (prepared : Option A). Comes history new (λ after. HoldsIf after None field prepared))
       same
-      (stays_there past old new (λ after. ⊤) done.1 is_past tt));
+      (stays_there history old new (λ after. ⊤) done.1 is_history tt));
 }
 
 pub optional_prepared : {X A : Type 0} {may : X → State → Type 0} {outcome : X → Outcome (Option A)}
@@ -74,14 +74,14 @@ pub optional_prepared : {X A : Type 0} {may : X → State → Type 0} {outcome :
     (λ x. holds_if content x) field
 optional_prepared {X} {A} {may} {outcome} {content} {field} lawful = record { comes = prepared }
   where
-    prepared : (x : Option X) (old : State) (prepared : Option A) (new : State) (past : Past)
-        → MayIf may x old → PreparesIf outcome x old (Ok prepared) new → IsPast old past
-        → Comes past new (λ after. HoldsIf after (holds_if content x) field prepared)
-    prepared None old None new past may done is_past =
-        stays_there past old new (λ after. ⊤) done.1 is_past tt
-    prepared None old (Some found) new past may done is_past = cc
-    prepared (Some x) old found new past may done is_past =
-        lawful.comes x old found new past may done is_past
+    prepared : (x : Option X) (old : State) (prepared : Option A) (new : State) (history : History)
+        → MayIf may x old → PreparesIf outcome x old (Ok prepared) new → IsHistoryOf old history
+        → Comes history new (λ after. HoldsIf after (holds_if content x) field prepared)
+    prepared None old None new history may done is_history =
+        stays_there history old new (λ after. ⊤) done.1 is_history tt
+    prepared None old (Some found) new history may done is_history = cc
+    prepared (Some x) old found new history may done is_history =
+        lawful.comes x old found new history may done is_history
 
 pub prepared_as : {X Y A : Type 0} {may : X → State → Type 0} {outcome : X → Outcome (Option A)}
     {content : X → Option Content} {field : A → Field} (of : Y → X)

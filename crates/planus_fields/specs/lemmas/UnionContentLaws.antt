@@ -3,10 +3,10 @@ use Rattle.std.specs.Prelude.{◌≡◌, ℕ, List, [], ◌∷◌, map, Option, 
 use Rattle.std.proofs.Common.{refl, subst, ap}
 use Rattle.planus_read.specs.Values.{tags, values as values_field}
 use Rattle.planus_fields.specs.Fields.{MayIf, PreparesIf, LeftOutWhere}
-use Rattle.planus_write.specs.Past.{Past}
+use Rattle.planus_write.specs.History.{History}
 use Rattle.planus_write.specs.Placing.{Outcome}
 use Rattle.planus_write.specs.Preparing.{AllMay, Answers, IsLawful}
-use Rattle.planus_write.specs.State.{State, IsPast}
+use Rattle.planus_write.specs.State.{State, IsHistoryOf}
 use Rattle.planus_write.specs.Unions.{union_reach, WritesUnionVector}
 use Rattle.planus_write.specs.declared.union_offset.UnionOffset.{UnionOffset}
 use Rattle.planus_write.specs.declared.union_vector_offset.UnionVectorOffset.{UnionVectorOffset}
@@ -28,15 +28,15 @@ module _ {X T : Type 0} {may : X → State → Type 0} {outcome : X → Outcome 
   unions_prepared {Y} items = record { comes = comes }
     where
       comes : (y : Y) (old : State) (prepared : Option (UnionVectorOffset T)) (new : State)
-          (past : Past)
+          (history : History)
           → AllMay may (items y) old
           → LeftOutWhere ⊥ (WritesUnionVector outcome (items y)) old (Ok prepared) new
-          → IsPast old past
-          → Comes past new
+          → IsHistoryOf old history
+          → Comes history new
           (λ after. UnionVectorHolds after (Some (unions_hold (map content (items y)))) prepared)
-      comes y old None new past mays done is_past = elim done.0 [ ]
-      comes y old (Some vector) new past mays done is_past =
-          vector_comes lawful content prepares (items y) old vector new past mays done.1 is_past
+      comes y old None new history mays done is_history = elim done.0 [ ]
+      comes y old (Some vector) new history mays done is_history =
+          vector_comes lawful content prepares (items y) old vector new history mays done.1 is_history
 
   pub unions_or_none_prepared : {Y : Type 0} (items : Y → List X)
       → PreparesUnionVector (λ y old. AllMay may (items y) old)
@@ -44,22 +44,22 @@ module _ {X T : Type 0} {may : X → State → Type 0} {outcome : X → Outcome 
       answer new)
       (λ y. any_unions_hold (map content (items y)))
   unions_or_none_prepared {Y} items = record {
-    comes = λ y old prepared new past mays done is_past.
-        comes (items y) old prepared new past mays done is_past;
+    comes = λ y old prepared new history mays done is_history.
+        comes (items y) old prepared new history mays done is_history;
   }
     where
       comes : (xs : List X) (old : State) (prepared : Option (UnionVectorOffset T)) (new : State)
-          (past : Past) → AllMay may xs old
+          (history : History) → AllMay may xs old
           → LeftOutWhere (xs ≡ []) (WritesUnionVector outcome xs) old (Ok prepared) new
-          → IsPast old past
-          → Comes past new
+          → IsHistoryOf old history
+          → Comes history new
           (λ after. UnionVectorHolds after (any_unions_hold (map content xs)) prepared)
-      comes [] old None new past mays done is_past =
-          stays_there past old new (λ after. ⊤) done.1 is_past tt
-      comes [] old (Some vector) new past mays done is_past = absurd (done.0 refl)
-      comes (x ∷ xs) old None new past mays done is_past = cc
-      comes (x ∷ xs) old (Some vector) new past mays done is_past =
-          vector_comes lawful content prepares (x ∷ xs) old vector new past mays done.1 is_past
+      comes [] old None new history mays done is_history =
+          stays_there history old new (λ after. ⊤) done.1 is_history tt
+      comes [] old (Some vector) new history mays done is_history = absurd (done.0 refl)
+      comes (x ∷ xs) old None new history mays done is_history = cc
+      comes (x ∷ xs) old (Some vector) new history mays done is_history =
+          vector_comes lawful content prepares (x ∷ xs) old vector new history mays done.1 is_history
 
 pub optional_union_vector_prepared : {X T : Type 0} {may : X → State → Type 0}
     {outcome : X → Outcome (Option (UnionVectorOffset T))}
@@ -72,14 +72,14 @@ optional_union_vector_prepared {X} {T} {may} {outcome} {contents} lawful =
     record { comes = prepared }
   where
     prepared : (x : Option X) (old : State) (prepared : Option (UnionVectorOffset T)) (new : State)
-        (past : Past)
-        → MayIf may x old → PreparesIf outcome x old (Ok prepared) new → IsPast old past
-        → Comes past new (λ after. UnionVectorHolds after (union_vector_if contents x) prepared)
-    prepared None old None new past may done is_past =
-        stays_there past old new (λ after. ⊤) done.1 is_past tt
-    prepared None old (Some found) new past may done is_past = cc
-    prepared (Some x) old found new past may done is_past =
-        lawful.comes x old found new past may done is_past
+        (history : History)
+        → MayIf may x old → PreparesIf outcome x old (Ok prepared) new → IsHistoryOf old history
+        → Comes history new (λ after. UnionVectorHolds after (union_vector_if contents x) prepared)
+    prepared None old None new history may done is_history =
+        stays_there history old new (λ after. ⊤) done.1 is_history tt
+    prepared None old (Some found) new history may done is_history = cc
+    prepared (Some x) old found new history may done is_history =
+        lawful.comes x old found new history may done is_history
 
 pub union_vector_offset_prepared : {T : Type 0} {may : UnionVectorOffset T → State → Type 0}
     → PreparesUnionVector may
@@ -89,19 +89,19 @@ union_vector_offset_prepared {T} {may} = record { comes = comes }
   where
     comes : (vector : UnionVectorOffset T) (old : State) (prepared : Option (UnionVectorOffset T))
         (new : State)
-        (past : Past) → may vector old → LeftOutWhere ⊥ (Answers vector) old (Ok prepared) new
-        → IsPast old past
-        → Comes past new
+        (history : History) → may vector old → LeftOutWhere ⊥ (Answers vector) old (Ok prepared) new
+        → IsHistoryOf old history
+        → Comes history new
         (λ after.
         UnionVectorHolds after
         (Some (written_tags vector.tags.distance, written_values vector.values.distance)) prepared)
-    comes vector old None new past may done is_past = elim done.0 [ ]
-    comes vector old (Some found) new past may done is_past =
+    comes vector old None new history may done is_history = elim done.0 [ ]
+    comes vector old (Some found) new history may done is_history =
         let same : found ≡ vector = cc in
-        stays_there past old new
+        stays_there history old new
         (λ after. (tags found.tags.distance ≡ tags vector.tags.distance)
         × (values_field found.values.distance ≡ values_field vector.values.distance))
-        done.1.1 is_past (
+        done.1.1 is_history (
           ap (λ (vector : UnionVectorOffset T). tags vector.tags.distance) same,
           ap (λ (vector : UnionVectorOffset T). values_field vector.values.distance) same,
         )
@@ -113,12 +113,12 @@ pub always_union_prepared : {X T : Type 0} {may : X → State → Type 0}
     (λ x. Some (content x))
 always_union_prepared {X} {T} {may} {outcome} {content} lawful = record { comes = comes }
   where
-    comes : (x : X) (old : State) (prepared : Option (UnionOffset T)) (new : State) (past : Past)
-        → may x old → LeftOutWhere ⊥ (outcome x) old (Ok prepared) new → IsPast old past
-        → Comes past new (λ after. UnionHolds after (Some (content x)) prepared)
-    comes x old None new past may done is_past = elim done.0 [ ]
-    comes x old (Some union) new past may done is_past =
-        lawful.comes x old union new past may done.1 is_past
+    comes : (x : X) (old : State) (prepared : Option (UnionOffset T)) (new : State) (history : History)
+        → may x old → LeftOutWhere ⊥ (outcome x) old (Ok prepared) new → IsHistoryOf old history
+        → Comes history new (λ after. UnionHolds after (Some (content x)) prepared)
+    comes x old None new history may done is_history = elim done.0 [ ]
+    comes x old (Some union) new history may done is_history =
+        lawful.comes x old union new history may done.1 is_history
 
 pub optional_union_prepared : {X T : Type 0} {may : X → State → Type 0}
     {outcome : X → Outcome (Option (UnionOffset T))} {content : X → Option (ℕ × Content)}
@@ -129,24 +129,24 @@ pub optional_union_prepared : {X T : Type 0} {may : X → State → Type 0}
 optional_union_prepared {X} {T} {may} {outcome} {content} lawful = record { comes = prepared }
   where
     prepared : (x : Option X) (old : State) (prepared : Option (UnionOffset T)) (new : State)
-        (past : Past)
-        → MayIf may x old → PreparesIf outcome x old (Ok prepared) new → IsPast old past
-        → Comes past new (λ after. UnionHolds after (union_if content x) prepared)
-    prepared None old None new past may done is_past =
-        stays_there past old new (λ after. ⊤) done.1 is_past tt
-    prepared None old (Some found) new past may done is_past = cc
-    prepared (Some x) old found new past may done is_past =
-        lawful.comes x old found new past may done is_past
+        (history : History)
+        → MayIf may x old → PreparesIf outcome x old (Ok prepared) new → IsHistoryOf old history
+        → Comes history new (λ after. UnionHolds after (union_if content x) prepared)
+    prepared None old None new history may done is_history =
+        stays_there history old new (λ after. ⊤) done.1 is_history tt
+    prepared None old (Some found) new history may done is_history = cc
+    prepared (Some x) old found new history may done is_history =
+        lawful.comes x old found new history may done is_history
 
 pub never_union_prepared : {X T : Type 0} {may : X → State → Type 0}
     → PreparesUnion {X = X} {T = T} may (λ x old answer new. Answers None old answer new)
     (λ x. None)
 never_union_prepared {X} {T} {may} = record {
-  comes = λ x old prepared new past may done is_past.
+  comes = λ x old prepared new history may done is_history.
       (let same : None ≡ prepared = cc in
-      subst (λ (prepared : Option (UnionOffset T)). Comes past new
+      subst (λ (prepared : Option (UnionOffset T)). Comes history new
       (λ after. UnionHolds after None prepared)) same
-      (stays_there past old new (λ after. ⊤) done.1 is_past tt));
+      (stays_there history old new (λ after. ⊤) done.1 is_history tt));
 }
 
 pub union_prepared_as : {X Y T : Type 0} {may : X → State → Type 0}
@@ -161,11 +161,11 @@ pub never_union_vector_prepared : {X T : Type 0} {may : X → State → Type 0}
     → PreparesUnionVector {X = X} {T = T} may (λ x old answer new. Answers None old answer new)
     (λ x. None)
 never_union_vector_prepared {X} {T} {may} = record {
-  comes = λ x old prepared new past may done is_past.
+  comes = λ x old prepared new history may done is_history.
       (let same : None ≡ prepared = cc in
-      subst (λ (prepared : Option (UnionVectorOffset T)). Comes past new
+      subst (λ (prepared : Option (UnionVectorOffset T)). Comes history new
       (λ after. UnionVectorHolds after None prepared)) same
-      (stays_there past old new (λ after. ⊤) done.1 is_past tt));
+      (stays_there history old new (λ after. ⊤) done.1 is_history tt));
 }
 
 pub union_vector_prepared_as : {X Y T : Type 0} {may : X → State → Type 0}

@@ -29,7 +29,7 @@ impl<T> WriteAs<Offset<T>> for Offset<T> {
     ghost is_lawful = { offset_is_lawful };
 
     ghost has_content = { ready_prepared (λ offset. written offset.distance)
-        (λ offset. reference offset.distance) (λ offset past. refl) };
+        (λ offset. reference offset.distance) (λ offset history. refl) };
 }
 
 impl<T> WriteAsOptional<Offset<T>> for Offset<T> {
@@ -49,7 +49,7 @@ impl<T> WriteAsOptional<Offset<T>> for Offset<T> {
     ghost is_lawful = { left_out_is_lawful (λ offset. ⊥) (offset_is_lawful) };
 
     ghost has_content = { always_prepared (ready_prepared (λ offset. written offset.distance)
-        (λ offset. reference offset.distance) (λ offset past. refl)) };
+        (λ offset. reference offset.distance) (λ offset history. refl)) };
 }
 
 impl<T, D> WriteAsDefault<Offset<T>, D> for Offset<T> {
@@ -74,5 +74,5 @@ impl<T, D> WriteAsDefault<Offset<T>, D> for Offset<T> {
     ghost is_lawful = { λ default. left_out_is_lawful (λ offset. ⊥) (offset_is_lawful) };
 
     ghost has_content = { λ default. always_prepared (ready_prepared (λ offset. written offset.distance)
-        (λ offset. reference offset.distance) (λ offset past. refl)) };
+        (λ offset. reference offset.distance) (λ offset history. refl)) };
 }

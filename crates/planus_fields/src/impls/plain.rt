@@ -33,7 +33,7 @@ impl<P: PlainField> WriteAs<P> for P {
     ghost has_content = { ready_prepared
         (λ x. item (record { bytes = (P.shape).encoded x; alignment = P.ALIGNMENT }))
         (λ x. plain (record { bytes = (P.shape).encoded x; alignment = P.ALIGNMENT }))
-        (λ x past. refl) };
+        (λ x history. refl) };
 }
 
 impl<P: PlainField> WriteAsOptional<P> for P {
@@ -55,7 +55,7 @@ impl<P: PlainField> WriteAsOptional<P> for P {
     ghost has_content = { always_prepared (ready_prepared
         (λ x. item (record { bytes = (P.shape).encoded x; alignment = P.ALIGNMENT }))
         (λ x. plain (record { bytes = (P.shape).encoded x; alignment = P.ALIGNMENT }))
-        (λ x past. refl)) };
+        (λ x history. refl)) };
 }
 
 impl<P: PlainField + PartialEq> WriteAsDefault<P, P> for P {
@@ -84,7 +84,7 @@ impl<P: PlainField + PartialEq> WriteAsDefault<P, P> for P {
         (ready_prepared
         (λ x. item (record { bytes = (P.shape).encoded x; alignment = P.ALIGNMENT }))
         (λ x. plain (record { bytes = (P.shape).encoded x; alignment = P.ALIGNMENT }))
-        (λ x past. refl)) };
+        (λ x history. refl)) };
 }
 
 impl PlainField for u8 {}

@@ -2,7 +2,7 @@
 
 ghost use Rattle.std.specs.Prelude.{◌≡◌};
 ghost use Rattle.planus_read.specs.Clauses.{Answer, shown};
-ghost use Rattle.planus_read.specs.Pieces.{ShowsBytes};
+ghost use Rattle.planus_read.specs.Slices.{ShowsBytes};
 ghost use Rattle.planus_read.specs.Reading.{byte_list_reading};
 
 use crate::errors::ErrorKind;

@@ -3,7 +3,7 @@
 ghost use Rattle.std.specs.Prelude.{◌≡◌, IfOk, IfErr};
 ghost use Rattle.planus_read.specs.Located.{Located};
 ghost use Rattle.planus_read.specs.Clauses.{Answer, shown, FirstBroken};
-ghost use Rattle.planus_read.specs.Pieces.{ShowsBytes};
+ghost use Rattle.planus_read.specs.Slices.{ShowsBytes};
 ghost use Rattle.planus_read.specs.Reading.{text_reading};
 ghost use Rattle.planus_read.specs.Heads.{IsTextOf, text_of_clauses};
 

@@ -1,7 +1,7 @@
 mod errors;
 mod no_memory;
-mod pieces;
 mod size_prefixed;
+mod slices;
 mod tables;
 mod traits;
 mod views;

@@ -1,8 +1,8 @@
 use Rattle.std.specs.Prelude.{◌≡◌, ℕ, List, [], Bool, true, false, length}
 use Rattle.planus_back.specs.Parts.{Part}
 use Rattle.planus_write.specs.inner.Backed.{Backed, MakesRoom, PutsBytes}
-use Rattle.planus_write.specs.Past.{unshared_entry}
-use Rattle.planus_write.specs.Placing.{PutsDown}
+use Rattle.planus_write.specs.History.{unshared_entry}
+use Rattle.planus_write.specs.Placing.{PlacesEntry}
 use Rattle.planus_write.specs.State.{State}
 use Rattle.planus_write.specs.Tables.{vtable_part, vtable_entry, word_part}
 
@@ -29,12 +29,12 @@ PutsPartsIf false vtable body old new = new ≡ old
 pub record PutsTable (vtable : List ℕ) (body : Part) (old new : State) : Type 0 where
   pub vtable_at : ℕ
   pub first : State
-  pub vtable_put : PutsDown (vtable_entry vtable) [] old vtable_at first
+  pub vtable_put : PlacesEntry (vtable_entry vtable) [] old vtable_at first
   pub body_at : ℕ
   pub second : State
-  pub body_put : PutsDown (unshared_entry body) [] first body_at second
+  pub body_put : PlacesEntry (unshared_entry body) [] first body_at second
   pub table_at : ℕ
-  pub word_put : PutsDown (unshared_entry (word_part vtable_at)) [] second table_at new
+  pub word_put : PlacesEntry (unshared_entry (word_part vtable_at)) [] second table_at new
   pub last : table_at ≡ length new.bytes
 
 abbrev pub PutsTableIf : Bool → List ℕ → Part → State → State → Type 0

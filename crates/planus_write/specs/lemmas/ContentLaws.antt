@@ -5,10 +5,10 @@ use Rattle.planus_read.specs.Values.{Value, Field, reference, text, byte_list, u
 use Rattle.planus_write.specs.Kept.{IsKept}
 use Rattle.planus_write.specs.lemmas.Laws.{extends_itself}
 use Rattle.planus_write.specs.Parts.{IsWritten, entries_of, last_of, Named, named_by}
-use Rattle.planus_write.specs.Past.{Past}
+use Rattle.planus_write.specs.History.{History}
 use Rattle.planus_write.specs.Placing.{Outcome}
 use Rattle.planus_write.specs.Preparing.{Answers, WritesEntries, WritesByteList, WritesText}
-use Rattle.planus_write.specs.State.{State, IsPast, Extends}
+use Rattle.planus_write.specs.State.{State, IsHistoryOf, Extends}
 use Rattle.planus_write.specs.declared.offset.Offset.{Offset}
 use Rattle.planus_write.specs.lemmas.PutEntries.{entries_put}
 use Rattle.planus_write.specs.lemmas.StandingLaws.{values_are_kept}
@@ -18,7 +18,7 @@ use Rattle.planus_write.specs.Contents.{union_values, written_tags, written_valu
 use Rattle.planus_write.specs.Contents.{named_at_both, AllKept, Unions, no_unions, union_and}
 use Rattle.planus_write.specs.Contents.{UnionsAre, FieldIs, Comes, PreparesContent}
 
-pub all_stay : (before after : Past) (contents : List Value) (distances : List ℕ)
+pub all_stay : (before after : History) (contents : List Value) (distances : List ℕ)
     → Extends before after → AllKept before contents distances → AllKept after contents distances
 all_stay before after [] [] extends kept = tt
 all_stay before after (content ∷ contents) (distance ∷ distances) extends kept = (
@@ -29,7 +29,7 @@ all_stay before after [] (distance ∷ distances) extends kept = kept
 all_stay before after (content ∷ contents) [] extends kept = kept
 
 mutual
-  pub field_stays : (before after : Past) (content : Content) (field : Field) → Extends before after
+  pub field_stays : (before after : History) (content : Content) (field : Field) → Extends before after
       → FieldIs before content field → FieldIs after content field
   field_stays before after (item content) field extends is = is
   field_stays before after (value content) field extends is =
@@ -67,7 +67,7 @@ mutual
   field_stays before after (written_tags distance) field extends is = is
   field_stays before after (written_values distance) field extends is = is
 
-  pub unions_stay : (before after : Past) (contents : Unions) (unions : List (ℕ × ℕ))
+  pub unions_stay : (before after : History) (contents : Unions) (unions : List (ℕ × ℕ))
       → Extends before after → UnionsAre before contents unions → UnionsAre after contents unions
   unions_stay before after no_unions [] extends are = tt
   unions_stay before after (union_and tag content others) (union ∷ unions) extends are = (
@@ -78,19 +78,19 @@ mutual
   unions_stay before after no_unions (union ∷ unions) extends are = are
   unions_stay before after (union_and tag content others) [] extends are = are
 
-pub stays_there : (past : Past) (old new : State) (Holds : Past → Type 0) → new ≡ old
-    → IsPast old past → Holds past → Comes past new Holds
-stays_there past old new Holds same is_past holds =
-    (past, subst (λ state. IsPast state past) (sym same) is_past, extends_itself past, holds)
+pub stays_there : (history : History) (old new : State) (Holds : History → Type 0) → new ≡ old
+    → IsHistoryOf old history → Holds history → Comes history new Holds
+stays_there history old new Holds same is_history holds =
+    (history, subst (λ state. IsHistoryOf state history) (sym same) is_history, extends_itself history, holds)
 
 pub ready_prepared : {A : Type 0} {may : A → State → Type 0} (content : A → Content)
-    (field : A → Field) → ((a : A) (past : Past) → FieldIs past (content a) (field a))
+    (field : A → Field) → ((a : A) (history : History) → FieldIs history (content a) (field a))
     → PreparesContent may Answers content field
 ready_prepared {A} {may} content field is = record {
-  comes = λ a old prepared new past may done is_past.
+  comes = λ a old prepared new history may done is_history.
       (let same : a ≡ prepared = cc in
-      stays_there past old new (λ after. FieldIs after (content a) (field prepared)) done.1 is_past
-      (subst (λ (b : A). FieldIs past (content a) (field b)) same (is a past)));
+      stays_there history old new (λ after. FieldIs after (content a) (field prepared)) done.1 is_history
+      (subst (λ (b : A). FieldIs history (content a) (field b)) same (is a history)));
 }
 
 pub content_prepared_as : {X Y A : Type 0} {may : X → State → Type 0} {outcome : X → Outcome A}
@@ -100,14 +100,14 @@ pub content_prepared_as : {X Y A : Type 0} {may : X → State → Type 0} {outco
     (λ y. content (of y)) field
 content_prepared_as of lawful = record { comes = λ y. lawful.comes (of y) }
 
-pub value_added : (content : Value) (old : State) (got : List ℕ) (new : State) (past : Past)
-    → WritesEntries (entries_of content) [] old (Ok got) new → IsPast old past
-    → IsWritten (length past.written.bytes) content
+pub value_added : (content : Value) (old : State) (got : List ℕ) (new : State) (history : History)
+    → WritesEntries (entries_of content) [] old (Ok got) new → IsHistoryOf old history
+    → IsWritten (length history.written.bytes) content
     → named_by content got ≡ record { distance = last_of got; tags = None }
-    → Comes past new (λ after. IsKept after content (named_at (last_of got)))
-value_added content old got new past writes is_past is_written named =
-    let placed = entries_put (entries_of content) [] old got new past writes is_past in
-    let kept = values_are_kept old.switches content past got placed.0 is_written is_past.kept
+    → Comes history new (λ after. IsKept after content (named_at (last_of got)))
+value_added content old got new history writes is_history is_written named =
+    let placed = entries_put (entries_of content) [] old got new history writes is_history in
+    let kept = values_are_kept old.settings content history got placed.0 is_written is_history.kept
     placed.1 in (
       placed.0,
       placed.2,
@@ -120,9 +120,9 @@ pub text_prepared : {T X : Type 0} {may : X → State → Type 0} (bytes : X →
     → PreparesContent {A = Offset T} may (λ x old answer new. WritesText (bytes x) old answer new)
     (λ x. value (text (bytes x))) (λ offset. reference offset.distance)
 text_prepared bytes = record {
-  comes = λ x old offset new past may done is_past.
-      (let added = value_added (text (bytes x)) old (offset.distance ∷ []) new past
-      (offset.distance, new, done, (refl, refl)) is_past tt refl in
+  comes = λ x old offset new history may done is_history.
+      (let added = value_added (text (bytes x)) old (offset.distance ∷ []) new history
+      (offset.distance, new, done, (refl, refl)) is_history tt refl in
       (added.0, added.1, added.2, (offset.distance, refl, added.3)));
 }
 
@@ -131,8 +131,8 @@ pub byte_list_prepared : {T X : Type 0} {may : X → State → Type 0} (bytes : 
     (λ x old answer new. WritesByteList (bytes x) old answer new)
     (λ x. value (byte_list (bytes x))) (λ offset. reference offset.distance)
 byte_list_prepared bytes = record {
-  comes = λ x old offset new past may done is_past.
-      (let added = value_added (byte_list (bytes x)) old (offset.distance ∷ []) new past
-      (offset.distance, new, done, (refl, refl)) is_past tt refl in
+  comes = λ x old offset new history may done is_history.
+      (let added = value_added (byte_list (bytes x)) old (offset.distance ∷ []) new history
+      (offset.distance, new, done, (refl, refl)) is_history tt refl in
       (added.0, added.1, added.2, (offset.distance, refl, added.3)));
 }

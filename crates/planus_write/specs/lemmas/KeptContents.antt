@@ -14,16 +14,16 @@ use Rattle.planus_read.specs.Values.{Value}
 use Rattle.planus_read.specs.Stands.{Stands, at}
 use Rattle.planus_read.specs.Aligned.{AlignedAt}
 use Rattle.planus_write.specs.Shared.{Kind, texts, byte_lists, vtables, same_kind, Contents}
-use Rattle.planus_write.specs.Shared.{same_contents, Switches, is_on, shared_as, Seen}
-use Rattle.planus_write.specs.Shared.{distance_seen, earlier_distance, and_seen}
-use Rattle.planus_write.specs.Past.{Past, Adds, PutsAfter, Puts, PutsAll}
+use Rattle.planus_write.specs.Shared.{same_contents, CacheSettings, is_on, shared_as, Cached}
+use Rattle.planus_write.specs.Shared.{distance_cached, earlier_distance, and_cached}
+use Rattle.planus_write.specs.History.{History, Adds, PutsAfter, Puts, PutsAll}
 use Rattle.planus_write.specs.State.{Extends}
 use Rattle.planus_write.specs.lemmas.Laws.{added_extends, extends_itself}
 use Rattle.planus_write.specs.Parts.{text_part, last_of, byte_list_part}
-use Rattle.planus_write.specs.Kept.{IsKept, KindIsKept, SeenIsKept, AllSeenKept}
+use Rattle.planus_write.specs.Kept.{IsKept, KindIsKept, CachedIsKept, AllCachedKept}
 use Rattle.planus_write.specs.lemmas.PartBytes.{length_after, text_size, byte_list_size}
 use Rattle.planus_write.specs.lemmas.PartBytes.{front_number, kept_at_front}
-use Rattle.planus_write.specs.lemmas.Staying.{seen_stays}
+use Rattle.planus_write.specs.lemmas.Staying.{cached_stays}
 use Rattle.planus_read.specs.Values as value
 
 text_at_front : (content pad B : List ℕ) → length content < 2 ^ 32
@@ -45,8 +45,8 @@ byte_list_at_front content pad B small = (
   ap (take (length content)) (append_assoc content pad B) ∙ take-append_seam content (pad ++ B),
 )
 
-new_value : (part : Part) (value : Value) (shared : Option Contents) (before : Past) (distance : ℕ)
-    (after : Past) (adds : Adds part shared before distance after)
+new_value : (part : Part) (value : Value) (shared : Option Contents) (before : History) (distance : ℕ)
+    (after : History) (adds : Adds part shared before distance after)
     → length (part.bytes_at adds.placed.place) ≡ part.size
     → Stands after.written.bytes (at 0) value
     → ((B : List ℕ) (k : ℕ) → part.alignment ∣ k → AlignedAt B (at k) value)
@@ -67,7 +67,7 @@ new_value part value shared before distance after adds sized there aligns =
 
 abbrev pub AreKept : Kind → List ℕ → Part → Type 0
 AreKept kind content part =
-    (shared : Option Contents) (before : Past) (distance : ℕ) (after : Past)
+    (shared : Option Contents) (before : History) (distance : ℕ) (after : History)
     → Adds part shared before distance after → KindIsKept after kind content distance
 
 abbrev pub NewAreKept : Kind → (List ℕ → Part) → Type 0
@@ -114,35 +114,35 @@ pub and_parts : (a b : Bool) → a && b ≡ true → (a ≡ true) × (b ≡ true
 and_parts true b e = (refl, e)
 and_parts false b e = (cc)
 
-found_kept : (past : Past) (seen : List Seen) (kind : Kind) (bytes : List ℕ) (d : ℕ)
-    → AllByRecursion (SeenIsKept past) seen
-    → distance_seen seen (record { kind = kind; bytes = bytes }) ≡ Some d
-    → KindIsKept past kind bytes d
-found_kept past [] kind bytes d h e = (cc)
-found_kept past (one ∷ seen) kind bytes d h e =
-    by_test (λ later. found_kept past seen kind bytes d h.1 later)
+found_kept : (history : History) (cached : List Cached) (kind : Kind) (bytes : List ℕ) (d : ℕ)
+    → AllByRecursion (CachedIsKept history) cached
+    → distance_cached cached (record { kind = kind; bytes = bytes }) ≡ Some d
+    → KindIsKept history kind bytes d
+found_kept history [] kind bytes d h e = (cc)
+found_kept history (one ∷ cached) kind bytes d h e =
+    by_test (λ later. found_kept history cached kind bytes d h.1 later)
     (same_contents one.contents (record { kind = kind; bytes = bytes })) refl e
   where
-    by_test : (distance_seen seen (record { kind = kind; bytes = bytes }) ≡ Some d
-        → KindIsKept past kind bytes d) → (equal : Bool)
+    by_test : (distance_cached cached (record { kind = kind; bytes = bytes }) ≡ Some d
+        → KindIsKept history kind bytes d) → (equal : Bool)
         → same_contents one.contents (record { kind = kind; bytes = bytes }) ≡ equal
-        → (if equal then Some one.distance else distance_seen seen
-        (record { kind = kind; bytes = bytes })) ≡ Some d → KindIsKept past kind bytes d
+        → (if equal then Some one.distance else distance_cached cached
+        (record { kind = kind; bytes = bytes })) ≡ Some d → KindIsKept history kind bytes d
     by_test further true equal e =
         let both = and_parts (same_kind one.contents.kind kind) (bytes_eq one.contents.bytes bytes)
         equal in
         let at : one.distance ≡ d = cc in
-        subst (λ n. KindIsKept past kind bytes n) at
-        (subst (λ xs. KindIsKept past kind xs one.distance)
+        subst (λ n. KindIsKept history kind bytes n) at
+        (subst (λ xs. KindIsKept history kind xs one.distance)
         ((bytes_eq-Decides one.contents.bytes bytes).0 both.1)
-        (subst (λ k. KindIsKept past k one.contents.bytes one.distance)
+        (subst (λ k. KindIsKept history k one.contents.bytes one.distance)
         (same_of one.contents.kind kind both.0) h.0))
     by_test further false equal e = further e
 
-pub shared_or_not : (switches : Switches) (contents : Contents)
-    → (shared_as switches (Some contents) ≡ None)
-    ⊎ (shared_as switches (Some contents) ≡ Some contents)
-shared_or_not switches contents = by_test (is_on switches contents.kind)
+pub shared_or_not : (settings : CacheSettings) (contents : Contents)
+    → (shared_as settings (Some contents) ≡ None)
+    ⊎ (shared_as settings (Some contents) ≡ Some contents)
+shared_or_not settings contents = by_test (is_on settings contents.kind)
   where
     by_test : (on : Bool)
         → ((if on then Some contents else None) ≡ None)
@@ -152,36 +152,36 @@ shared_or_not switches contents = by_test (is_on switches contents.kind)
 
 pub added_kept : (kind : Kind) (content : List ℕ) (part : Part) (shared : Option Contents)
     → (shared ≡ None) ⊎ (shared ≡ Some (record { kind = kind; bytes = content }))
-    → (before : Past) (distance : ℕ) (after : Past) → AllSeenKept before
+    → (before : History) (distance : ℕ) (after : History) → AllCachedKept before
     → KindIsKept after kind content distance → Adds part shared before distance after
-    → AllSeenKept after
+    → AllCachedKept after
 added_kept kind content part shared is_shared before distance after all kept adds =
     let extends = added_extends part shared before distance after adds in
-    let old : AllByRecursion (SeenIsKept after) before.seen =
-    seen_stays before after extends before.seen all in
-    subst (AllByRecursion (SeenIsKept after)) (sym adds.seen)
+    let old : AllByRecursion (CachedIsKept after) before.cached =
+    cached_stays before after extends before.cached all in
+    subst (AllByRecursion (CachedIsKept after)) (sym adds.cached)
     (elim is_shared as
-    (λ _. AllByRecursion (SeenIsKept after) (and_seen shared distance before.seen)) [
+    (λ _. AllByRecursion (CachedIsKept after) (and_cached shared distance before.cached)) [
       | inl none ↦ subst
-          (λ (s : Option Contents). AllByRecursion (SeenIsKept after)
-          (and_seen s distance before.seen)) (sym none) old
+          (λ (s : Option Contents). AllByRecursion (CachedIsKept after)
+          (and_cached s distance before.cached)) (sym none) old
       | inr some ↦ subst
-          (λ (s : Option Contents). AllByRecursion (SeenIsKept after)
-          (and_seen s distance before.seen)) (sym some) (kept, old)
+          (λ (s : Option Contents). AllByRecursion (CachedIsKept after)
+          (and_cached s distance before.cached)) (sym some) (kept, old)
     ])
 
-pub alone_kept : (part : Part) (before : Past) (distance : ℕ) (after : Past) → AllSeenKept before
-    → Adds part None before distance after → AllSeenKept after
+pub alone_kept : (part : Part) (before : History) (distance : ℕ) (after : History) → AllCachedKept before
+    → Adds part None before distance after → AllCachedKept after
 alone_kept part before distance after all adds =
-    subst (AllByRecursion (SeenIsKept after)) (sym adds.seen)
-    (seen_stays before after (added_extends part None before distance after adds) before.seen all)
+    subst (AllByRecursion (CachedIsKept after)) (sym adds.cached)
+    (cached_stays before after (added_extends part None before distance after adds) before.cached all)
 
-abbrev pub ContentsKept : Kind → List ℕ → Past → ℕ → Past → Type 0
+abbrev pub ContentsKept : Kind → List ℕ → History → ℕ → History → Type 0
 ContentsKept kind content before distance after = KindIsKept after kind content distance
-    × AllSeenKept after × Extends before after
+    × AllCachedKept after × Extends before after
 
 module _ (kind : Kind) (part : List ℕ → Part) (new_kept : NewAreKept kind part) (content : List ℕ)
-    (before : Past) (distance : ℕ) (after : Past) (all : AllSeenKept before) where
+    (before : History) (distance : ℕ) (after : History) (all : AllCachedKept before) where
   abbrev contents : Contents
   contents = record { kind = kind; bytes = content }
 
@@ -196,55 +196,55 @@ module _ (kind : Kind) (part : List ℕ → Part) (new_kept : NewAreKept kind pa
       )
 
   put_shared : (shared : Option Contents) → (shared ≡ None) ⊎ (shared ≡ Some contents)
-      → (earlier : Option ℕ) → earlier_distance before.seen shared ≡ earlier
+      → (earlier : Option ℕ) → earlier_distance before.cached shared ≡ earlier
       → PutsAfter earlier (part content) shared before distance after
       → ContentsKept kind content before distance after
   put_shared shared is_shared None e put = put_new shared is_shared put
   put_shared shared is_shared (Some d) e put =
-      let seen_there : KindIsKept before kind content d =
+      let cached_there : KindIsKept before kind content d =
       elim is_shared as (λ _. KindIsKept before kind content d) [
         | inl none ↦
-            (let f : earlier_distance before.seen None ≡ Some d =
-            subst (λ (s : Option Contents). earlier_distance before.seen s ≡ Some d) none e in
+            (let f : earlier_distance before.cached None ≡ Some d =
+            subst (λ (s : Option Contents). earlier_distance before.cached s ≡ Some d) none e in
             absurd (cc))
-        | inr some ↦ found_kept before before.seen kind content d all
-            (subst (λ (s : Option Contents). earlier_distance before.seen s ≡ Some d) some e)
+        | inr some ↦ found_kept before before.cached kind content d all
+            (subst (λ (s : Option Contents). earlier_distance before.cached s ≡ Some d) some e)
       ] in
-      subst (λ past. ContentsKept kind content before distance past) (sym put.1) (
-        subst (λ n. KindIsKept before kind content n) (sym put.0) seen_there,
+      subst (λ history. ContentsKept kind content before distance history) (sym put.1) (
+        subst (λ n. KindIsKept before kind content n) (sym put.0) cached_there,
         all,
         extends_itself
             before,
       )
 
 pub put_kept : (kind : Kind) (part : List ℕ → Part) → NewAreKept kind part
-    → (switches : Switches) (content got : List ℕ) (before : Past) (distance : ℕ) (after : Past)
-    → AllSeenKept before
-    → Puts switches
+    → (settings : CacheSettings) (content got : List ℕ) (before : History) (distance : ℕ) (after : History)
+    → AllCachedKept before
+    → Puts settings
     (record {
       contents = Some (record { kind = kind; bytes = content });
       part =
           λ got promises. part content;
     }) got before distance after
     → ContentsKept kind content before distance after
-put_kept kind part new_kept switches content got before distance after all put =
+put_kept kind part new_kept settings content got before distance after all put =
     let shared : Option Contents =
-    shared_as switches (Some (record { kind = kind; bytes = content })) in
+    shared_as settings (Some (record { kind = kind; bytes = content })) in
     put_shared kind part new_kept content before distance after all shared
-    (shared_or_not switches (record { kind = kind; bytes = content }))
-    (earlier_distance before.seen shared) refl put
+    (shared_or_not settings (record { kind = kind; bytes = content }))
+    (earlier_distance before.cached shared) refl put
 
 pub contents_kept : (kind : Kind) (part : List ℕ → Part) → NewAreKept kind part
-    → (switches : Switches) (content : List ℕ) (before : Past) (got : List ℕ) (after : Past)
-    → AllSeenKept before
-    → PutsAll switches
+    → (settings : CacheSettings) (content : List ℕ) (before : History) (got : List ℕ) (after : History)
+    → AllCachedKept before
+    → PutsAll settings
     (record {
       contents = Some (record { kind = kind; bytes = content });
       part =
           λ got promises. part content;
     } ∷ []) [] before got after
     → ContentsKept kind content before (last_of got) after
-contents_kept kind part new_kept switches content before got after all puts =
-    let put = put_kept kind part new_kept switches content [] before puts.0 puts.1 all puts.2 in
-    subst (λ past. ContentsKept kind content before (last_of got) past) (sym puts.3.1)
+contents_kept kind part new_kept settings content before got after all puts =
+    let put = put_kept kind part new_kept settings content [] before puts.0 puts.1 all puts.2 in
+    subst (λ history. ContentsKept kind content before (last_of got) history) (sym puts.3.1)
     (subst (λ n. ContentsKept kind content before n puts.1) (sym (ap last_of puts.3.0)) put)

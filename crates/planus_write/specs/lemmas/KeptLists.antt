@@ -21,16 +21,16 @@ use Rattle.planus_read.specs.Values.{Value}
 use Rattle.planus_read.specs.Stands.{Stands, at, ItemsStand, PlainStands, ReferenceStands}
 use Rattle.planus_read.specs.Aligned.{AlignedAt, ListAligned}
 use Rattle.planus_read.proofs.Bytes.{parts_stand}
-use Rattle.planus_write.specs.Shared.{Switches}
-use Rattle.planus_write.specs.Past.{Past, Adds, PutsAll}
+use Rattle.planus_write.specs.Shared.{CacheSettings}
+use Rattle.planus_write.specs.History.{History, Adds, PutsAll}
 use Rattle.planus_write.specs.State.{Extends}
 use Rattle.planus_write.specs.lemmas.Laws.{added_extends, extends_on}
 use Rattle.planus_write.specs.Parts.{items_bytes, items_part, count_part, list_entries, IsPlainList}
 use Rattle.planus_write.specs.Parts.{last_of}
 use Rattle.planus_write.specs.Items.{Item, plain_item, reference_item}
-use Rattle.planus_write.specs.Kept.{IsKept, SeenIsKept, AllSeenKept}
+use Rattle.planus_write.specs.Kept.{IsKept, CachedIsKept, AllCachedKept}
 use Rattle.planus_write.specs.lemmas.PartBytes.{length_after, front_number, kept_at_front, unpadded}
-use Rattle.planus_write.specs.lemmas.Staying.{seen_stays}
+use Rattle.planus_write.specs.lemmas.Staying.{cached_stays}
 
 divide_greater : (a : ℕ) → IsPowerOfTwo a → (a ∣ max a 4) × (4 ∣ max a 4)
 divide_greater a power =
@@ -142,7 +142,7 @@ reference_items before distances behind = record {
 }
 
 module _ {X : Type 0} (item_of : X → Item) (size alignment : ℕ) (xs : List X)
-    (before between after : Past) (first second : ℕ)
+    (before between after : History) (first second : ℕ)
     (items : Adds (items_part size alignment (map item_of xs)) None before first between)
     (count : Adds (count_part (length (map item_of xs))) None between second after) where
   abbrev listed : List Item
@@ -175,15 +175,15 @@ module _ {X : Type 0} (item_of : X → Item) (size alignment : ℕ) (xs : List X
   extends_second : Extends between after
   extends_second = added_extends (count_part (length listed)) None between second after count
 
-  seen_between : AllSeenKept before → AllSeenKept between
-  seen_between all =
-      subst (AllByRecursion (SeenIsKept between)) (sym items.seen)
-      (seen_stays before between extends_first before.seen all)
+  cached_between : AllCachedKept before → AllCachedKept between
+  cached_between all =
+      subst (AllByRecursion (CachedIsKept between)) (sym items.cached)
+      (cached_stays before between extends_first before.cached all)
 
-  seen_after : AllSeenKept before → AllSeenKept after
-  seen_after all =
-      subst (AllByRecursion (SeenIsKept after)) (sym count.seen)
-      (seen_stays between after extends_second between.seen (seen_between all))
+  cached_after : AllCachedKept before → AllCachedKept after
+  cached_after all =
+      subst (AllByRecursion (CachedIsKept after)) (sym count.cached)
+      (cached_stays between after extends_second between.cached (cached_between all))
 
   extends_both : Extends before after
   extends_both = extends_on before between after extends_first extends_second
@@ -252,23 +252,23 @@ module _ {X : Type 0} (item_of : X → Item) (size alignment : ℕ) (xs : List X
         (list_aligned (list.sized place) list.power list.divides front keep))
 
 pub list_kept : {X : Type 0} (item_of : X → Item) (size alignment : ℕ) (xs : List X) (value : Value)
-    (switches : Switches) (before : Past) (got : List ℕ) (after : Past)
-    → IsListOf item_of size alignment (length before.written.bytes) xs value → AllSeenKept before
-    → PutsAll switches (list_entries size alignment (map item_of xs)) [] before got after
+    (settings : CacheSettings) (before : History) (got : List ℕ) (after : History)
+    → IsListOf item_of size alignment (length before.written.bytes) xs value → AllCachedKept before
+    → PutsAll settings (list_entries size alignment (map item_of xs)) [] before got after
     → IsKept after value (record { distance = last_of got; tags = None })
-    × AllSeenKept after × Extends before after
-list_kept item_of size alignment xs value switches before got after list all puts =
+    × AllCachedKept after × Extends before after
+list_kept item_of size alignment xs value settings before got after list all puts =
     let then = puts.3 in
     let kept = added_kept item_of size alignment xs before puts.1 then.1 puts.0 then.0 puts.2 then.2
     value list in
-    let seen = seen_after item_of size alignment xs before puts.1 then.1 puts.0 then.0 puts.2 then.2
+    let cached = cached_after item_of size alignment xs before puts.1 then.1 puts.0 then.0 puts.2 then.2
     all in
     let extends =
     extends_both item_of size alignment xs before puts.1 then.1 puts.0 then.0 puts.2 then.2 in
-    subst (λ past. IsKept past value (record { distance = last_of got; tags = None })
-    × AllSeenKept past × Extends before past) (sym then.3.1) (
+    subst (λ history. IsKept history value (record { distance = last_of got; tags = None })
+    × AllCachedKept history × Extends before history) (sym then.3.1) (
       subst (λ n. IsKept then.1 value (record { distance = n; tags = None }))
           (sym (ap last_of then.3.0)) kept,
-      seen,
+      cached,
       extends,
     )

@@ -20,17 +20,17 @@ use Rattle.planus_read.specs.Values.{Field, field_at, vtable_size}
 use Rattle.planus_read.specs.Stands.{TableStands, SlotStands}
 use Rattle.planus_read.specs.Aligned.{TableAligned, SlotAligned}
 use Rattle.planus_read.proofs.Moves.{num_moves, int_moves}
-use Rattle.planus_write.specs.Shared.{Switches, vtables}
-use Rattle.planus_write.specs.Past.{Past, Adds, PutsAll}
+use Rattle.planus_write.specs.Shared.{CacheSettings, vtables}
+use Rattle.planus_write.specs.History.{History, Adds, PutsAll}
 use Rattle.planus_write.specs.State.{Extends}
 use Rattle.planus_write.specs.lemmas.Laws.{added_extends, extends_on}
 use Rattle.planus_write.specs.Parts.{last_of}
 use Rattle.planus_write.specs.Tables.{body_size, body_alignment, body_bytes, field_offset}
 use Rattle.planus_write.specs.Tables.{vtable_bytes, vtable_part, body_part, word_part, IsTable}
 use Rattle.planus_write.specs.Tables.{table_entries}
-use Rattle.planus_write.specs.Kept.{IsKept, KindIsKept, SeenIsKept, AllSeenKept}
+use Rattle.planus_write.specs.Kept.{IsKept, KindIsKept, CachedIsKept, AllCachedKept}
 use Rattle.planus_write.specs.lemmas.PartBytes.{length_after, front_number, kept_at_front, unpadded}
-use Rattle.planus_write.specs.lemmas.Staying.{seen_stays, kind_stays}
+use Rattle.planus_write.specs.lemmas.Staying.{cached_stays, kind_stays}
 use Rattle.planus_write.specs.lemmas.KeptContents.{NewAreKept, ContentsKept, put_kept}
 use Rattle.planus_write.specs.lemmas.TableBytes.{stand_inside, body_length, vtable_length}
 use Rattle.planus_write.specs.lemmas.TableBytes.{fields_stand, fields_aligned, body_power}
@@ -69,7 +69,7 @@ word_there v p rest le small =
 word_further : (n t : ℕ) → pos 0 -ℤ pos t ≡ pos n -ℤ pos (n + t)
 word_further n t = omega (arith, ints)
 
-module _ (entries : List (ℕ × Field)) (before first second after : Past) (v b x : ℕ)
+module _ (entries : List (ℕ × Field)) (before first second after : History) (v b x : ℕ)
     (vtable : ContentsKept vtables (vtable_bytes entries) before v first)
     (body : Adds (body_part entries) None first b second)
     (word : Adds (word_part v) None second x after)
@@ -127,13 +127,13 @@ module _ (entries : List (ℕ × Field)) (before first second after : Past) (v b
       extends_on before first after vtable.2
       (extends_on first second after extends_body extends_word)
 
-  seen_kept : AllSeenKept after
-  seen_kept =
-      let between : AllSeenKept second =
-      subst (AllByRecursion (SeenIsKept second)) (sym body.seen)
-      (seen_stays first second extends_body first.seen vtable.1) in
-      subst (AllByRecursion (SeenIsKept after)) (sym word.seen)
-      (seen_stays second after extends_word second.seen between)
+  cached_kept : AllCachedKept after
+  cached_kept =
+      let between : AllCachedKept second =
+      subst (AllByRecursion (CachedIsKept second)) (sym body.cached)
+      (cached_stays first second extends_body first.cached vtable.1) in
+      subst (AllByRecursion (CachedIsKept after)) (sym word.cached)
+      (cached_stays second after extends_word second.cached between)
 
   vtable_kept : KindIsKept after vtables (vtable_bytes entries) v
   vtable_kept =
@@ -252,32 +252,32 @@ module _ (entries : List (ℕ × Field)) (before first second after : Past) (v b
   added_kept : IsKept after (value.table entries) (record { distance = x; tags = None })
   added_kept = kept_at_front after (value.table entries) x after_ends table_stands table_aligned
 
-pub table_kept : (entries : List (ℕ × Field)) (switches : Switches) (before : Past) (got : List ℕ)
-    (after : Past)
-    → IsTable (length before.written.bytes) entries → AllSeenKept before
-    → PutsAll switches (table_entries entries) [] before got after
+pub table_kept : (entries : List (ℕ × Field)) (settings : CacheSettings) (before : History) (got : List ℕ)
+    (after : History)
+    → IsTable (length before.written.bytes) entries → AllCachedKept before
+    → PutsAll settings (table_entries entries) [] before got after
     → IsKept after (value.table entries) (record { distance = last_of got; tags = None })
-    × AllSeenKept after × Extends before after
-table_kept entries switches before got after good all puts =
+    × AllCachedKept after × Extends before after
+table_kept entries settings before got after good all puts =
     let v : ℕ = puts.0 in
-    let first : Past = puts.1 in
+    let first : History = puts.1 in
     let vtable : ContentsKept vtables (vtable_bytes entries) before v first =
-    put_kept vtables vtable_part new_vtables switches (vtable_bytes entries) [] before v first
+    put_kept vtables vtable_part new_vtables settings (vtable_bytes entries) [] before v first
     all puts.2 in
     let bodies = puts.3 in
     let words = bodies.3 in
     let kept = added_kept entries before first bodies.1 words.1 v bodies.0 words.0 vtable bodies.2
     words.2 good in
-    let seen = seen_kept entries before first bodies.1 words.1 v bodies.0 words.0 vtable bodies.2
+    let cached = cached_kept entries before first bodies.1 words.1 v bodies.0 words.0 vtable bodies.2
     words.2 good in
     let extends =
     extends_all entries before first bodies.1 words.1 v bodies.0 words.0 vtable bodies.2 words.2
     good in
-    subst (λ past. IsKept past (value.table entries)
-    (record { distance = last_of got; tags = None }) × AllSeenKept past × Extends before past)
+    subst (λ history. IsKept history (value.table entries)
+    (record { distance = last_of got; tags = None }) × AllCachedKept history × Extends before history)
     (sym words.3.1) (
       subst (λ n. IsKept words.1 (value.table entries) (record { distance = n; tags = None }))
           (sym (ap last_of words.3.0)) kept,
-      seen,
+      cached,
       extends,
     )

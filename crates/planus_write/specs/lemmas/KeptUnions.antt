@@ -10,14 +10,14 @@ use Rattle.planus_back.specs.Parts.{Part}
 use Rattle.planus_read.specs.Bytes.{BytesStand}
 use Rattle.planus_read.specs.Values as value
 use Rattle.planus_read.specs.Stands.{ItemsStand}
-use Rattle.planus_write.specs.Shared.{Switches}
-use Rattle.planus_write.specs.Past.{Past, Adds, PutsAll}
+use Rattle.planus_write.specs.Shared.{CacheSettings}
+use Rattle.planus_write.specs.History.{History, Adds, PutsAll}
 use Rattle.planus_write.specs.State.{Extends}
 use Rattle.planus_write.specs.lemmas.Laws.{extends_on}
 use Rattle.planus_write.specs.Parts.{items_bytes, items_part, tags_part, count_part, union_entries}
 use Rattle.planus_write.specs.Parts.{tags_in, distances_in, last_of, second_of}
 use Rattle.planus_write.specs.Items.{Item, plain_item, reference_item}
-use Rattle.planus_write.specs.Kept.{IsKept, AllSeenKept}
+use Rattle.planus_write.specs.Kept.{IsKept, AllCachedKept}
 use Rattle.planus_write.specs.lemmas.KeptLists.{IsListOf, reference_items, list_kept}
 use Rattle.planus_write.specs.lemmas.Staying.{kept_stays}
 
@@ -60,12 +60,12 @@ unions_aligned : (k : ℕ) (items : List (ℕ × ℕ))
 unions_aligned k [] h = tt
 unions_aligned k (item ∷ items) h = (h.0, unions_aligned (k + 4) items h.1)
 
-both_kept : (past : Past) (items : List (ℕ × ℕ)) (references tags : ℕ)
-    → IsKept past (value.reference_list (distances_in items))
+both_kept : (history : History) (items : List (ℕ × ℕ)) (references tags : ℕ)
+    → IsKept history (value.reference_list (distances_in items))
     (record { distance = references; tags = None })
-    → IsKept past (value.byte_list (tags_in items)) (record { distance = tags; tags = None })
-    → IsKept past (value.union_vector items) (record { distance = references; tags = Some tags })
-both_kept past items references tags first second = record {
+    → IsKept history (value.byte_list (tags_in items)) (record { distance = tags; tags = None })
+    → IsKept history (value.union_vector items) (record { distance = references; tags = Some tags })
+both_kept history items references tags first second = record {
   reached = first.reached;
   tags_reached = second.reached;
   stands = (second.stands, first.stands);
@@ -75,26 +75,26 @@ both_kept past items references tags first second = record {
 }
 
 pub union_vector_kept
-    : (switches : Switches) (items : List (ℕ × ℕ)) (before : Past) (got : List ℕ) (after : Past)
-    → AllByRecursion (λ item. item.1 ≤ length before.written.bytes) items → AllSeenKept before
-    → PutsAll switches (union_entries items) [] before got after
+    : (settings : CacheSettings) (items : List (ℕ × ℕ)) (before : History) (got : List ℕ) (after : History)
+    → AllByRecursion (λ item. item.1 ≤ length before.written.bytes) items → AllCachedKept before
+    → PutsAll settings (union_entries items) [] before got after
     → IsKept after (value.union_vector items)
     (record { distance = second_of got; tags = Some (last_of got) })
-    × AllSeenKept after × Extends before after
-union_vector_kept switches items before got after reached all puts =
+    × AllCachedKept after × Extends before after
+union_vector_kept settings items before got after reached all puts =
     let second = puts.3 in
     let third = second.3 in
     let fourth = third.3 in
     let distances : List ℕ = distances_in items in
     let tags : List ℕ = tags_in items in
     let references =
-    list_kept reference_item 4 4 distances (value.reference_list distances) switches before
+    list_kept reference_item 4 4 distances (value.reference_list distances) settings before
     (puts.0 ∷ second.0 ∷ []) second.1
     (reference_items (length before.written.bytes) distances
     (distances_reached (length before.written.bytes) items reached)) all
     (puts.0, puts.1, puts.2, (second.0, second.1, second.2, (refl, refl))) in
     let listed =
-    list_kept tag_item 1 1 tags (value.byte_list tags) switches second.1
+    list_kept tag_item 1 1 tags (value.byte_list tags) settings second.1
     (third.0 ∷ fourth.0 ∷ []) fourth.1
     (tags_are (length second.1.written.bytes) tags) references.1 (
       third.0,
@@ -111,9 +111,9 @@ union_vector_kept switches items before got after reached all puts =
     let both = both_kept fourth.1 items second.0 fourth.0
     (kept_stays second.1 fourth.1 (value.reference_list distances)
     (record { distance = second.0; tags = None }) listed.2 references.0) listed.0 in
-    subst (λ past. IsKept past (value.union_vector items)
-    (record { distance = second_of got; tags = Some (last_of got) }) × AllSeenKept past
-    × Extends before past) (sym fourth.3.1) (
+    subst (λ history. IsKept history (value.union_vector items)
+    (record { distance = second_of got; tags = Some (last_of got) }) × AllCachedKept history
+    × Extends before history) (sym fourth.3.1) (
       subst (λ (all : List ℕ). IsKept fourth.1 (value.union_vector items)
           (record { distance = second_of all; tags = Some (last_of all) })) (sym fourth.3.0) both,
       listed.1,

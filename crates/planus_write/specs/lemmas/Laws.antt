@@ -5,17 +5,17 @@ use Rattle.std.proofs.Common.{ap, subst, sym, refl, ◌∙◌, arith, append_ass
 use Rattle.std.proofs.Math.Nat.{pow-le-pow_right}
 use Rattle.planus_back.specs.Parts.{Part}
 use Rattle.planus_back.specs.Padding.{promise_of}
-use Rattle.planus_write.specs.Shared.{Contents, Seen, Switches, and_seen, shared_as}
-use Rattle.planus_write.specs.Past.{Past, Entry, Adds, PutsAfter, Puts, found_before, part_after}
-use Rattle.planus_write.specs.State.{State, IsPast, Extends, Grows}
-use Rattle.planus_write.specs.Placing.{Outcome, PutsDown, WritesEntry, LeftAsItWas}
+use Rattle.planus_write.specs.Shared.{Contents, Cached, CacheSettings, and_cached, shared_as}
+use Rattle.planus_write.specs.History.{History, Entry, Adds, PutsAfter, Puts, found_before, part_after}
+use Rattle.planus_write.specs.State.{State, IsHistoryOf, Extends, Grows}
+use Rattle.planus_write.specs.Placing.{Outcome, PlacesEntry, WritesEntry, LeftAsItWas}
 use Rattle.planus_read.specs.Plain.{IsLayout}
 use Rattle.planus_write.specs.Preparing.{IsLawful, Answers, AsOffset, IsPrepared}
 use Rattle.planus_write.specs.declared.errors.BuildError.{BuildError}
 use Rattle.planus_write.specs.declared.errors.BuildError.TheVariants.{OutOfMemory, TooLarge}
 use Rattle.planus_write.specs.declared.offset.Offset.{Offset}
 
-pub extends_on : (before between after : Past) → Extends before between → Extends between after
+pub extends_on : (before between after : History) → Extends before between → Extends between after
     → Extends before after
 extends_on before between after first second = record {
   bytes = (
@@ -28,51 +28,51 @@ extends_on before between after first second = record {
     second.promises.1 ∙ ap (λ promises. second.promises.0 ++ promises) first.promises.1
         ∙ sym (append_assoc second.promises.0 first.promises.0 before.written.promises),
   );
-  seen = (
-    second.seen.0 ++ first.seen.0,
-    second.seen.1 ∙ ap (λ seen. second.seen.0 ++ seen) first.seen.1
-        ∙ sym (append_assoc second.seen.0 first.seen.0 before.seen),
+  cached = (
+    second.cached.0 ++ first.cached.0,
+    second.cached.1 ∙ ap (λ cached. second.cached.0 ++ cached) first.cached.1
+        ∙ sym (append_assoc second.cached.0 first.cached.0 before.cached),
   );
 }
 
-pub extends_itself : (past : Past) → Extends past past
-extends_itself past = record { bytes = ([], refl); promises = ([], refl); seen = ([], refl) }
+pub extends_itself : (history : History) → Extends history history
+extends_itself history = record { bytes = ([], refl); promises = ([], refl); cached = ([], refl) }
 
 pub unchanged_grows : (old new : State) → new ≡ old → Grows old new
 unchanged_grows old new same = record {
   bytes = ([], ap (λ state. state.bytes) same);
-  past = λ past is_past. (
-    past,
-    subst (λ state. IsPast state past)
-        (sym same) is_past,
-    extends_itself past,
+  history = λ history is_history. (
+    history,
+    subst (λ state. IsHistoryOf state history)
+        (sym same) is_history,
+    extends_itself history,
   );
-  switches = ap (λ state. state.switches) same;
+  settings = ap (λ state. state.settings) same;
 }
 
-pub roomier_past : (old new : State) (past : Past) → new ≡ record old { room = new.room }
-    → IsPast old past → IsPast new past
-roomier_past old new past same is_past =
-    subst (λ state. IsPast state past) (sym same)
+pub roomier_history : (old new : State) (history : History) → new ≡ record old { room = new.room }
+    → IsHistoryOf old history → IsHistoryOf new history
+roomier_history old new history same is_history =
+    subst (λ state. IsHistoryOf state history) (sym same)
     (record {
-      bytes = is_past.bytes;
-      described = is_past.described;
-      seen = λ kind. record {
-        fits = (is_past.seen kind).fits;
-        finds = (is_past.seen kind).finds;
+      bytes = is_history.bytes;
+      described = is_history.described;
+      cached = λ kind. record {
+        fits = (is_history.cached kind).fits;
+        finds = (is_history.cached kind).finds;
       };
-      kept = is_past.kept;
+      kept = is_history.kept;
     })
 
 roomier_grows : (old new : State) → new ≡ record old { room = new.room } → Grows old new
 roomier_grows old new same = record {
   bytes = ([], ap (λ state. state.bytes) same);
-  past = λ past is_past. (
-    past,
-    roomier_past old new past same is_past,
-    extends_itself past,
+  history = λ history is_history. (
+    history,
+    roomier_history old new history same is_history,
+    extends_itself history,
   );
-  switches = ap (λ state. state.switches) same;
+  settings = ap (λ state. state.settings) same;
 }
 
 pub left_grows : (error : BuildError) (shared : Option Contents) (old new : State)
@@ -81,46 +81,46 @@ left_grows OutOfMemory (Some contents) old new left = roomier_grows old new left
 left_grows OutOfMemory None old new left = unchanged_grows old new left
 left_grows TooLarge shared old new left = unchanged_grows old new left
 
-seen_more : (shared : Option Contents) (distance : ℕ) (before after : List Seen)
-    → after ≡ and_seen shared distance before
-    → (more : List Seen) × (after ≡ more ++ before)
-seen_more None distance before after same = ([], same)
-seen_more (Some contents) distance before after same =
+cached_more : (shared : Option Contents) (distance : ℕ) (before after : List Cached)
+    → after ≡ and_cached shared distance before
+    → (more : List Cached) × (after ≡ more ++ before)
+cached_more None distance before after same = ([], same)
+cached_more (Some contents) distance before after same =
     (record { contents = contents; distance = distance } ∷ [], same)
 
-pub added_extends : (part : Part) (shared : Option Contents) (before : Past) (distance : ℕ)
-    (after : Past)
+pub added_extends : (part : Part) (shared : Option Contents) (before : History) (distance : ℕ)
+    (after : History)
     → Adds part shared before distance after → Extends before after
 added_extends part shared before distance after adds = record {
   bytes = (part.bytes_at adds.placed.place ++ replicate adds.placed.padding 0, adds.placed.bytes);
   promises = (promise_of adds.placed.place part.alignment ∷ [], adds.placed.promises);
-  seen = seen_more shared distance before.seen after.seen adds.seen;
+  cached = cached_more shared distance before.cached after.cached adds.cached;
 }
 
-put_after_extends : (earlier : Option ℕ) (part : Part) (shared : Option Contents) (before : Past)
-    (distance : ℕ) (after : Past)
+put_after_extends : (earlier : Option ℕ) (part : Part) (shared : Option Contents) (before : History)
+    (distance : ℕ) (after : History)
     → PutsAfter earlier part shared before distance after → Extends before after
 put_after_extends (Some d) part shared before distance after put =
     subst (Extends before) (sym put.1) (extends_itself before)
 put_after_extends None part shared before distance after put =
     added_extends part shared before distance after put
 
-pub put_extends : (switches : Switches) (entry : Entry) (got : List ℕ) (before : Past)
-    (distance : ℕ) (after : Past)
-    → Puts switches entry got before distance after → Extends before after
-put_extends switches entry got before distance after put =
-    put_after_extends (found_before switches entry before) (part_after entry got before)
-    (shared_as switches entry.contents)
+pub put_extends : (settings : CacheSettings) (entry : Entry) (got : List ℕ) (before : History)
+    (distance : ℕ) (after : History)
+    → Puts settings entry got before distance after → Extends before after
+put_extends settings entry got before distance after put =
+    put_after_extends (found_before settings entry before) (part_after entry got before)
+    (shared_as settings entry.contents)
     before distance after put
 
 pub entry_grows : (entry : Entry) (got : List ℕ) (old : State) (distance : ℕ) (new : State)
-    → PutsDown entry got old distance new → Grows old new
+    → PlacesEntry entry got old distance new → Grows old new
 entry_grows entry got old distance new put = record {
   bytes = put.grows;
-  past = λ past is_past.
-      let after = put.puts past is_past in
-      (after.0, after.2, put_extends old.switches entry got past distance after.0 after.1);
-  switches = put.switches;
+  history = λ history is_history.
+      let after = put.puts history is_history in
+      (after.0, after.2, put_extends old.settings entry got history distance after.0 after.1);
+  settings = put.settings;
 }
 
 pub grows_on : (old mid new : State) → Grows old mid → Grows mid new → Grows old new
@@ -130,11 +130,11 @@ grows_on old mid new first second = record {
     second.bytes.1 ∙ ap (λ bytes. second.bytes.0 ++ bytes) first.bytes.1
         ∙ sym (append_assoc second.bytes.0 first.bytes.0 old.bytes),
   );
-  past = λ past is_past.
-      let between = first.past past is_past in
-      let after = second.past between.0 between.1 in
-      (after.0, after.1, extends_on past between.0 after.0 between.2 after.2);
-  switches = second.switches ∙ first.switches;
+  history = λ history is_history.
+      let between = first.history history is_history in
+      let after = second.history between.0 between.1 in
+      (after.0, after.1, extends_on history between.0 after.0 between.2 after.2);
+  settings = second.settings ∙ first.settings;
 }
 
 pub reached_still : (distance : ℕ) (old new : State) → Grows old new → distance ≤ length old.bytes
@@ -149,7 +149,7 @@ pub writes_entry_grows : (entry : Entry) (got : List ℕ) (old : State) (answer 
 writes_entry_grows entry got old (Ok distance) new done =
     entry_grows entry got old distance new done
 writes_entry_grows entry got old (Err error) new done =
-    left_grows error (shared_as old.switches entry.contents) old new done.unchanged
+    left_grows error (shared_as old.settings entry.contents) old new done.unchanged
 
 pub as_offset_grows : {T : Type 0} (writes : Outcome ℕ) (old : State)
     → ((answer : Result ℕ BuildError) (new : State) → writes old answer new → Grows old new)

@@ -9,13 +9,13 @@ use Rattle.planus_write.specs.lemmas.Laws.{extends_on, extends_itself}
 use Rattle.planus_write.specs.lemmas.ListLaws.{plain_items_are, reference_items_are}
 use Rattle.planus_write.specs.lemmas.ListLaws.{may_still}
 use Rattle.planus_write.specs.Parts.{entries_of, list_entries, last_of}
-use Rattle.planus_write.specs.Past.{Past, Entry}
+use Rattle.planus_write.specs.History.{History, Entry}
 use Rattle.planus_write.specs.Placing.{Outcome}
 use Rattle.planus_write.specs.InBuilder.{AllIn}
 use Rattle.planus_read.specs.Plain.{IsLayout}
 use Rattle.planus_write.specs.Preparing.{AllMay, AreLawful, Answers, IsLawful, PreparesAll}
 use Rattle.planus_write.specs.Preparing.{PreparesItems, WritesEntries, WritesList}
-use Rattle.planus_write.specs.State.{State, IsPast}
+use Rattle.planus_write.specs.State.{State, IsHistoryOf}
 use Rattle.planus_write.specs.declared.offset.Offset.{Offset}
 use Rattle.planus_write.specs.lemmas.Staying.{kept_stays}
 use Rattle.planus_write.specs.Contents.{Content, value, values, named_at, AllKept, Comes}
@@ -31,8 +31,8 @@ pub list_prepared : {X Y A T : Type 0} {all_may : List Y → State → Type 0}
     (λ x old answer new. WritesList prepares leaves size alignment (items x) old answer new)
     (λ x. list (items x)) (λ offset. reference offset.distance)
 list_prepared items lawful = record {
-  comes = λ x old offset new past mays done is_past.
-      lawful.comes (items x) old offset.distance new past mays done is_past;
+  comes = λ x old offset new history mays done is_history.
+      lawful.comes (items x) old offset.distance new history mays done is_history;
 }
 
 record IsPut {Y A : Type 0} (prepares : List Y → Outcome (List A)) (leaves : A → Item)
@@ -92,14 +92,14 @@ pub plain_list_has_content : {Y : Type 0} {all_may : List Y → State → Type 0
     → ListHasContent all_may Answers (λ y. plain_item (bytes y)) size alignment
     (λ ys. value (plain_list size alignment (map bytes ys)))
 plain_list_has_content bytes size alignment layout sized = record {
-  comes = λ ys old distance new past mays done is_past.
+  comes = λ ys old distance new history mays done is_history.
       (let content = plain_list size alignment (map bytes ys) in
       let put = ready_put (λ y. plain_item (bytes y)) size alignment ys old distance new done in
       let entries : list_entries size alignment (map (λ y. plain_item (bytes y)) ys)
       ≡ entries_of content
       = ap (list_entries size alignment) (plain_items_are bytes ys) in
-      let added = value_added content old put.0 new past
-      (subst (λ (all : List Entry). WritesEntries all [] old (Ok put.0) new) entries put.1) is_past
+      let added = value_added content old put.0 new history
+      (subst (λ (all : List Entry). WritesEntries all [] old (Ok put.0) new) entries put.1) is_history
       (record {
         sizes = all_sized bytes size sized ys;
         positive = layout.positive;
@@ -109,14 +109,14 @@ plain_list_has_content bytes size alignment layout sized = record {
       (added.0, added.1, added.2, (last_of put.0, ap (λ d. reference d) put.2, added.3)));
 }
 
-offsets_lie : {T : Type 0} (offsets : List (Offset T)) (old : State) (past : Past) → IsPast old past
+offsets_lie : {T : Type 0} (offsets : List (Offset T)) (old : State) (history : History) → IsHistoryOf old history
     → AllIn old offsets
-    → AllByRecursion (λ distance. distance ≤ length past.written.bytes)
+    → AllByRecursion (λ distance. distance ≤ length history.written.bytes)
     (map (λ offset. offset.distance) offsets)
-offsets_lie [] old past is_past may = tt
-offsets_lie (offset ∷ offsets) old past is_past may = (
-  subst (λ (bytes : List ℕ). offset.distance ≤ length bytes) (sym is_past.bytes) may.0,
-  offsets_lie offsets old past is_past may.1,
+offsets_lie [] old history is_history may = tt
+offsets_lie (offset ∷ offsets) old history is_history may = (
+  subst (λ (bytes : List ℕ). offset.distance ≤ length bytes) (sym is_history.bytes) may.0,
+  offsets_lie offsets old history is_history may.1,
 )
 
 abbrev distances_of : {T : Type 0} → List (Offset T) → List ℕ
@@ -135,34 +135,34 @@ pub offset_list_has_content : {T : Type 0}
     (λ offset. reference_item offset.distance) 4 4
     (λ offsets. value (reference_list (map (λ offset. offset.distance) offsets)))
 offset_list_has_content {T} = record {
-  comes = λ offsets old distance new past mays done is_past.
+  comes = λ offsets old distance new history mays done is_history.
       (let put = ready_put (λ (offset : Offset T). reference_item offset.distance) 4 4 offsets old
       distance new done in
-      let added = value_added (reference_list (distances_of offsets)) old put.0 new past
+      let added = value_added (reference_list (distances_of offsets)) old put.0 new history
       (subst (λ (all : List Entry). WritesEntries all [] old (Ok put.0) new)
-      (references_are offsets) put.1) is_past
-      (offsets_lie offsets old past is_past mays) refl in
+      (references_are offsets) put.1) is_history
+      (offsets_lie offsets old history is_history mays) refl in
       (added.0, added.1, added.2, (last_of put.0, ap (λ d. reference d) put.2, added.3)));
 }
 
-kept_lie : (past : Past) (contents : List Value) (distances : List ℕ)
-    → AllKept past contents distances
-    → AllByRecursion (λ distance. distance ≤ length past.written.bytes) distances
-kept_lie past [] [] kept = tt
-kept_lie past (content ∷ contents) (distance ∷ distances) kept =
-    (kept.0.reached, kept_lie past contents distances kept.1)
-kept_lie past [] (distance ∷ distances) kept = elim kept [ ]
-kept_lie past (content ∷ contents) [] kept = elim kept [ ]
+kept_lie : (history : History) (contents : List Value) (distances : List ℕ)
+    → AllKept history contents distances
+    → AllByRecursion (λ distance. distance ≤ length history.written.bytes) distances
+kept_lie history [] [] kept = tt
+kept_lie history (content ∷ contents) (distance ∷ distances) kept =
+    (kept.0.reached, kept_lie history contents distances kept.1)
+kept_lie history [] (distance ∷ distances) kept = elim kept [ ]
+kept_lie history (content ∷ contents) [] kept = elim kept [ ]
 
 module _ {X S : Type 0} {may : X → State → Type 0} {outcome : X → Outcome (Offset S)}
     (lawful : IsLawful may outcome (λ offset. offset.distance)) (content : X → Value)
     (prepares : PreparesContent may outcome (λ x. value (content x))
     (λ offset. reference offset.distance)) where
-  one_prepared : (x : X) (old : State) (offset : Offset S) (new : State) (past : Past) → may x old
-      → outcome x old (Ok offset) new → IsPast old past
-      → Comes past new (λ after. IsKept after (content x) (named_at offset.distance))
-  one_prepared x old offset new past mays done is_past =
-      let near = prepares.comes x old offset new past mays done is_past in
+  one_prepared : (x : X) (old : State) (offset : Offset S) (new : State) (history : History) → may x old
+      → outcome x old (Ok offset) new → IsHistoryOf old history
+      → Comes history new (λ after. IsKept after (content x) (named_at offset.distance))
+  one_prepared x old offset new history mays done is_history =
+      let near = prepares.comes x old offset new history mays done is_history in
       let at : near.3.0 ≡ offset.distance = cc in (
         near.0,
         near.1,
@@ -170,27 +170,27 @@ module _ {X S : Type 0} {may : X → State → Type 0} {outcome : X → Outcome 
         subst (λ (d : ℕ). IsKept near.0 (content x) (named_at d)) at near.3.2,
       )
 
-  all_prepared : (xs : List X) (old : State) (offsets : List (Offset S)) (new : State) (past : Past)
-      → AllMay may xs old → PreparesAll outcome xs old (Ok offsets) new → IsPast old past
-      → Comes past new (λ after. AllKept after (map content xs) (distances_of offsets))
-  all_prepared [] old offsets new past mays done is_past =
+  all_prepared : (xs : List X) (old : State) (offsets : List (Offset S)) (new : State) (history : History)
+      → AllMay may xs old → PreparesAll outcome xs old (Ok offsets) new → IsHistoryOf old history
+      → Comes history new (λ after. AllKept after (map content xs) (distances_of offsets))
+  all_prepared [] old offsets new history mays done is_history =
       let same : [] ≡ offsets = cc in (
-        past,
-        subst (λ state. IsPast state past) (sym done.1) is_past,
-        extends_itself past,
-        subst (λ (offsets : List (Offset S)). AllKept past [] (distances_of offsets)) same tt,
+        history,
+        subst (λ state. IsHistoryOf state history) (sym done.1) is_history,
+        extends_itself history,
+        subst (λ (offsets : List (Offset S)). AllKept history [] (distances_of offsets)) same tt,
       )
-  all_prepared (x ∷ xs) old offsets new past mays done is_past =
+  all_prepared (x ∷ xs) old offsets new history mays done is_history =
       let between = done.1 in
-      let near = one_prepared x old done.0 between past mays.0 done.2 is_past in
+      let near = one_prepared x old done.0 between history mays.0 done.2 is_history in
       let rest = may_still may outcome (λ offset. offset.distance) lawful xs old between
       (lawful.grows x old (Ok done.0) between mays.0 done.2) mays.1 in
       let far = all_prepared xs between done.3.0 done.3.1 near.0 rest done.3.2 near.1 in
       let same : done.0 ∷ done.3.0 ≡ offsets = cc in
       let first = kept_stays near.0 far.0 (content x) (named_at done.0.distance) far.2 near.3 in (
         far.0,
-        subst (λ state. IsPast state far.0) (sym done.3.3.1) far.1,
-        extends_on past near.0 far.0 near.2 far.2,
+        subst (λ state. IsHistoryOf state far.0) (sym done.3.3.1) far.1,
+        extends_on history near.0 far.0 near.2 far.2,
         subst
             (λ (offsets : List (Offset S)).
             AllKept far.0 (map content (x ∷ xs)) (distances_of offsets)) same (first, far.3),
@@ -202,14 +202,14 @@ module _ {X S : Type 0} {may : X → State → Type 0} {outcome : X → Outcome 
       → ListHasContent all_may (λ xs. PreparesItems outcome xs)
       (λ offset. reference_item offset.distance) 4 4 (λ xs. values (map content xs))
   values_have_content each = record {
-    comes = λ xs old distance new past mays done is_past.
+    comes = λ xs old distance new history mays done is_history.
         (let put = is_put (λ xs. PreparesItems outcome xs)
         (λ (offset : Offset S). reference_item offset.distance) 4 4 xs old distance new done in
         let prepared = subst
         (λ (state : State). PreparesAll outcome xs state (Ok put.items) put.between)
         put.prepared.2 put.prepared.3 in
-        let all = all_prepared xs old put.items put.between past (each xs old mays) prepared
-        is_past in
+        let all = all_prepared xs old put.items put.between history (each xs old mays) prepared
+        is_history in
         let added = value_added (reference_list (distances_of put.items)) put.between put.got new
         all.0
         (subst (λ (all : List Entry). WritesEntries all [] put.between (Ok put.got) new)
@@ -217,7 +217,7 @@ module _ {X S : Type 0} {may : X → State → Type 0} {outcome : X → Outcome 
         (kept_lie all.0 (map content xs) (distances_of put.items) all.3) refl in (
           added.0,
           added.1,
-          extends_on past all.0 added.0 all.2 added.2,
+          extends_on history all.0 added.0 all.2 added.2,
           (
             last_of put.got,
             ap (λ d. reference d) put.at,
@@ -251,8 +251,8 @@ pub list_prepared_as : {X Y A : Type 0} {may : X → State → Type 0} {outcome 
     (λ ys. PreparesItems (λ y old answer new. outcome (of y) old answer new) ys)
     leaves size alignment (λ ys. list (map of ys))
 list_prepared_as {X} {Y} {A} {outcome = outcome} {prepares = prepares} of are lawful = record {
-  comes = λ ys old distance new past mays done is_past.
-      lawful.comes (map of ys) old distance new past mays (
+  comes = λ ys old distance new history mays done is_history.
+      lawful.comes (map of ys) old distance new history mays (
         done.0,
         done.1,
         are.one_by_one (map of ys) old done.0 done.1 mays
@@ -260,5 +260,5 @@ list_prepared_as {X} {Y} {A} {outcome = outcome} {prepares = prepares} of are la
             done.2.2
             (all_as outcome of ys done.2.1 done.0 done.1 done.2.3)),
         done.3,
-      ) is_past;
+      ) is_history;
 }

@@ -14,7 +14,7 @@ use Rattle.planus_read.specs.Bytes.{Num}
 use Rattle.planus_read.specs.Values.{Value}
 use Rattle.planus_read.specs.Stands.{Stands, at}
 use Rattle.planus_read.specs.Aligned.{AlignedAt}
-use Rattle.planus_write.specs.Past.{Past}
+use Rattle.planus_write.specs.History.{History}
 use Rattle.planus_write.specs.Parts.{text_part, byte_list_part, finish_part, identifier_bytes}
 use Rattle.planus_write.specs.Parts.{sized_finish_part}
 use Rattle.planus_write.specs.Kept.{IsKept}
@@ -64,21 +64,21 @@ pub second_number : (m n : ℕ) (rest : List ℕ) → n < 2 ^ 32
 second_number m n rest small =
     rw (eight_fit (length rest)) (ap Some (from_le_bytes-to_le_bytes_4 n small))
 
-pub kept_at_front : (past : Past) (value : Value) (distance : ℕ)
-    → length past.written.bytes ≡ distance
-    → Stands past.written.bytes (at 0) value
-    → ((front : List ℕ) → Keep past.written.promises (length (front ++ past.written.bytes))
-    → AlignedAt (front ++ past.written.bytes) (at (length front)) value)
-    → IsKept past value (record { distance = distance; tags = None })
-kept_at_front past value distance at_end there aligned = record {
+pub kept_at_front : (history : History) (value : Value) (distance : ℕ)
+    → length history.written.bytes ≡ distance
+    → Stands history.written.bytes (at 0) value
+    → ((front : List ℕ) → Keep history.written.promises (length (front ++ history.written.bytes))
+    → AlignedAt (front ++ history.written.bytes) (at (length front)) value)
+    → IsKept history value (record { distance = distance; tags = None })
+kept_at_front history value distance at_end there aligned = record {
   reached = omega (arith, at_end);
   tags_reached = tt;
-  stands = subst (λ k. Stands past.written.bytes (at k) value)
-      (let e : 0 ≡ length past.written.bytes - distance = omega (arith, at_end) in e) there;
+  stands = subst (λ k. Stands history.written.bytes (at k) value)
+      (let e : 0 ≡ length history.written.bytes - distance = omega (arith, at_end) in e) there;
   aligned = λ front keep.
-      let e : length front ≡ length front + (length past.written.bytes - distance) =
+      let e : length front ≡ length front + (length history.written.bytes - distance) =
       omega (arith, at_end) in
-      subst (λ k. AlignedAt (front ++ past.written.bytes) (at k) value) e (aligned front keep);
+      subst (λ k. AlignedAt (front ++ history.written.bytes) (at k) value) e (aligned front keep);
 }
 
 pub unpadded : (size : ℕ) (bytes_at : ℕ → List ℕ) (before after : Written)

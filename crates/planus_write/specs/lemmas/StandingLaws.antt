@@ -20,23 +20,23 @@ use Rattle.planus_write.specs.lemmas.KeptTables.{table_kept}
 use Rattle.planus_write.specs.lemmas.KeptUnions.{union_vector_kept}
 
 pub values_are_kept : ValuesAreKept
-values_are_kept switches (value.text content) before got after written all puts =
-    contents_kept texts text_part new_texts switches content before got after all puts
-values_are_kept switches (value.byte_list content) before got after written all puts =
-    contents_kept byte_lists byte_list_part new_byte_lists switches content before got after all
+values_are_kept settings (value.text content) before got after written all puts =
+    contents_kept texts text_part new_texts settings content before got after all puts
+values_are_kept settings (value.byte_list content) before got after written all puts =
+    contents_kept byte_lists byte_list_part new_byte_lists settings content before got after all
     puts
-values_are_kept switches (value.plain_list size alignment items) before got after written all puts =
-    list_kept plain_item size alignment items (value.plain_list size alignment items) switches
+values_are_kept settings (value.plain_list size alignment items) before got after written all puts =
+    list_kept plain_item size alignment items (value.plain_list size alignment items) settings
     before got after
     (plain_items size alignment (length before.written.bytes) items written) all puts
-values_are_kept switches (value.reference_list distances) before got after written all puts =
-    list_kept reference_item 4 4 distances (value.reference_list distances) switches before got
+values_are_kept settings (value.reference_list distances) before got after written all puts =
+    list_kept reference_item 4 4 distances (value.reference_list distances) settings before got
     after
     (reference_items (length before.written.bytes) distances written) all puts
-values_are_kept switches (value.union_vector items) before got after written all puts =
-    union_vector_kept switches items before got after written all puts
-values_are_kept switches (value.table entries) before got after written all puts =
-    table_kept entries switches before got after written all puts
+values_are_kept settings (value.union_vector items) before got after written all puts =
+    union_vector_kept settings items before got after written all puts
+values_are_kept settings (value.table entries) before got after written all puts =
+    table_kept entries settings before got after written all puts
 
 pub finishes_lead : FinishesLead
 finishes_lead root identifier before after inside placed =

@@ -9,11 +9,11 @@ use Rattle.planus_read.specs.Stands.{Stands, Position, at, at_both}
 use Rattle.planus_read.specs.Moves.{moved}
 use Rattle.planus_read.specs.Aligned.{AlignedAt}
 use Rattle.planus_read.proofs.Moves.{keeps_standing, rest_moves}
-use Rattle.planus_write.specs.Shared.{Kind, texts, byte_lists, vtables, Seen}
-use Rattle.planus_write.specs.Past.{Past}
+use Rattle.planus_write.specs.Shared.{Kind, texts, byte_lists, vtables, Cached}
+use Rattle.planus_write.specs.History.{History}
 use Rattle.planus_write.specs.State.{Extends}
 use Rattle.planus_write.specs.Parts.{Named, position_with, position_in}
-use Rattle.planus_write.specs.Kept.{TagsReached, IsKept, KindIsKept, SeenIsKept}
+use Rattle.planus_write.specs.Kept.{TagsReached, IsKept, KindIsKept, CachedIsKept}
 use Rattle.planus_write.specs.Standing.{KeptStays}
 use Rattle.planus_read.specs.Values as value
 
@@ -42,7 +42,7 @@ tags_further : (n m : ℕ) (tags : Option ℕ) → n ≤ m → TagsReached n tag
 tags_further n m None le reached = tt
 tags_further n m (Some tags) le reached = omega (arith, le, reached)
 
-module _ (before after : Past) (extends : Extends before after) where
+module _ (before after : History) (extends : Extends before after) where
   abbrev B : List ℕ
   B = before.written.bytes
 
@@ -116,11 +116,11 @@ module _ (before after : Past) (extends : Extends before after) where
     λ L keep. h.2 L (keep_before L keep),
   )
 
-  pub seen_stays : (seen : List Seen) → AllByRecursion (SeenIsKept before) seen
-      → AllByRecursion (SeenIsKept after) seen
-  seen_stays [] h = tt
-  seen_stays (one ∷ seen) h =
-      (kind_stays one.contents.kind one.contents.bytes one.distance h.0, seen_stays seen h.1)
+  pub cached_stays : (cached : List Cached) → AllByRecursion (CachedIsKept before) cached
+      → AllByRecursion (CachedIsKept after) cached
+  cached_stays [] h = tt
+  cached_stays (one ∷ cached) h =
+      (kind_stays one.contents.kind one.contents.bytes one.distance h.0, cached_stays cached h.1)
 
 pub kept_stays : KeptStays
 kept_stays before after value named extends kept = stays before after extends value named kept

@@ -2,7 +2,7 @@ use Rattle.std.proofs.Common.{◌≡◌, ◌-◌, ◌≤◌, drop, ap, sym, subs
 use Rattle.std.proofs.lemmas.Bool.{ltb-true, ltb-false}
 use Rattle.std.proofs.lemmas.Option.{slice_get_past, slice_get_read}
 use Rattle.std.specs.String.{string_bytes}
-use Rattle.planus_read.specs.Pieces.{slice_bytes}
+use Rattle.planus_read.specs.Slices.{slice_bytes}
 use Rattle.planus_read.specs.Places.{place_bytes, place_offset}
 use Rattle.planus_dump.specs.Events.{structs, struct_events, struct_fields_events, fixed_events}
 use Rattle.planus_dump.specs.Lines.{field_path}

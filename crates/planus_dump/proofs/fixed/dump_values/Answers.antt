@@ -1,5 +1,5 @@
 use Rattle.std.proofs.Common.{◌≡◌, ◌-◌, ◌*◌, ap, ◌∙◌, arith}
-use Rattle.planus_read.specs.Pieces.{slice_bytes}
+use Rattle.planus_read.specs.Slices.{slice_bytes}
 use Rattle.planus_read.specs.Places.{place_offset}
 use Rattle.planus_dump.specs.Events.{values_events, value_events, fixed_size}
 use Rattle.planus_dump.specs.inner.Shown.{shown, feed}

@@ -1,5 +1,5 @@
 use Rattle.std.proofs.Common.{◌≡◌, ◌-◌}
-use Rattle.planus_read.specs.Pieces.{slice_bytes}
+use Rattle.planus_read.specs.Slices.{slice_bytes}
 use Rattle.planus_read.specs.Places.{place_bytes, place_offset}
 use Rattle.planus_dump.specs.Answers.{vector_at}
 use Rattle.planus_dump.specs.Events.{values_events, fixed_list_events, fixed_size}

@@ -3,12 +3,12 @@ use Rattle.std.proofs.lemmas.Bool.{ltb-true, ltb-false}
 use Rattle.std.proofs.lemmas.Option.{slice_get_past, slice_get_read}
 use Rattle.std.specs.String.{string_bytes}
 use Rattle.planus_read.specs.declared.errors.ErrorKind.TheVariants.{UnknownUnionTag}
-use Rattle.planus_read.specs.Pieces.{slice_bytes}
+use Rattle.planus_read.specs.Slices.{slice_bytes}
 use Rattle.planus_read.specs.Places.{place_bytes, place_offset, tagged_tag, tagged_place}
 use Rattle.planus_dump.specs.Lines.{table_line, unions_line}
 use Rattle.planus_dump.specs.Tests.{fault_text}
 use Rattle.planus_dump.specs.Events.{events, line, shape_events, items_events, union_items_events, fields_events, table_events, variant_of, fault_event, stride_of}
-use Rattle.planus_dump.specs.Seeing.{IsFound, unions_seen, table_seen}
+use Rattle.planus_dump.specs.ReadingViews.{IsFound, unions_seen, table_seen}
 use Rattle.planus_dump.specs.inner.Shown.{shown, feed, step}
 use Rattle.planus_dump.proofs.Feeds.{events-more, events-none, stopped_done, all_done, items-none, union_items-none, fields-none, found_fed, field_fed, tagged_fed, union_unknown}
 use Rattle.planus_dump.proofs.walk.+walk.Goals as goal

@@ -1,9 +1,9 @@
 use Rattle.std.proofs.Common.{◌≡◌, ◌+◌, ◌-◌, ◌*◌, drop, Ok, Some}
-use Rattle.planus_read.specs.Pieces.{slice_bytes}
+use Rattle.planus_read.specs.Slices.{slice_bytes}
 use Rattle.planus_read.specs.Places.{place_bytes, place_offset}
 use Rattle.planus_dump.specs.Answers.{table_at, vector_at}
 use Rattle.planus_dump.specs.Events.{events, fields_events, items_events, union_items_events, list_events, unions_events, table_events, stride_of}
-use Rattle.planus_dump.specs.Seeing.{unions_seen, table_seen}
+use Rattle.planus_dump.specs.ReadingViews.{unions_seen, table_seen}
 use Rattle.planus_dump.specs.inner.Shown.{shown, feed}
 use Rattle.planus_dump.proofs.walk.+walk.Given as goal
 

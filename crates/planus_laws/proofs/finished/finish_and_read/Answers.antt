@@ -4,16 +4,16 @@ use Rattle.planus_laws.proofs.FieldLines.{ok_also}
 use Rattle.planus_laws.proofs.finished.finish_and_read.Goals as goal
 
 pub returns : goal.returns
-returns g c = λ before contents past writes apart.
+returns g c = λ before contents history writes apart.
     let B = c.in_ok-bytes.bytes.now in
     let gives = c.in_ok-bytes.ensures.bytes in
-    let keeps : KeptTablesStandIn B before = λ any others distance is_past is_kept are_apart.
-    let later = writes any is_past in
+    let keeps : KeptTablesStandIn B before = λ any others distance is_history is_kept are_apart.
+    let later = writes any is_history in
     c.finishes_keep_tables.ensures.root_first others later.0 c.args.builder.now distance
     c.args.root c.args.identifier B later.1
     (c.kept_tables_stay.ensures any later.0 others distance later.2 is_kept) are_apart
     c.requires gives in
     ok_also (λ view. TableHolds B contents (g.V.TableView.table view)) _ c.read_root.result
     (λ view holds. (B, gives, keeps, holds))
-    (c.read_root.ensures.written contents before c.args.builder.now c.args.root c.args.identifier past
+    (c.read_root.ensures.written contents before c.args.builder.now c.args.root c.args.identifier history
     writes c.requires gives apart)

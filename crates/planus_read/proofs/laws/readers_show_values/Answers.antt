@@ -1,5 +1,5 @@
 use Rattle.planus_read.specs.Heads.{ShowsItems}
-use Rattle.planus_read.specs.Pieces.{ShowsBytes}
+use Rattle.planus_read.specs.Slices.{ShowsBytes}
 use Rattle.planus_read.specs.Reading.{head_reading, text_reading, byte_list_reading, table_reading}
 use Rattle.planus_read.specs.SignedBytes.{ShowsSigned}
 use Rattle.planus_read.specs.SizePrefixed.{prefixed_reading, ShowsPrefixed}

@@ -3,7 +3,7 @@ use Rattle.std.proofs.Common.{◌∙◌, inl, inr, arith, length-drop}
 use Rattle.std.specs.Int.{w16}
 use Rattle.planus_read.specs.Bytes.{Num}
 use Rattle.planus_read.specs.Clauses.{AllHold, FirstBroken}
-use Rattle.planus_read.specs.Pieces.{slice_bytes}
+use Rattle.planus_read.specs.Slices.{slice_bytes}
 use Rattle.planus_read.specs.Reading.{word_clauses, object_clauses, vtable_at, vtable_size_at}
 use Rattle.planus_read.specs.declared.errors.ErrorKind.TheVariants.{InvalidLength}
 use Rattle.planus_read.proofs.Reading.{num_inside, num_value}

@@ -9,13 +9,13 @@ use std::alloc::Global;
 
 const TEXTS: &[&str] = &["Axe", "Bow", "Club"];
 
-fn is_text(piece: SliceWithStartOffset<'_>, text: &str) -> bool {
-    matches!(<&str as TableRead>::from_buffer(piece, 0), Ok(read) if read == text)
+fn is_text(slice: SliceWithStartOffset<'_>, text: &str) -> bool {
+    matches!(<&str as TableRead>::from_buffer(slice, 0), Ok(read) if read == text)
 }
 
-fn are_texts(pieces: &[SliceWithStartOffset<'_>]) -> bool {
-    for (piece, text) in pieces.iter().zip(TEXTS) {
-        if !is_text(*piece, text) {
+fn are_texts(slices: &[SliceWithStartOffset<'_>]) -> bool {
+    for (slice, text) in slices.iter().zip(TEXTS) {
+        if !is_text(*slice, text) {
             return false;
         }
     }
@@ -32,8 +32,8 @@ fn is_read(
     match stream.get(..length) {
         Some(part) => match read_all(alloc, part) {
             Ok(records) => {
-                let pieces = records.pieces.as_slice();
-                pieces.len() == count && are_texts(pieces) && records.fault == fault
+                let slices = records.slices.as_slice();
+                slices.len() == count && are_texts(slices) && records.fault == fault
             }
             Err(_) => false,
         },

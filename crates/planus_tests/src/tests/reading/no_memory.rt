@@ -1,6 +1,6 @@
 //! Every call of a reader, a slice and an error's constructor, without memory.
 
-use super::{pieces, size_prefixed, tables, traits};
+use super::{size_prefixed, slices, tables, traits};
 use crate::tests::{check, first_wrong_of, holds_without_memory, without_memory};
 use planus_read::Error;
 use planus_read::errors::{ErrorKind, UnknownEnumTagKind};
@@ -45,7 +45,7 @@ fn first_wrong() -> Option<&'static str> {
     first_wrong_of(&[
         ("the worked rows", worked_rows_are_read()),
         ("the traits", traits_answer()),
-        ("pieces", pieces::pieces_answer()),
+        ("slices", slices::slices_answer()),
         (
             "sizes in front, and identifiers",
             size_prefixed::streams_answer(),

@@ -12,10 +12,10 @@ const IDENTIFIED: [u8; 20] = [
     16, 0, 0, 0, 8, 0, 0, 0, b'T', b'E', b'S', b'T', 3, 0, 0, 0, b'A', b'x', b'e', 0,
 ];
 
-fn reads(bytes: &[u8], piece: &[u8], rest: &[u8]) -> bool {
+fn reads(bytes: &[u8], slice: &[u8], rest: &[u8]) -> bool {
     match read_size_prefixed(bytes) {
         Ok((content, behind)) => {
-            content.as_slice() == piece && content.offset_from_start() == 4 && behind == rest
+            content.as_slice() == slice && content.offset_from_start() == 4 && behind == rest
         }
         Err(_) => false,
     }

@@ -58,8 +58,8 @@ fn union_item<'buf, 'n, T: VectorReadUnion<'buf>>(
     tag: u8,
     offset: usize,
 ) -> Result<T, located::Error<'n>> {
-    let piece = SliceWithStartOffset::new(bytes, 1000);
-    <T as VectorReadUnion<'buf>>::from_buffer(piece, tag, offset)
+    let slice = SliceWithStartOffset::new(bytes, 1000);
+    <T as VectorReadUnion<'buf>>::from_buffer(slice, tag, offset)
 }
 
 fn read_root<'a, 'n, T: ReadAsRoot<'a>>(bytes: &'a [u8]) -> Result<T, located::Error<'n>> {

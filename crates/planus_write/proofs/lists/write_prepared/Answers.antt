@@ -3,9 +3,9 @@ use Rattle.std.proofs.lemmas.List.{length-map}
 use Rattle.std.proofs.lemmas.Result.{err_from_is_err_and}
 use Rattle.planus_back.specs.Padding.{greatest_place}
 use Rattle.planus_back.specs.Parts.{Part}
-use Rattle.planus_write.specs.Past.{unshared_entry}
+use Rattle.planus_write.specs.History.{unshared_entry}
 use Rattle.planus_write.specs.Parts.{items_part, count_part}
-use Rattle.planus_write.specs.Placing.{PutsDown, Refuses}
+use Rattle.planus_write.specs.Placing.{PlacesEntry, Refuses}
 use Rattle.planus_write.specs.declared.errors.BuildError.TheVariants.{TooLarge}
 use Rattle.planus_write.proofs.WrittenLists.{items_power, part_is, may_stand, refused_by_size, part_refused, count_refused, counted_written}
 use Rattle.planus_write.specs.declared.offset.List as list
@@ -51,7 +51,7 @@ returns-in_err-place g c =
     rw (p.1, p.2)
     (count_refused (items_part g.P.Primitive.SIZE g.P.Primitive.ALIGNMENT (map leaves c.args.values.now)) (length (map leaves c.args.values.now)) c.args.builder.now
     (length c.write_over.new.self.bytes) c.write_over.new.self
-    (subst (λ (part : Part). PutsDown (unshared_entry part) [] c.args.builder.now (length c.write_over.new.self.bytes) c.write_over.new.self) part c.in_ok-write_over.ensures.written)
+    (subst (λ (part : Part). PlacesEntry (unshared_entry part) [] c.args.builder.now (length c.write_over.new.self.bytes) c.write_over.new.self) part c.in_ok-write_over.ensures.written)
     (list.List g.row.P.Denot) c.in_err-place.field-0.0 c.write_count.new.self
     (subst (λ n. Refuses (unshared_entry (count_part n)) [] c.write_over.new.self c.in_err-place.field-0.0 c.write_count.new.self) (sym (length-map c.args.values.now leaves)) c.in_err-place.ensures))
 
@@ -60,8 +60,8 @@ returns g c =
     let leaves = g.T.Value.WriteAsPrimitive.leaves in
     let n_is : c.in-Some.size ≡ length c.args.values.now * g.T.VectorWrite.STRIDE = c.in-Some.ensures.1 ∙ ap (λ n. length c.args.values.now * n) c.stride.ensures in
     let part = part_is leaves g.T.Value.WriteAsPrimitive.reach c.args.values.now g.T.VectorWrite.STRIDE g.P.Primitive.SIZE g.P.Primitive.ALIGNMENT g.met.T.VectorWrite.is_size c.in-Some.size (c.items_mask.result + 1) n_is c.items_mask.ensures.greatest in
-    let put_count = subst (λ n. PutsDown (unshared_entry (count_part n)) [] c.write_over.new.self c.in_ok-place.place c.write_count.new.self) (sym (length-map c.args.values.now leaves)) c.in_ok-place.ensures in
+    let put_count = subst (λ n. PlacesEntry (unshared_entry (count_part n)) [] c.write_over.new.self c.in_ok-place.place c.write_count.new.self) (sym (length-map c.args.values.now leaves)) c.in_ok-place.ensures in
     counted_written (items_part g.P.Primitive.SIZE g.P.Primitive.ALIGNMENT (map leaves c.args.values.now)) (length (map leaves c.args.values.now)) c.args.builder.now
     (length c.write_over.new.self.bytes) c.write_over.new.self
-    (subst (λ (part : Part). PutsDown (unshared_entry part) [] c.args.builder.now (length c.write_over.new.self.bytes) c.write_over.new.self) part c.in_ok-write_over.ensures.written)
-    c.at.result c.write_count.new.self (subst (λ n. PutsDown (unshared_entry (count_part (length (map leaves c.args.values.now)))) [] c.write_over.new.self n c.write_count.new.self) (sym c.at.ensures) put_count)
+    (subst (λ (part : Part). PlacesEntry (unshared_entry part) [] c.args.builder.now (length c.write_over.new.self.bytes) c.write_over.new.self) part c.in_ok-write_over.ensures.written)
+    c.at.result c.write_count.new.self (subst (λ n. PlacesEntry (unshared_entry (count_part (length (map leaves c.args.values.now)))) [] c.write_over.new.self n c.write_count.new.self) (sym c.at.ensures) put_count)

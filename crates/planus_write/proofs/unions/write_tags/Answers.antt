@@ -1,8 +1,8 @@
 use Rattle.std.proofs.Common.{ℕ, [], length, sym, subst, refl}
 use Rattle.std.proofs.lemmas.Result.{err_from_is_err_and}
-use Rattle.planus_write.specs.Past.{unshared_entry}
+use Rattle.planus_write.specs.History.{unshared_entry}
 use Rattle.planus_write.specs.Parts.{tags_part, count_part}
-use Rattle.planus_write.specs.Placing.{PutsDown}
+use Rattle.planus_write.specs.Placing.{PlacesEntry}
 use Rattle.planus_write.proofs.WrittenLists.{count_refused, counted_written}
 use Rattle.planus_write.specs.declared.offset.List as list
 use Rattle.planus_write.proofs.unions.write_tags.Goals as goal
@@ -25,4 +25,4 @@ returns c =
     counted_written (tags_part c.args.tags.now) (length c.args.tags.now) c.args.builder.now
     (length c.write_over.new.self.bytes) c.write_over.new.self
     c.in_ok-write_over.ensures.written
-    c.at.result c.write_count.new.self (subst (λ n. PutsDown (unshared_entry (count_part (length c.args.tags.now))) [] c.write_over.new.self n c.write_count.new.self) (sym c.at.ensures) c.in_ok-place.ensures)
+    c.at.result c.write_count.new.self (subst (λ n. PlacesEntry (unshared_entry (count_part (length c.args.tags.now))) [] c.write_over.new.self n c.write_count.new.self) (sym c.at.ensures) c.in_ok-place.ensures)

@@ -12,4 +12,4 @@ returns-clause-kept g c =
     subst (λ contents. IfOk c.write.result
     (λ offset. WritesContents contents c.args.builder.now offset.distance c.write.new.builder))
     (ap (λ all. all ++ (last ++ [])) (append-nil some) ∙ ap (λ all. some ++ all) (append-nil last))
-    (if_ok c.write.result (λ offset writes past is_past. writes past [] [] is_past tt tt) c.write.ensures.kept)
+    (if_ok c.write.result (λ offset writes history is_history. writes history [] [] is_history tt tt) c.write.ensures.kept)

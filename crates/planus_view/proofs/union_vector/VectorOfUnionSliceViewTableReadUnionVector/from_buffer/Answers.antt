@@ -1,7 +1,7 @@
 use Rattle.std.proofs.Common.{◌≡◌, ℕ, ◌+◌, ◌-◌, ◌*◌, ◌≤◌, List, length, refl, ap, sym, subst, ◌∙◌}
 use Rattle.std.proofs.Common.{inl, inr, arith, length-drop}
 use Rattle.planus_read.specs.Clauses.{FirstBroken}
-use Rattle.planus_read.specs.Pieces.{slice_bytes, slice_start}
+use Rattle.planus_read.specs.Slices.{slice_bytes, slice_start}
 use Rattle.planus_read.specs.Reading.{VectorThere, items_at, count_at, union_vector_clauses}
 use Rattle.planus_read.specs.declared.errors.ErrorKind.TheVariants.{InvalidLength}
 use Rattle.planus_read.proofs.Reading.{HeadFacts, head_facts}

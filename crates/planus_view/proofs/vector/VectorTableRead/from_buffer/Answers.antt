@@ -1,5 +1,5 @@
 use Rattle.std.proofs.Common.{◌≡◌, ◌-◌, ◌*◌, length, refl, ap, ◌∙◌, inl, inr, arith, length-drop}
-use Rattle.planus_read.specs.Pieces.{slice_bytes}
+use Rattle.planus_read.specs.Slices.{slice_bytes}
 use Rattle.planus_read.specs.Reading.{count_at}
 use Rattle.planus_read.proofs.Reading.{HeadFacts, head_facts}
 use Rattle.planus_view.proofs.vector.VectorTableRead.from_buffer.Goals as goal

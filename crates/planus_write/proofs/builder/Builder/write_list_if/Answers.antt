@@ -3,7 +3,7 @@ use Rattle.std.specs.Int.{w32, to_le_bytes}
 use Rattle.std.proofs.lemmas.Result.{err_from_is_err_and}
 use Rattle.planus_back.specs.CacheKeys.{bytes_in}
 use Rattle.planus_write.specs.Parts.{byte_list_entry, byte_list_part}
-use Rattle.planus_write.specs.Placing.{PutsDown, Refuses}
+use Rattle.planus_write.specs.Placing.{PlacesEntry, Refuses}
 use Rattle.planus_write.specs.Shared.{byte_lists}
 use Rattle.planus_write.specs.inner.Sharing.{FindsOrPlans}
 use Rattle.planus_write.specs.View.{state_of}
@@ -20,10 +20,10 @@ pub find_or_plan-requires-clause-power : goal.find_or_plan-requires-clause-power
 find_or_plan-requires-clause-power g c = (2, refl)
 
 pub find_or_plan-requires-clause-fits : goal.find_or_plan-requires-clause-fits
-find_or_plan-requires-clause-fits g c = (c.self.invariant.1.seen byte_lists).fits
+find_or_plan-requires-clause-fits g c = (c.self.invariant.1.cached byte_lists).fits
 
 put : (g : given.Over) → (c : goal.After-put_planned_over g)
-    → PutsDown (byte_list_entry (g.L.ByteItems.bytes_of c.args.list.now)) [] (state_of c.self.inside) c.in-Planned.plan.place (state_of (record c.self.inside { backing = c.put_planned_over.new.self; byte_lists = c.find_or_plan.new.sharing }))
+    → PlacesEntry (byte_list_entry (g.L.ByteItems.bytes_of c.args.list.now)) [] (state_of c.self.inside) c.in-Planned.plan.place (state_of (record c.self.inside { backing = c.put_planned_over.new.self; byte_lists = c.find_or_plan.new.sharing }))
 put g c =
     let list = g.L.ByteItems.bytes_of c.args.list.now in
     let plan = c.in-Planned.plan in

@@ -2,7 +2,7 @@ use Rattle.std.proofs.Common.{◌≡◌, ◌+◌, ◌++◌, [], ◌∷◌, lengt
 use Rattle.std.proofs.lemmas.Result.{err_from_is_err_and}
 use Rattle.planus_back.specs.CacheKeys.{bytes_in}
 use Rattle.planus_write.specs.Parts.{text_entry, text_part}
-use Rattle.planus_write.specs.Placing.{PutsDown, Refuses}
+use Rattle.planus_write.specs.Placing.{PlacesEntry, Refuses}
 use Rattle.planus_write.specs.Shared.{texts}
 use Rattle.planus_write.specs.inner.Sharing.{FindsOrPlans}
 use Rattle.planus_write.specs.View.{state_of}
@@ -19,9 +19,9 @@ pub find_or_plan-requires-clause-power : goal.find_or_plan-requires-clause-power
 find_or_plan-requires-clause-power c = (2, refl)
 
 pub find_or_plan-requires-clause-fits : goal.find_or_plan-requires-clause-fits
-find_or_plan-requires-clause-fits c = (c.self.invariant.1.seen texts).fits
+find_or_plan-requires-clause-fits c = (c.self.invariant.1.cached texts).fits
 
-put : (c : goal.After-put_planned_over) → PutsDown (text_entry c.as_bytes-bytes.result.now) [] (state_of c.self.inside) c.in-Planned.plan.place (state_of (record c.self.inside { backing = c.put_planned_over.new.self; texts = c.find_or_plan.new.sharing }))
+put : (c : goal.After-put_planned_over) → PlacesEntry (text_entry c.as_bytes-bytes.result.now) [] (state_of c.self.inside) c.in-Planned.plan.place (state_of (record c.self.inside { backing = c.put_planned_over.new.self; texts = c.find_or_plan.new.sharing }))
 put c =
     let text = c.as_bytes-bytes.result.now in
     let plan = c.in-Planned.plan in

@@ -2,7 +2,7 @@ use Rattle.std.proofs.Common.{◌≡◌, ◌++◌, [], length, replicate, refl, 
 use Rattle.std.proofs.lemmas.Result.{err_from_is_err_and}
 use Rattle.planus_back.specs.CacheKeys.{vtable_in}
 use Rattle.planus_write.specs.Tables.{vtable_entry, vtable_part}
-use Rattle.planus_write.specs.Placing.{PutsDown, Refuses}
+use Rattle.planus_write.specs.Placing.{PlacesEntry, Refuses}
 use Rattle.planus_write.specs.Shared.{vtables}
 use Rattle.planus_write.specs.inner.Sharing.{FindsOrPlans}
 use Rattle.planus_write.specs.View.{state_of}
@@ -15,9 +15,9 @@ use Rattle.planus_write.proofs.PlacedParts.{begun, found_again, not_begun, new_b
 use Rattle.planus_write.proofs.builder.Builder.write_vtable_once.Goals as goal
 
 pub find_or_plan-requires-clause-fits : goal.find_or_plan-requires-clause-fits
-find_or_plan-requires-clause-fits c = (c.self.invariant.1.seen vtables).fits
+find_or_plan-requires-clause-fits c = (c.self.invariant.1.cached vtables).fits
 
-put : (c : goal.After-put_planned_over) → PutsDown (vtable_entry c.args.bytes.now) [] (state_of c.self.inside) c.in-Planned.plan.place (state_of (record c.self.inside { backing = c.put_planned_over.new.self; vtables = c.find_or_plan.new.sharing }))
+put : (c : goal.After-put_planned_over) → PlacesEntry (vtable_entry c.args.bytes.now) [] (state_of c.self.inside) c.in-Planned.plan.place (state_of (record c.self.inside { backing = c.put_planned_over.new.self; vtables = c.find_or_plan.new.sharing }))
 put c =
     let bytes = c.args.bytes.now in
     let plan = c.in-Planned.plan in

@@ -1,9 +1,9 @@
 use Rattle.std.proofs.Common.{[], ◌+◌, length}
 use Rattle.std.proofs.lemmas.Result.{err_from_is_err_and}
 use Rattle.planus_back.specs.Parts.{Part}
-use Rattle.planus_write.specs.Past.{unshared_entry}
+use Rattle.planus_write.specs.History.{unshared_entry}
 use Rattle.planus_write.specs.Parts.{filled_part}
-use Rattle.planus_write.specs.Placing.{PutsDown, Refuses}
+use Rattle.planus_write.specs.Placing.{PlacesEntry, Refuses}
 use Rattle.planus_write.specs.View.{state_of}
 use Rattle.planus_write.proofs.PlacedParts.{part_put_last, unshared_refused, still_sound, left_sound}
 use Rattle.planus_write.proofs.PlannedRoom.{makes_room}
@@ -14,7 +14,7 @@ abbrev part : (g : given.Over) → goal.After-put_planned g → Part
 part g c = filled_part c.args.size (c.args.alignment_mask + 1) (g.F.Fill.leaves c.args.filler.now)
 
 put : (g : given.Over) → (c : goal.After-put_planned g)
-    → PutsDown (unshared_entry (part g c)) [] (state_of c.self.inside) (length c.put_planned.new.self.bytes) (state_of (record c.self.inside { backing = c.put_planned.new.self }))
+    → PlacesEntry (unshared_entry (part g c)) [] (state_of c.self.inside) (length c.put_planned.new.self.bytes) (state_of (record c.self.inside { backing = c.put_planned.new.self }))
 put g c =
     let there = c.put_planned.ensures.put in
     part_put_last (part g c) c.in_ok-plan.plan.place c.self.inside.backing there.0 c.put_planned.new.self _ _

@@ -1,14 +1,14 @@
 use Rattle.std.proofs.Common.{[], refl, sym, subst}
 use Rattle.std.proofs.lemmas.Result.{err_from_is_err_and}
-use Rattle.planus_write.specs.Past.{unshared_entry}
+use Rattle.planus_write.specs.History.{unshared_entry}
 use Rattle.planus_write.specs.Tables.{word_part}
 use Rattle.planus_write.specs.inner.Backed.{PutsBytes}
-use Rattle.planus_write.specs.Placing.{PutsDown, Refuses}
+use Rattle.planus_write.specs.Placing.{PlacesEntry, Refuses}
 use Rattle.planus_write.specs.View.{state_of}
 use Rattle.planus_write.proofs.PlacedParts.{part_put, part_ends, unshared_refused, still_sound, left_sound}
 use Rattle.planus_write.proofs.builder.Builder.write_word.Goals as goal
 
-put : (c : goal.After-put) → PutsDown (unshared_entry (word_part c.args.vtable)) [] (state_of c.self.inside) c.in_ok-place.place (state_of (record c.self.inside { backing = c.put.new.self }))
+put : (c : goal.After-put) → PlacesEntry (unshared_entry (word_part c.args.vtable)) [] (state_of c.self.inside) c.in_ok-place.place (state_of (record c.self.inside { backing = c.put.new.self }))
 put c =
     part_put (word_part c.args.vtable) c.in_ok-place.place c.self.inside.backing c.make_room.new.self c.put.new.self _ _ c.in_ok-place.ensures
     refl (subst (λ bytes. PutsBytes bytes c.make_room.new.self c.put.new.self) c.word_between.ensures c.put.ensures)
@@ -21,7 +21,7 @@ returns-clause-entry c = rw (← c.self.view_is) (put c)
 
 pub returns-clause-last : goal.returns-clause-last
 returns-clause-last c =
-    sym (part_ends (word_part c.args.vtable) c.in_ok-place.place c.self.inside.backing c.make_room.new.self c.put.new.self (state_of c.self.inside).switches (state_of c.self.inside).holdings c.in_ok-place.ensures
+    sym (part_ends (word_part c.args.vtable) c.in_ok-place.place c.self.inside.backing c.make_room.new.self c.put.new.self (state_of c.self.inside).settings (state_of c.self.inside).holdings c.in_ok-place.ensures
     refl (subst (λ bytes. PutsBytes bytes c.make_room.new.self c.put.new.self) c.word_between.ensures c.put.ensures))
 
 refused : (c : goal.After-from_residual) → Refuses (unshared_entry (word_part c.args.vtable)) [] (state_of c.self.inside) c.in_err-place.field-0.0 (state_of (record c.self.inside { backing = c.make_room.new.self }))

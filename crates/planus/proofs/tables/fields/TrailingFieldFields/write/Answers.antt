@@ -32,10 +32,10 @@ returns-clause-kept g c =
     (g.R.Rest.contents c.args.others.now) (g.R.Rest.last_contents c.args.others.now)
     c.args.builder.now c.prepare.new.builder c.write.new.builder offset.distance
     (sym (append-nil (g.B.PreparedFields.there c.args.before.now))) refl
-    (λ past is_past.
+    (λ history is_history.
     let near = g.met.V.WriteAsOptional.has_content.comes c.args.self.now.value
-    c.args.builder.now value c.prepare.new.builder past c.requires.may
-    c.in_ok-value.ensures is_past in (
+    c.args.builder.now value c.prepare.new.builder history c.requires.may
+    c.in_ok-value.ensures is_history in (
       near.0,
       near.1,
       near.2,

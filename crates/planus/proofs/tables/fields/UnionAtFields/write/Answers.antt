@@ -48,10 +48,10 @@ returns-clause-kept g c =
     _ _ ((g.row.VALUE, value_content content) ∷ []) ((g.row.TAG, tag_content content) ∷ [])
     (g.R.Rest.contents c.args.others.now) (g.R.Rest.last_contents c.args.others.now)
     c.args.builder.now c.prepare.new.builder c.write.new.builder offset.distance refl refl
-    (λ past is_past.
+    (λ history is_history.
     let near = g.met.V.WriteAsOptionalUnion.has_content.comes c.args.self.now.value
-    c.args.builder.now union c.prepare.new.builder past c.requires.may
-    c.in_ok-union.ensures is_past in (
+    c.args.builder.now union c.prepare.new.builder history c.requires.may
+    c.in_ok-union.ensures is_history in (
       near.0,
       near.1,
       near.2,

@@ -54,10 +54,10 @@ returns-clause-kept g c =
     c.args.builder.now c.prepare.new.builder c.write.new.builder offset.distance
     (append_assoc (g.B.PreparedFields.there c.args.before.now) list_tags list_values)
     (sym (append-nil (g.L.PreparedFields.there c.args.last.now)))
-    (λ past is_past.
+    (λ history is_history.
     let near = g.met.V.WriteAsOptionalUnionVector.has_contents.comes c.args.self.now.value
-    c.args.builder.now vector c.prepare.new.builder past c.requires.may
-    c.in_ok-vector.ensures is_past in
+    c.args.builder.now vector c.prepare.new.builder history c.requires.may
+    c.in_ok-vector.ensures is_history in
     let tags_are = only_field near.0 g.row.TAGS (tags_content contents)
     (λ field. tags field.0.distance) c.tags_of-list_tags.result
     (subst

@@ -30,12 +30,12 @@ returns-clause-kept g c =
     (g.R.Rest.contents c.args.others.now) (g.R.Rest.last_contents c.args.others.now)
     c.args.builder.now c.prepare.new.builder c.write.new.builder offset.distance
     refl (sym (append-nil (g.L.PreparedFields.there c.args.last.now)))
-    (λ past is_past.
+    (λ history is_history.
     let near = g.met.G.Lines.PrepareFields.has_contents.comes lines
-    c.args.builder.now c.in_ok-prepared.prepared c.prepare.new.builder past c.requires.may
+    c.args.builder.now c.in_ok-prepared.prepared c.prepare.new.builder history c.requires.may
     (subst (λ lines. g.G.Lines.PrepareFields.outcome lines c.args.builder.now
     (Ok c.in_ok-prepared.prepared) c.prepare.new.builder) c.lines-lines.ensures c.in_ok-prepared.ensures)
-    is_past in (near.0, near.1, near.2, (near.3, tt)))
+    is_history in (near.0, near.1, near.2, (near.3, tt)))
     behind)
     c.write.ensures.kept
 

@@ -1,6 +1,6 @@
 use Rattle.std.proofs.Common.{◌≡◌, ℕ, ◌≤◌, List, length, drop, refl, ap, ◌∙◌, inl, inr, arith}
 use Rattle.std.proofs.Common.{length-drop}
-use Rattle.planus_read.specs.Pieces.{slice_bytes, slice_start}
+use Rattle.planus_read.specs.Slices.{slice_bytes, slice_start}
 use Rattle.planus_read.specs.Reading.{items_at, count_at}
 use Rattle.planus_read.proofs.Reading.{HeadFacts, head_facts, byte_list_answer}
 use Rattle.planus_read.proofs.impls.byte_slice.RefSliceU8TableRead.from_buffer.Goals as goal

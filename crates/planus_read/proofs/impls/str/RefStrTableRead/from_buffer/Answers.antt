@@ -1,4 +1,4 @@
-use Rattle.planus_read.specs.Pieces.{slice_bytes, slice_start}
+use Rattle.planus_read.specs.Slices.{slice_bytes, slice_start}
 use Rattle.planus_read.proofs.Reading.{text_answer}
 use Rattle.planus_read.proofs.impls.str.RefStrTableRead.from_buffer.Goals as goal
 

@@ -11,7 +11,7 @@ use Rattle.planus_read.specs.Stands.{Stands, ReferenceStands}
 use Rattle.planus_read.specs.Aligned.{AlignedAt}
 use Rattle.planus_read.specs.ReadsBack.{ReadsBack, ReferenceReads}
 use Rattle.planus_read.specs.SizePrefixed.{IsPrefixed}
-use Rattle.planus_write.specs.Shared.{Switches}
+use Rattle.planus_write.specs.Shared.{CacheSettings}
 use Rattle.planus_write.specs.Parts.{identifier_bytes, position_in}
 use Rattle.planus_write.specs.Kept.{TagsReached}
 use Rattle.planus.specs.Steps.{Step, Front, root_first, size_first, finish}
@@ -41,14 +41,14 @@ root_at root_first = 0
 root_at size_first = 4
 
 -- the same in the bytes after the size
-pub record ValueInPiece (steps : List Step) (places : List Listed) (piece : List ℕ) (one : Listed)
+pub record ValueInSlice (steps : List Step) (places : List Listed) (slice : List ℕ) (one : Listed)
     : Type 0 where
   pub step : Step
   pub value : Value
   pub there : slice_get steps one.step ≡ Some step
   pub is_value : value_of places step ≡ Some value
-  pub stands : Stands piece (position_in piece one.named) value
-  pub reads_back : ReadsBack piece (position_in piece one.named) value
+  pub stands : Stands slice (position_in slice one.named) value
+  pub reads_back : ReadsBack slice (position_in slice one.named) value
 
 -- A size-prefixed finish: the size counts the bytes that follow, where all values hold, except for
 -- their alignment.
@@ -58,7 +58,7 @@ pub record SizedHolds (steps : List Step) (root : ℕ) (identifier : Option (Lis
   pub leads : (distance : ℕ) × (value_at given.places root ≡ Some distance)
       × ReferenceStands (drop 4 given.bytes) 0 distance × ReferenceReads given.bytes 4 0 distance
   pub identified : BytesStand (drop 4 given.bytes) 4 (identifier_bytes identifier)
-  pub values : AllByRecursion (ValueInPiece steps given.places (drop 4 given.bytes)) given.places
+  pub values : AllByRecursion (ValueInSlice steps given.places (drop 4 given.bytes)) given.places
 
 -- the same by front: without a size nothing more is said
 abbrev pub HoldsBySize : Front → List Step → ℕ → Option (List ℕ) → Finish → Type 0
@@ -69,23 +69,23 @@ HoldsBySize size_first steps root identifier given = SizedHolds steps root ident
 -- identifier follows, every alignment is kept, and the bytes are the fewest.
 -- The format: a buffer begins with a reference to its root; four bytes that identify the file may
 -- follow.
-pub record FinishHolds (switches : Switches) (steps : List Step) (given : Finish) : Type 0 where
+pub record FinishHolds (settings : CacheSettings) (steps : List Step) (given : Finish) : Type 0 where
   pub number : ℕ
   pub front : Front
   pub root : ℕ
   pub identifier : Option (List ℕ)
   pub step : slice_get steps number ≡ Some (finish front root identifier)
   pub state : State
-  pub run : LeadsTo switches nothing_written (take (number + 1) steps) state
-  pub bytes : given.bytes ≡ state.past.written.bytes
+  pub run : LeadsTo settings nothing_written (take (number + 1) steps) state
+  pub bytes : given.bytes ≡ state.history.written.bytes
   pub places : given.places ≡ state.listed
   pub values : AllByRecursion (ValueHolds steps given) given.places
   pub leads : (distance : ℕ) × (value_at given.places root ≡ Some distance)
       × ReferenceStands given.bytes (root_at front) distance
   pub identified : BytesStand given.bytes (root_at front + 4) (identifier_bytes identifier)
   pub sized : HoldsBySize front steps root identifier given
-  pub keeps : Keep state.past.written.promises (length given.bytes)
-  pub fewest : IsFewest state.past.parts state.past.places given.bytes
+  pub keeps : Keep state.history.written.promises (length given.bytes)
+  pub fewest : IsFewest state.history.parts state.history.places given.bytes
 
 -- whether a step is a finish
 abbrev pub is_finish : Step → Bool
@@ -102,15 +102,15 @@ finishes_from n (step ∷ steps) =
 abbrev pub finishes_of : List Step → List ℕ
 finishes_of steps = finishes_from 0 steps
 
-pub record IsFinishOf (switches : Switches) (steps : List Step) (number : ℕ)
+pub record IsFinishOf (settings : CacheSettings) (steps : List Step) (number : ℕ)
     (given : Finish) : Type 0 where
-  pub holds : FinishHolds switches steps given
+  pub holds : FinishHolds settings steps given
   pub of_step : holds.number ≡ number
 
 -- one finish for each number, in order
-abbrev pub AreFinishesOf : Switches → List Step → List ℕ → List Finish → Type 0
-AreFinishesOf switches steps [] [] = ⊤
-AreFinishesOf switches steps (number ∷ numbers) (given ∷ finished) =
-    IsFinishOf switches steps number given × AreFinishesOf switches steps numbers finished
-AreFinishesOf switches steps [] (given ∷ finished) = ⊥
-AreFinishesOf switches steps (number ∷ numbers) [] = ⊥
+abbrev pub AreFinishesOf : CacheSettings → List Step → List ℕ → List Finish → Type 0
+AreFinishesOf settings steps [] [] = ⊤
+AreFinishesOf settings steps (number ∷ numbers) (given ∷ finished) =
+    IsFinishOf settings steps number given × AreFinishesOf settings steps numbers finished
+AreFinishesOf settings steps [] (given ∷ finished) = ⊥
+AreFinishesOf settings steps (number ∷ numbers) [] = ⊥

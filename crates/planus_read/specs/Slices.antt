@@ -20,10 +20,10 @@ array_start s = s.offset_from_start
 
 -- the slice is s from this number of bytes on
 pub record IsAdvanced
-    (s : SliceWithStartOffset) (amount : ℕ) (piece : SliceWithStartOffset) : Type 0 where
+    (s : SliceWithStartOffset) (amount : ℕ) (slice : SliceWithStartOffset) : Type 0 where
   pub inside : amount ≤ length (slice_bytes s)
-  pub bytes : slice_bytes piece ≡ drop amount (slice_bytes s)
-  pub start : slice_start piece ≡ slice_start s + amount
+  pub bytes : slice_bytes slice ≡ drop amount (slice_bytes s)
+  pub start : slice_start slice ≡ slice_start s + amount
 
 -- the N bytes at this offset
 pub record IsArrayAt

@@ -3,20 +3,20 @@
 use std::hash::{BuildHasher, Hasher};
 
 #[derive(Clone, Copy)]
-pub struct Handed {
+pub struct IdentityHasher {
     number: u64,
 }
 
-impl Handed {
-    pub(crate) fn new() -> Handed {
-        Handed { number: 0 }
+impl IdentityHasher {
+    pub(crate) fn new() -> IdentityHasher {
+        IdentityHasher { number: 0 }
     }
 }
 
-impl Hasher for Handed {
-    ghost use Rattle.planus_back.specs.inner.Handing.{handed};
+impl Hasher for IdentityHasher {
+    ghost use Rattle.planus_back.specs.inner.IdentityHashes.{after_write};
 
-    ghost write = { handed };
+    ghost write = { after_write };
 
     ghost finish = { λ state. state.number };
 
@@ -33,13 +33,13 @@ impl Hasher for Handed {
     }
 }
 
-impl BuildHasher for Handed {
-    type Hasher = Handed;
+impl BuildHasher for IdentityHasher {
+    type Hasher = IdentityHasher;
 
     ghost build_hasher = { λ state. state };
 
     #[inline]
-    fn build_hasher(&self) -> Handed {
+    fn build_hasher(&self) -> IdentityHasher {
         *self
     }
 }

@@ -3,31 +3,31 @@ use planus_read::{ArrayWithStartOffset, SliceWithStartOffset};
 
 const EIGHT: [u8; 8] = [1, 2, 3, 4, 5, 6, 7, 8];
 
-fn pieces_advance() -> bool {
-    let piece = SliceWithStartOffset::new(&EIGHT, 16);
-    let (Ok(rest), Ok(none)) = (piece.advance(3), piece.advance(8)) else {
+fn slices_advance() -> bool {
+    let slice = SliceWithStartOffset::new(&EIGHT, 16);
+    let (Ok(rest), Ok(none)) = (slice.advance(3), slice.advance(8)) else {
         return false;
     };
     (rest.offset_from_start(), rest.len()) == (19, 5)
         && rest.as_slice() == [4, 5, 6, 7, 8].as_slice()
         && none.is_empty()
-        && matches!(piece.advance(9), Err(ErrorKind::InvalidOffset))
+        && matches!(slice.advance(9), Err(ErrorKind::InvalidOffset))
 }
 
-fn pieces_give_arrays(max: usize) -> bool {
-    let piece = SliceWithStartOffset::new(&EIGHT, 16);
-    let Ok(array) = piece.advance_as_array::<4>(4) else {
+fn slices_give_arrays(max: usize) -> bool {
+    let slice = SliceWithStartOffset::new(&EIGHT, 16);
+    let Ok(array) = slice.advance_as_array::<4>(4) else {
         return false;
     };
     array.offset_from_start() == 20
         && *array.as_array() == [5, 6, 7, 8]
-        && *piece.unchecked_advance_as_array::<2>(6).as_array() == [7, 8]
+        && *slice.unchecked_advance_as_array::<2>(6).as_array() == [7, 8]
         && matches!(
-            piece.advance_as_array::<4>(max),
+            slice.advance_as_array::<4>(max),
             Err(ErrorKind::InvalidOffset)
         )
         && matches!(
-            piece.advance_as_array::<4>(5),
+            slice.advance_as_array::<4>(5),
             Err(ErrorKind::InvalidOffset)
         )
 }
@@ -49,6 +49,6 @@ fn arrays_give_arrays(max: usize) -> bool {
         )
 }
 
-pub fn pieces_answer() -> bool {
-    pieces_advance() && pieces_give_arrays(usize::MAX) && arrays_give_arrays(usize::MAX)
+pub fn slices_answer() -> bool {
+    slices_advance() && slices_give_arrays(usize::MAX) && arrays_give_arrays(usize::MAX)
 }

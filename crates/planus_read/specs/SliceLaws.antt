@@ -13,19 +13,19 @@ ReferencesLead =
     → Leads B f (position_of B distance)
 
 -- In a slice it leads to the same byte.
-abbrev pub LeadsInPieces : Type 0
-LeadsInPieces =
+abbrev pub LeadsInSlices : Type 0
+LeadsInSlices =
     (B : List ℕ) (start f k : ℕ) → Leads B (start + f) (start + k) → Leads (drop start B) f k
 
 -- A field is encoded in a slice.
-abbrev pub FieldsStandInPieces : Type 0
-FieldsStandInPieces =
+abbrev pub FieldsStandInSlices : Type 0
+FieldsStandInSlices =
     (B : List ℕ) (start f : ℕ) (field : Field) → start ≤ length B → FieldStands B (start + f) field
     → FieldStands (drop start B) f field
 
 -- A value is encoded in a slice.
-abbrev pub StandsInPieces : Type 0
-StandsInPieces =
+abbrev pub StandsInSlices : Type 0
+StandsInSlices =
     (B : List ℕ) (start : ℕ) (p : Position) (v : Value) → start ≤ length B
     → Stands B (moved start p) v
     → Stands (drop start B) p v
