@@ -5,8 +5,8 @@ use Rattle.std.specs.List.{position_or_len}
 use Rattle.std.specs.Fmt.{decimal}
 use Rattle.planus_syntax.specs.declared.lexer.LexFault.{LexFault}
 use Rattle.planus_syntax.specs.declared.lexer.LexFault.TheVariants as lex
-use Rattle.planus_syntax.specs.declared.parse.ParseFault.{ParseFault}
-use Rattle.planus_syntax.specs.declared.parse.ParseFault.TheVariants as parse
+use Rattle.planus_syntax.specs.declared.parse_fault.ParseFault.{ParseFault}
+use Rattle.planus_syntax.specs.declared.parse_fault.ParseFault.TheVariants as parse
 
 abbrev pub is_feed : ℕ → Bool
 is_feed b = b == 10

@@ -2,7 +2,7 @@
 use Rattle.std.proofs.Common.{◌≡◌, ℕ, List, [], Ok, Err, sym, ap, ◌∙◌}
 use Rattle.std.specs.Global.{Vec}
 use Rattle.planus_syntax.specs.declared.value.Declaration.{Declaration}
-use Rattle.planus_syntax.specs.declared.parse.ParseFault.{ParseFault}
+use Rattle.planus_syntax.specs.declared.parse_fault.ParseFault.{ParseFault}
 use Rattle.planus_syntax.specs.declared.lexer.LexFault.{LexFault}
 use Rattle.planus_syntax.specs.Tokens.{Piece}
 use Rattle.planus_syntax.specs.Values.{DeclarationV, AreWhole, IsSchema, schema_of, schema_pieces, text_of}

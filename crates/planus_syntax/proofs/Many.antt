@@ -3,8 +3,8 @@ use Rattle.std.proofs.Common.{◌≡◌, ℕ, zero, suc, ◌≤◌, ◌<◌, Boo
 use Rattle.std.specs.List.{AllByRecursion}
 use Rattle.std.proofs.lemmas.List.{append-nil}
 use Rattle.planus_syntax.specs.Values.{Before, each_before}
-use Rattle.planus_syntax.specs.declared.parse.ReadError.{ReadError}
-use Rattle.planus_syntax.specs.declared.parse.ReadError.TheVariants as errors
+use Rattle.planus_syntax.specs.declared.read_error.ReadError.{ReadError}
+use Rattle.planus_syntax.specs.declared.read_error.ReadError.TheVariants as errors
 use Rattle.planus_syntax.specs.Tokens.{Piece}
 use Rattle.planus_syntax.specs.Reading.{Fault, Reads, ◌>>=◌, Fails, many, list_at, with_items}
 

@@ -1,7 +1,7 @@
 -- Steps of reading, one after the other.
 use Rattle.std.proofs.Common.{◌≡◌, Bool, true, false, cond, Result, Ok, refl, sym, ap, subst, ◌∙◌}
-use Rattle.planus_syntax.specs.declared.parse.ReadError.{ReadError}
-use Rattle.planus_syntax.specs.declared.parse.ReadError.TheVariants as errors
+use Rattle.planus_syntax.specs.declared.read_error.ReadError.{ReadError}
+use Rattle.planus_syntax.specs.declared.read_error.ReadError.TheVariants as errors
 use Rattle.planus_syntax.specs.Reading.{Fault, ◌>>=◌, Fails, Gives}
 
 pub fails_here : {A B : Type 0} (e : ReadError) (r : Result A Fault) (f : A → Result B Fault) → Fails e r → Fails e (r >>= f)

@@ -4,10 +4,10 @@ use Rattle.std.specs.Prelude.{◌≡◌, ℕ, zero, suc, Bool, true, false, not,
 use Rattle.std.specs.Prelude.{◌++◌, length, codes, Option, Some, None, Result, Ok, Err}
 use Rattle.std.specs.Prelude.{if◌then◌else◌}
 use Rattle.std.specs.Str.{bytes_eq}
-use Rattle.planus_syntax.specs.declared.parse.ParseFault.{ParseFault}
-use Rattle.planus_syntax.specs.declared.parse.ParseFault.TheVariants as fault
-use Rattle.planus_syntax.specs.declared.parse.ReadError.{ReadError}
-use Rattle.planus_syntax.specs.declared.parse.ReadError.TheVariants as errors
+use Rattle.planus_syntax.specs.declared.parse_fault.ParseFault.{ParseFault}
+use Rattle.planus_syntax.specs.declared.parse_fault.ParseFault.TheVariants as fault
+use Rattle.planus_syntax.specs.declared.read_error.ReadError.{ReadError}
+use Rattle.planus_syntax.specs.declared.read_error.ReadError.TheVariants as errors
 use Rattle.planus_syntax.specs.Tokens.{Piece, word, number, text, doc, mark}
 use Rattle.planus_syntax.specs.Layout.{is_mark_of}
 use Rattle.planus_syntax.specs.Values.{Name, PathV, KindV, single, vector, LiteralV, numeral, named}

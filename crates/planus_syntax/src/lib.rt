@@ -8,6 +8,8 @@ mod layout;
 mod lexer;
 mod number;
 mod parse;
+mod parse_fault;
+mod read_error;
 mod run;
 mod text;
 mod token;
@@ -15,7 +17,7 @@ mod value;
 
 pub use laws::{declarations_again, layout_spells, one_schema, spelling_found, spelling_read};
 pub use lexer::LexFault;
-pub use parse::ParseFault;
+pub use parse_fault::ParseFault;
 pub use text::{SchemaError, format_text, parse_text, place_from_end};
 pub use value::{
     Attribute, Declaration, Enumeration, Field, Item, Kind, Label, Literal, Member, Method, Path,

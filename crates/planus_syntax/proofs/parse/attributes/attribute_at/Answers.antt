@@ -1,0 +1,16 @@
+use Rattle.std.proofs.Common.{refl}
+use Rattle.planus_syntax.specs.Reading.{attribute_at}
+use Rattle.planus_syntax.proofs.Steps.{fails_here, fails_later, reads_on}
+use Rattle.planus_syntax.proofs.parse.attributes.attribute_at.Goals as goal
+
+pub returns-in-Err : goal.returns-in-Err
+unfolding attribute_at
+returns-in-Err c = fails_here _ _ _ c.in-Err.ensures
+
+pub returns-in-Err-literal_after : goal.returns-in-Err-literal_after
+unfolding attribute_at
+returns-in-Err-literal_after c = fails_later _ _ _ _ c.in-Ok.ensures (fails_here _ _ _ c.in-Err-literal_after.ensures)
+
+pub returns : goal.returns
+unfolding attribute_at
+returns c = reads_on _ _ _ _ c.in-Ok.ensures (reads_on _ _ _ _ c.in-Ok-literal_after.ensures refl)

@@ -1,0 +1,128 @@
+//! Documentation and attributes.
+
+ghost use Rattle.std.specs.Prelude.{◌∷◌, [], map};
+ghost use Rattle.std.specs.Option.{option_map};
+ghost use Rattle.planus_syntax.specs.Tokens.{pieces_of};
+ghost use Rattle.planus_syntax.specs.Values.{names_of, path_of, attribute_of, digits_of};
+ghost use Rattle.planus_syntax.specs.Reading.{Gives, list_at, optional_at, with_items};
+ghost use Rattle.planus_syntax.specs.Reading.{begins_mark as begins_mark_lem};
+ghost use Rattle.planus_syntax.specs.Reading.{begins_doc as begins_doc_lem, doc_at as doc_at_lem};
+ghost use Rattle.planus_syntax.specs.Reading.{number_at as number_at_lem, path_at as path_at_lem};
+ghost use Rattle.planus_syntax.specs.Reading.{attribute_at as attribute_at_lem};
+ghost use Rattle.planus_syntax.specs.Reading.{next_attribute_at as next_attribute_at_lem};
+ghost use Rattle.planus_syntax.specs.Reading.{attributes_at as attributes_at_lem};
+
+use crate::parse::literals::literal_after;
+use crate::parse::paths::path_at;
+use crate::parse::tokens::{
+    after_mark, begins_doc, begins_mark, doc_at, label_at, mark_at, number_at,
+};
+use crate::read_error::ReadError;
+use crate::token::Token;
+use crate::value::{Attribute, Path};
+use std::alloc::Global;
+
+pub(crate) fn value_at(
+    alloc: Global,
+    tokens: &[Token],
+) -> Result<(Option<Vec<u8>>, &[Token]), ReadError>
+    ensures { Gives (λ x. (digits_of x.0, pieces_of x.1.now)) result
+        (optional_at 61 number_at_lem (pieces_of tokens.now)) }
+{
+    match after_mark(tokens, b'=') {
+        Some(rest) => {
+            let (value, rest) = read!(number_at(alloc, rest));
+            Ok((Some(value), rest))
+        }
+        None => Ok((None, tokens)),
+    }
+}
+
+pub(crate) fn target_at(
+    alloc: Global,
+    tokens: &[Token],
+) -> Result<(Option<Path>, &[Token]), ReadError>
+    ensures { Gives (λ x. (option_map path_of x.0, pieces_of x.1.now)) result
+        (optional_at 58 path_at_lem (pieces_of tokens.now)) }
+{
+    match after_mark(tokens, b':') {
+        Some(rest) => {
+            let (value, rest) = read!(path_at(alloc, rest));
+            Ok((Some(value), rest))
+        }
+        None => Ok((None, tokens)),
+    }
+}
+
+fn attribute_at(alloc: Global, tokens: &[Token]) -> Result<(Attribute, &[Token]), ReadError>
+    ensures { Gives (λ x. (attribute_of x.0, pieces_of x.1.now)) result
+        (attribute_at_lem (pieces_of tokens.now)) }
+{
+    let (label, rest) = read!(label_at(alloc, tokens));
+    let (value, rest) = read!(literal_after(alloc, b':', rest));
+    Ok((Attribute { label, value }, rest))
+}
+
+fn next_attribute_at(alloc: Global, tokens: &[Token]) -> Result<(Attribute, &[Token]), ReadError>
+    ensures { Gives (λ x. (attribute_of x.0, pieces_of x.1.now)) result
+        (next_attribute_at_lem (pieces_of tokens.now)) }
+{
+    let rest = read!(mark_at(tokens, b','));
+    attribute_at(alloc, rest)
+}
+
+fn more_attributes(
+    alloc: Global,
+    first: Attribute,
+    tokens: &[Token],
+) -> Result<(Vec<Attribute>, &[Token]), ReadError>
+    ensures { Gives (λ x. (map attribute_of x.0.items, pieces_of x.1.now)) result
+        (with_items (attribute_of first ∷ [])
+        (list_at (begins_mark_lem 44) next_attribute_at_lem (pieces_of tokens.now))) }
+{
+    let mut items = Vec::new(alloc);
+    items.push(first)?;
+    let mut rest = tokens;
+    'items: while begins_mark(rest, b',') {
+        let (item, after) = read!(next_attribute_at(alloc, rest));
+        items.push(item)?;
+        rest = after;
+    }
+    Ok((items, rest))
+}
+
+#[tactic(auto, unfolding(crate::specs::Reading::attributes_at))]
+pub(crate) fn attributes_at(
+    alloc: Global,
+    tokens: &[Token],
+) -> Result<(Vec<Attribute>, &[Token]), ReadError>
+    ensures { Gives (λ x. (map attribute_of x.0.items, pieces_of x.1.now)) result
+        (attributes_at_lem (pieces_of tokens.now)) }
+{
+    match after_mark(tokens, b'(') {
+        Some(rest) => {
+            let (first, rest) = read!(attribute_at(alloc, rest));
+            let (items, rest) = read!(more_attributes(alloc, first, rest));
+            let rest = read!(mark_at(rest, b')'));
+            Ok((items, rest))
+        }
+        None => Ok((Vec::new(alloc), tokens)),
+    }
+}
+
+pub(crate) fn docs_at(
+    alloc: Global,
+    tokens: &[Token],
+) -> Result<(Vec<Vec<u8>>, &[Token]), ReadError>
+    ensures { Gives (λ x. (names_of x.0.items, pieces_of x.1.now)) result
+        (list_at begins_doc_lem doc_at_lem (pieces_of tokens.now)) }
+{
+    let mut items = Vec::new(alloc);
+    let mut rest = tokens;
+    'items: while begins_doc(rest) {
+        let (item, after) = read!(doc_at(alloc, rest));
+        items.push(item)?;
+        rest = after;
+    }
+    Ok((items, rest))
+}

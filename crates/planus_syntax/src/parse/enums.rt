@@ -1,0 +1,108 @@
+//! Enums.
+
+ghost use Rattle.std.specs.Prelude.{◌∷◌, [], map};
+ghost use Rattle.planus_syntax.specs.Tokens.{pieces_of};
+ghost use Rattle.planus_syntax.specs.Values.{variant_of, item_of};
+ghost use Rattle.planus_syntax.specs.Values.{enumeration as enumeration_item};
+ghost use Rattle.planus_syntax.specs.Reading.{Gives, list_at, with_items, as_item};
+ghost use Rattle.planus_syntax.specs.Reading.{begins_next as begins_next_lem};
+ghost use Rattle.planus_syntax.specs.Reading.{comma_at as comma_at_lem};
+ghost use Rattle.planus_syntax.specs.Reading.{variant_at as variant_at_lem};
+ghost use Rattle.planus_syntax.specs.Reading.{next_variant_at as next_variant_at_lem};
+ghost use Rattle.planus_syntax.specs.Reading.{variants_at as variants_at_lem};
+ghost use Rattle.planus_syntax.specs.Reading.{enumeration_at as enumeration_at_lem};
+
+use crate::parse::attributes::{attributes_at, docs_at, value_at};
+use crate::parse::paths::path_at;
+use crate::parse::tokens::{after_mark, begins_next, mark_at, word_at};
+use crate::read_error::ReadError;
+use crate::token::Token;
+use crate::value::{Enumeration, Item, Variant};
+use std::alloc::Global;
+
+pub(crate) fn comma_at(tokens: &[Token]) -> Result<(bool, &[Token]), ReadError>
+    ensures { Gives (λ x. (x.0, pieces_of x.1.now)) result (comma_at_lem (pieces_of tokens.now)) }
+{
+    match after_mark(tokens, b',') {
+        Some(rest) => Ok((true, rest)),
+        None => Ok((false, tokens)),
+    }
+}
+
+fn variant_at(alloc: Global, tokens: &[Token]) -> Result<(Variant, &[Token]), ReadError>
+    ensures { Gives (λ x. (variant_of x.0, pieces_of x.1.now)) result
+        (variant_at_lem (pieces_of tokens.now)) }
+{
+    let (docs, start) = read!(docs_at(alloc, tokens));
+    let (name, rest) = read!(word_at(alloc, start));
+    let (value, rest) = read!(value_at(alloc, rest));
+    Ok((
+        Variant {
+            docs,
+            left: start.len(),
+            name,
+            value,
+        },
+        rest,
+    ))
+}
+
+fn next_variant_at(alloc: Global, tokens: &[Token]) -> Result<(Variant, &[Token]), ReadError>
+    ensures { Gives (λ x. (variant_of x.0, pieces_of x.1.now)) result
+        (next_variant_at_lem (pieces_of tokens.now)) }
+{
+    let rest = read!(mark_at(tokens, b','));
+    variant_at(alloc, rest)
+}
+
+fn more_variants(
+    alloc: Global,
+    first: Variant,
+    tokens: &[Token],
+) -> Result<(Vec<Variant>, &[Token]), ReadError>
+    ensures { Gives (λ x. (map variant_of x.0.items, pieces_of x.1.now)) result
+        (with_items (variant_of first ∷ [])
+        (list_at begins_next_lem next_variant_at_lem (pieces_of tokens.now))) }
+{
+    let mut items = Vec::new(alloc);
+    items.push(first)?;
+    let mut rest = tokens;
+    'items: while begins_next(rest) {
+        let (item, after) = read!(next_variant_at(alloc, rest));
+        items.push(item)?;
+        rest = after;
+    }
+    Ok((items, rest))
+}
+
+fn variants_at(alloc: Global, tokens: &[Token]) -> Result<(Vec<Variant>, &[Token]), ReadError>
+    ensures { Gives (λ x. (map variant_of x.0.items, pieces_of x.1.now)) result
+        (variants_at_lem (pieces_of tokens.now)) }
+{
+    let (first, rest) = read!(variant_at(alloc, tokens));
+    more_variants(alloc, first, rest)
+}
+
+pub(crate) fn enumeration_at(alloc: Global, tokens: &[Token]) -> Result<(Item, &[Token]), ReadError>
+    ensures { Gives (λ x. (item_of x.0, pieces_of x.1.now)) result
+        (as_item enumeration_item (enumeration_at_lem (pieces_of tokens.now))) }
+{
+    let (name, rest) = read!(word_at(alloc, tokens));
+    let rest = read!(mark_at(rest, b':'));
+    let (base, rest) = read!(path_at(alloc, rest));
+    let (attributes, rest) = read!(attributes_at(alloc, rest));
+    let rest = read!(mark_at(rest, b'{'));
+    let (variants, rest) = read!(variants_at(alloc, rest));
+    let (comma, rest) = read!(comma_at(rest));
+    let rest = read!(mark_at(rest, b'}'));
+    Ok((
+        Item::Enum(Enumeration {
+            name,
+            base,
+            attributes,
+            variants,
+            comma,
+        }),
+        rest,
+    ))
+}

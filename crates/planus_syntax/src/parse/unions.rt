@@ -1,0 +1,96 @@
+//! Unions.
+
+ghost use Rattle.std.specs.Prelude.{◌∷◌, [], map};
+ghost use Rattle.planus_syntax.specs.Tokens.{pieces_of};
+ghost use Rattle.planus_syntax.specs.Values.{member_of, item_of, union as union_item};
+ghost use Rattle.planus_syntax.specs.Reading.{Gives, list_at, with_items, as_item};
+ghost use Rattle.planus_syntax.specs.Reading.{begins_next as begins_next_lem};
+ghost use Rattle.planus_syntax.specs.Reading.{member_at as member_at_lem};
+ghost use Rattle.planus_syntax.specs.Reading.{next_member_at as next_member_at_lem};
+ghost use Rattle.planus_syntax.specs.Reading.{members_at as members_at_lem};
+ghost use Rattle.planus_syntax.specs.Reading.{union_at as union_at_lem};
+
+use crate::parse::attributes::{attributes_at, docs_at, target_at, value_at};
+use crate::parse::enums::comma_at;
+use crate::parse::paths::path_at;
+use crate::parse::tokens::{begins_next, mark_at, word_at};
+use crate::read_error::ReadError;
+use crate::token::Token;
+use crate::value::{Item, Member, UnionBody};
+use std::alloc::Global;
+
+fn member_at(alloc: Global, tokens: &[Token]) -> Result<(Member, &[Token]), ReadError>
+    ensures { Gives (λ x. (member_of x.0, pieces_of x.1.now)) result
+        (member_at_lem (pieces_of tokens.now)) }
+{
+    let (docs, rest) = read!(docs_at(alloc, tokens));
+    let (path, rest) = read!(path_at(alloc, rest));
+    let (target, rest) = read!(target_at(alloc, rest));
+    let (value, rest) = read!(value_at(alloc, rest));
+    Ok((
+        Member {
+            docs,
+            path,
+            target,
+            value,
+        },
+        rest,
+    ))
+}
+
+fn next_member_at(alloc: Global, tokens: &[Token]) -> Result<(Member, &[Token]), ReadError>
+    ensures { Gives (λ x. (member_of x.0, pieces_of x.1.now)) result
+        (next_member_at_lem (pieces_of tokens.now)) }
+{
+    let rest = read!(mark_at(tokens, b','));
+    member_at(alloc, rest)
+}
+
+fn more_members(
+    alloc: Global,
+    first: Member,
+    tokens: &[Token],
+) -> Result<(Vec<Member>, &[Token]), ReadError>
+    ensures { Gives (λ x. (map member_of x.0.items, pieces_of x.1.now)) result
+        (with_items (member_of first ∷ [])
+        (list_at begins_next_lem next_member_at_lem (pieces_of tokens.now))) }
+{
+    let mut items = Vec::new(alloc);
+    items.push(first)?;
+    let mut rest = tokens;
+    'items: while begins_next(rest) {
+        let (item, after) = read!(next_member_at(alloc, rest));
+        items.push(item)?;
+        rest = after;
+    }
+    Ok((items, rest))
+}
+
+fn members_at(alloc: Global, tokens: &[Token]) -> Result<(Vec<Member>, &[Token]), ReadError>
+    ensures { Gives (λ x. (map member_of x.0.items, pieces_of x.1.now)) result
+        (members_at_lem (pieces_of tokens.now)) }
+{
+    let (first, rest) = read!(member_at(alloc, tokens));
+    more_members(alloc, first, rest)
+}
+
+pub(crate) fn union_at(alloc: Global, tokens: &[Token]) -> Result<(Item, &[Token]), ReadError>
+    ensures { Gives (λ x. (item_of x.0, pieces_of x.1.now)) result
+        (as_item union_item (union_at_lem (pieces_of tokens.now))) }
+{
+    let (name, rest) = read!(word_at(alloc, tokens));
+    let (attributes, rest) = read!(attributes_at(alloc, rest));
+    let rest = read!(mark_at(rest, b'{'));
+    let (members, rest) = read!(members_at(alloc, rest));
+    let (comma, rest) = read!(comma_at(rest));
+    let rest = read!(mark_at(rest, b'}'));
+    Ok((
+        Item::Union(UnionBody {
+            name,
+            attributes,
+            members,
+            comma,
+        }),
+        rest,
+    ))
+}
