@@ -3,8 +3,8 @@
 use crate::at::At;
 use crate::printer::Printer;
 use crate::shares::{GROUP, MOST, are_many, share_of};
-use crate::types::{has_default, is_borrowed, is_union};
-use planus_plan::Line;
+use crate::types::{has_default, is_union};
+use planus_plan::{Line, is_borrowed};
 use std::alloc::{AllocError, Global};
 
 /// The fields of a group.

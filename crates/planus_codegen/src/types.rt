@@ -6,11 +6,6 @@ pub(crate) fn is_bytes(kind: FieldType) -> bool {
     kind.vector && kind.base == Base::Scalar(Scalar::UByte)
 }
 
-/// Whether the argument of a field borrows.
-pub(crate) fn is_borrowed(kind: FieldType) -> bool {
-    kind.vector || kind.base == Base::Text
-}
-
 pub(crate) fn is_union(kind: FieldType) -> bool {
     matches!(kind.base, Base::Union(_))
 }

@@ -4,7 +4,7 @@
 mod plan;
 mod scope;
 
-pub use plan::{Line, Plan};
+pub use plan::{Line, Plan, is_borrowed};
 pub use scope::{
     RESERVED, are_apart, are_apart_from, are_names, are_scopes, is_among, is_reserved,
 };

@@ -43,7 +43,8 @@ fn alignment_of(declared: &[Declared], kind: FieldType) -> usize
     }
 }
 
-fn is_borrowed(kind: FieldType) -> bool
+/// Returns whether the argument of a field borrows.
+pub fn is_borrowed(kind: FieldType) -> bool
     ensures { result ≡ is_borrowed_lem kind }
 {
     kind.vector || kind.base == Base::Text
@@ -103,7 +104,7 @@ impl<'a> Plan<'a> {
         })
     }
 
-    /// Returns whether a field's argument borrows.
+    /// Returns whether the argument of one of the fields borrows.
     pub fn borrows(&self) -> bool
         ensures { result ≡ list_any (λ l. is_borrowed_lem l.field.now.kind) self.now.lines.items }
     {

@@ -12,7 +12,8 @@ ghost use Rattle.planus_syntax.specs.Parsed.{TextFormatsTo, TextParsesTo, TextRe
 
 use crate::layout::print_tokens;
 use crate::lexer::{LexError, LexFault, lex, place_of};
-use crate::parse::{ParseError, ParseFault, parse};
+use crate::parse::{ParseError, parse};
+use crate::parse_fault::ParseFault;
 use crate::token::Token;
 use crate::value::Declaration;
 use std::alloc::{AllocError, Global};
