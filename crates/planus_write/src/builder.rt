@@ -1,23 +1,32 @@
 //! The builder.
 ghost use Rattle.std.specs.Prelude.{◌≡◌, ◌+◌, ◌≤◌, ◌^◌, [], length, IsTrue, ◌↔◌, IfOk, IfErr, ℕ};
-ghost use Rattle.std.specs.Prelude.{Some, true, false};
 ghost use Rattle.planus_back.specs.Promises.{IsPowerOfTwo};
 ghost use Rattle.planus_back.specs.Padding.{greatest_place};
-ghost use Rattle.planus_back.specs.CacheKeys.{vtable_in};
-ghost use Rattle.planus_write.specs.Parts.{identifier_bytes, text_entry, byte_list_entry};
-ghost use Rattle.planus_write.specs.inner.Written.{place_of};
+ghost use Rattle.std.specs.Borrow.{sem};
+ghost use Rattle.planus_write.specs.Shared.{all_on};
+ghost use Rattle.planus_write.specs.History.{History, no_history, unshared_entry};
+ghost use Rattle.planus_write.specs.Parts.{filled_part};
+ghost use Rattle.planus_write.specs.State.{IsHistoryOf};
+ghost use Rattle.planus_write.specs.InBuilder.{IsIn};
+ghost use Rattle.planus_write.specs.View.{settings_of};
+ghost use Rattle.planus_write.specs.Placing.{WritesPart};
+ghost use Rattle.planus_write.specs.Finishing.{EndsAs, FinishGives, FinishLeaves};
+ghost use Rattle.planus_write.specs.Finishing.{SizedFinishGives, SizedFinishLeaves};
+ghost use Rattle.planus_read.specs.SizePrefixed.{IsPrefixed};
 
-use crate::backing::{Backing, WORD_MASK, word_between};
-use crate::byte_lists::{ByteItems, ByteList, Copied};
+mod byte_lists;
+mod finishes;
+mod lists;
+mod tables;
+mod texts;
+
+use crate::backing::Backing;
 use crate::caches::Caches;
 use crate::errors::BuildError;
-use crate::list_part::ListPart;
 use crate::offset::{List, Offset, Text};
-use crate::sharing::{Lookup, Sharing, find_or_plan};
-use crate::text_part::TextPart;
+use crate::sharing::Sharing;
 use crate::traits::{Primitive, WriteAsOffset, WriteAsUnionVector};
 use crate::union_vector_offset::UnionVectorOffset;
-use crate::written::Written;
 use planus_back::{ByteVec, Fill, Overwrite, VTable};
 use std::alloc::Global;
 use std::marker::Model;
@@ -53,22 +62,6 @@ impl Model for Builder {
 }
 
 impl Builder {
-    ghost use Rattle.std.specs.Borrow.{sem};
-    ghost use Rattle.planus_write.specs.Shared.{all_on};
-    ghost use Rattle.planus_write.specs.History.{History, no_history, unshared_entry};
-    ghost use Rattle.planus_write.specs.Parts.{filled_part, count_part};
-    ghost use Rattle.planus_write.specs.Tables.{vtable_entry, word_part};
-    ghost use Rattle.planus_write.specs.State.{IsHistoryOf};
-    ghost use Rattle.planus_write.specs.InBuilder.{IsIn};
-    ghost use Rattle.planus_write.specs.View.{settings_of};
-    ghost use Rattle.planus_write.specs.Placing.{WritesEntry, WritesPart};
-    ghost use Rattle.planus_write.specs.inner.WholeTables.{PutsTableIf};
-    ghost use Rattle.planus_write.specs.Preparing.{WritesText, WritesByteList};
-    ghost use Rattle.planus_write.specs.Finishing.{EndsAs, FinishGives, FinishLeaves, WritesRoot};
-    ghost use Rattle.planus_write.specs.Finishing.{SizedFinishGives, SizedFinishLeaves};
-    ghost use Rattle.planus_write.specs.Finishing.{WritesSizedRoot};
-    ghost use Rattle.planus_read.specs.SizePrefixed.{IsPrefixed};
-
     /// Creates an empty builder with all caches on, or fails with [`BuildError::OutOfMemory`].
     pub fn new(alloc: Global) -> Result<Builder, BuildError>
         ensures history { IfOk result (λ builder. IsHistoryOf builder no_history) }
@@ -174,193 +167,6 @@ impl Builder {
         self.texts.clear();
         self.byte_lists.clear();
         self.vtables.clear();
-    }
-
-    // Both functions share one body, so that the code without a cache has nothing of the lookup.
-    #[inline]
-    pub(crate) fn write_text(&mut self, text: &str) -> Result<Offset<Text>, BuildError>
-        ensures { WritesText text.now self.old result self.new }
-    {
-        if self.texts.is_on() {
-            self.write_shared_text(text).offset()
-        } else {
-            self.write_new_text(text).offset()
-        }
-    }
-
-    #[inline(never)]
-    fn write_shared_text(&mut self, text: &str) -> Written
-        requires { self.old.settings.texts_on ≡ true }
-        ensures { WritesEntry (text_entry text.now) [] self.old (place_of result) self.new }
-    {
-        Written::from(self.write_text_if(true, text))
-    }
-
-    #[inline(never)]
-    fn write_new_text(&mut self, text: &str) -> Written
-        requires { self.old.settings.texts_on ≡ false }
-        ensures { WritesEntry (text_entry text.now) [] self.old (place_of result) self.new }
-    {
-        Written::from(self.write_text_if(false, text))
-    }
-
-    #[inline(always)]
-    fn write_text_if(&mut self, shared: bool, text: &str) -> Result<u32, BuildError>
-        requires { self.old.settings.texts_on ≡ shared }
-        ensures { WritesEntry (text_entry text.now) [] self.old result self.new }
-    {
-        let bytes = text.as_bytes();
-        let size = bytes.len() + 5;
-        match find_or_plan(
-            shared,
-            &mut self.backing,
-            &mut self.texts,
-            &ByteList(bytes),
-            size,
-            WORD_MASK,
-        )? {
-            Lookup::Found(distance) => Ok(distance),
-            Lookup::Planned(plan) => {
-                let part = TextPart(bytes);
-                self.backing.put_planned_over(&plan, size, &part);
-                Ok(plan.place)
-            }
-        }
-    }
-
-    #[inline]
-    pub(crate) fn write_byte_list<T, L: ByteItems>(
-        &mut self,
-        list: &L,
-    ) -> Result<Offset<T>, BuildError>
-        ensures { WritesByteList (L.bytes_of list.now) self.old result self.new }
-    {
-        if self.byte_lists.is_on() {
-            self.write_shared_list(list).offset()
-        } else {
-            self.write_new_list(list).offset()
-        }
-    }
-
-    #[inline(never)]
-    fn write_shared_list<L: ByteItems>(&mut self, list: &L) -> Written
-        requires { self.old.settings.byte_lists_on ≡ true }
-        ensures { WritesEntry (byte_list_entry (L.bytes_of list.now)) [] self.old (place_of result)
-            self.new }
-    {
-        Written::from(self.write_list_if(true, list))
-    }
-
-    #[inline(never)]
-    fn write_new_list<L: ByteItems>(&mut self, list: &L) -> Written
-        requires { self.old.settings.byte_lists_on ≡ false }
-        ensures { WritesEntry (byte_list_entry (L.bytes_of list.now)) [] self.old (place_of result)
-            self.new }
-    {
-        Written::from(self.write_list_if(false, list))
-    }
-
-    #[inline(always)]
-    fn write_list_if<L: ByteItems>(&mut self, shared: bool, list: &L) -> Result<u32, BuildError>
-        requires { self.old.settings.byte_lists_on ≡ shared }
-        ensures { WritesEntry (byte_list_entry (L.bytes_of list.now)) [] self.old result self.new }
-    {
-        let size = list.count() + 4;
-        match find_or_plan(
-            shared,
-            &mut self.backing,
-            &mut self.byte_lists,
-            list,
-            size,
-            WORD_MASK,
-        )? {
-            Lookup::Found(distance) => Ok(distance),
-            Lookup::Planned(plan) => {
-                let part = ListPart { items: list };
-                self.backing.put_planned_over(&plan, size, &part);
-                Ok(plan.place)
-            }
-        }
-    }
-
-    #[inline]
-    pub(crate) fn write_count(&mut self, count: u32) -> Result<u32, BuildError>
-        ensures { WritesEntry (unshared_entry (count_part count)) [] self.old result self.new }
-    {
-        let place = self.backing.make_room(4, 0)?;
-        self.backing.put(&count.to_le_bytes());
-        Ok(place)
-    }
-
-    #[inline]
-    pub(crate) fn write_vtable(&mut self, bytes: &[u8]) -> Result<u32, BuildError>
-        requires { vtable_in bytes.now ≡ Some bytes.now }
-        ensures { WritesEntry (vtable_entry bytes.now) [] self.old result self.new }
-    {
-        self.write_any_vtable(bytes).place()
-    }
-
-    #[inline(never)]
-    fn write_any_vtable(&mut self, bytes: &[u8]) -> Written
-        requires { vtable_in bytes.now ≡ Some bytes.now }
-        ensures { WritesEntry (vtable_entry bytes.now) [] self.old (place_of result) self.new }
-    {
-        Written::from(self.write_vtable_once(bytes))
-    }
-
-    #[inline(always)]
-    fn write_vtable_once(&mut self, bytes: &[u8]) -> Result<u32, BuildError>
-        requires { vtable_in bytes.now ≡ Some bytes.now }
-        ensures { WritesEntry (vtable_entry bytes.now) [] self.old result self.new }
-    {
-        match find_or_plan(
-            self.vtables.is_on(),
-            &mut self.backing,
-            &mut self.vtables,
-            &ByteList(bytes),
-            bytes.len(),
-            1,
-        )? {
-            Lookup::Found(distance) => Ok(distance),
-            Lookup::Planned(plan) => {
-                let items = &ByteList(bytes);
-                self.backing
-                    .put_planned_over(&plan, bytes.len(), &Copied { items });
-                Ok(plan.place)
-            }
-        }
-    }
-
-    #[inline]
-    pub(crate) fn write_word(&mut self, vtable: u32) -> Result<u32, BuildError>
-        requires { vtable ≤ greatest_place }
-        ensures entry { WritesEntry (unshared_entry (word_part vtable)) [] self.old result self.new }
-        ensures last { IfOk result (λ place. place ≡ length self.new.bytes) }
-    {
-        let place = self.backing.make_room(4, 0)?;
-        self.backing.put(&word_between(vtable, place));
-        Ok(place)
-    }
-
-    // Writes only if vtables aren't shared and there is room. Returns whether it did; otherwise
-    // nothing is changed.
-    #[inline(always)]
-    pub(crate) fn put_table<W: Overwrite>(
-        &mut self,
-        vtable: &[u8],
-        size: usize,
-        mask: usize,
-        writer: &W,
-    ) -> bool
-        requires vtable { vtable_in vtable.now ≡ Some vtable.now }
-        requires power { IsPowerOfTwo (mask + 1) }
-        requires bound { mask + 1 ≤ 2 ^ 30 }
-        requires fits { (place : ℕ) → length self.old.bytes + size ≤ place
-            → place ≤ greatest_place → W.fits writer.now place size }
-        ensures { PutsTableIf result vtable.now (filled_part size (mask + 1)
-            (W.leaves writer.now)) self.old self.new }
-    {
-        !self.vtables.is_on() && self.backing.put_table(vtable, size, mask, writer)
     }
 
     pub(crate) fn alloc(&self) -> Global {
@@ -506,47 +312,5 @@ impl Builder {
         let root = root.prepare(self)?;
         self.write_sized_root(root.distance(), identifier)?;
         Ok(self.as_slice())
-    }
-
-    #[inline]
-    fn write_root(&mut self, root: u32, identifier: Option<[u8; 4]>) -> Result<u32, BuildError>
-        requires { root ≤ length self.old.bytes }
-        ensures { WritesRoot root identifier self.old result self.new }
-    {
-        let mask = self.backing.finish_mask();
-        let name = identifier_slice(&identifier);
-        let place = self.backing.make_room(name.len() + 4, mask)?;
-        self.backing.put_if_any(name);
-        self.backing.put(&(place - root).to_le_bytes());
-        Ok(place)
-    }
-
-    #[inline]
-    fn write_sized_root(
-        &mut self,
-        root: u32,
-        identifier: Option<[u8; 4]>,
-    ) -> Result<u32, BuildError>
-        requires { root ≤ length self.old.bytes }
-        ensures written { WritesSizedRoot root identifier self.old result self.new }
-        ensures size { IfOk result (λ place. IsPrefixed self.new.bytes) }
-    {
-        let mask = self.backing.finish_mask();
-        let name = identifier_slice(&identifier);
-        let place = self.backing.make_room(name.len() + 8, mask)?;
-        let size = place - 4;
-        self.backing
-            .put_three(&size.to_le_bytes(), &(size - root).to_le_bytes(), name);
-        Ok(place)
-    }
-}
-
-fn identifier_slice(identifier: &Option<[u8; 4]>) -> &[u8]
-    ensures bytes { result.now ≡ identifier_bytes identifier.now }
-    ensures short { length result.now ≤ 4 }
-{
-    match identifier {
-        None => &[],
-        Some(bytes) => bytes,
     }
 }

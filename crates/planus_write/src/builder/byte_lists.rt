@@ -1,0 +1,73 @@
+//! Byte vectors.
+
+ghost use Rattle.std.specs.Prelude.{◌≡◌, [], true, false};
+ghost use Rattle.planus_write.specs.Parts.{byte_list_entry};
+ghost use Rattle.planus_write.specs.inner.Written.{place_of};
+ghost use Rattle.planus_write.specs.Placing.{WritesEntry};
+ghost use Rattle.planus_write.specs.Preparing.{WritesByteList};
+
+use crate::backing::WORD_MASK;
+use crate::builder::Builder;
+use crate::byte_lists::ByteItems;
+use crate::errors::BuildError;
+use crate::list_part::ListPart;
+use crate::offset::Offset;
+use crate::sharing::{Lookup, find_or_plan};
+use crate::written::Written;
+
+impl Builder {
+    #[inline]
+    pub(crate) fn write_byte_list<T, L: ByteItems>(
+        &mut self,
+        list: &L,
+    ) -> Result<Offset<T>, BuildError>
+        ensures { WritesByteList (L.bytes_of list.now) self.old result self.new }
+    {
+        if self.byte_lists.is_on() {
+            self.write_shared_list(list).offset()
+        } else {
+            self.write_new_list(list).offset()
+        }
+    }
+
+    #[inline(never)]
+    fn write_shared_list<L: ByteItems>(&mut self, list: &L) -> Written
+        requires { self.old.settings.byte_lists_on ≡ true }
+        ensures { WritesEntry (byte_list_entry (L.bytes_of list.now)) [] self.old (place_of result)
+            self.new }
+    {
+        Written::from(self.write_list_if(true, list))
+    }
+
+    #[inline(never)]
+    fn write_new_list<L: ByteItems>(&mut self, list: &L) -> Written
+        requires { self.old.settings.byte_lists_on ≡ false }
+        ensures { WritesEntry (byte_list_entry (L.bytes_of list.now)) [] self.old (place_of result)
+            self.new }
+    {
+        Written::from(self.write_list_if(false, list))
+    }
+
+    #[inline(always)]
+    fn write_list_if<L: ByteItems>(&mut self, shared: bool, list: &L) -> Result<u32, BuildError>
+        requires { self.old.settings.byte_lists_on ≡ shared }
+        ensures { WritesEntry (byte_list_entry (L.bytes_of list.now)) [] self.old result self.new }
+    {
+        let size = list.count() + 4;
+        match find_or_plan(
+            shared,
+            &mut self.backing,
+            &mut self.byte_lists,
+            list,
+            size,
+            WORD_MASK,
+        )? {
+            Lookup::Found(distance) => Ok(distance),
+            Lookup::Planned(plan) => {
+                let part = ListPart { items: list };
+                self.backing.put_planned_over(&plan, size, &part);
+                Ok(plan.place)
+            }
+        }
+    }
+}
