@@ -77,12 +77,12 @@ pub blank_unused : (writer : Writer) (N slot : ℕ) → writer ≡ blank N → s
 blank_unused writer N slot is_blank inside =
     subst (λ writer. IsUnused writer slot) (sym is_blank) (zeros_stand N (slot_position slot) inside)
 
-pub told_item : {A : Type 0} (slot : ℕ) (field : A → Field) (size alignment reach : ℕ) (leaves : Item)
-    (value : A) → IsItem size alignment leaves reach (field value)
+pub told_item : {A : Type 0} (slot : ℕ) (field : A → Field) (size alignment reach : ℕ) (encoding : Item)
+    (value : A) → IsItem size alignment encoding reach (field value)
     → (writer : Writer) (fields : List (ℕ × Field))
     → WasTold writer (declared_of fields ++ record { slot = slot; size = size; alignment = alignment } ∷ [])
     → WasTold writer (declared_of (fields ++ field_in slot field (Some value)))
-told_item slot field size alignment reach leaves value item writer fields told =
+told_item slot field size alignment reach encoding value item writer fields told =
     subst (WasTold writer) (sym (entries_append fields ((slot, field value) ∷ [])))
     (subst (λ (n : ℕ). WasTold writer (declared_of fields ++ record { slot = slot; size = n; alignment = field_alignment (field value) } ∷ []))
     (sym item.size_is)
@@ -106,16 +106,16 @@ both_written fields others old between new first rest =
     (bytes_append fields others old.place)
     ∙ ap (λ n. wrote n (λ place. body_bytes place (fields ++ others)) old) (sym (size_append fields others))
 
-pub one_written : {A : Type 0} (slot : ℕ) (field : A → Field) (leaves : A → Item) (reach : A → ℕ)
+pub one_written : {A : Type 0} (slot : ℕ) (field : A → Field) (encoding : A → Item) (reach : A → ℕ)
     (size alignment : ℕ)
-    → ((a : A) → IsItem size alignment (leaves a) (reach a) (field a)) → (value : Option A)
+    → ((a : A) → IsItem size alignment (encoding a) (reach a) (field a)) → (value : Option A)
     → (body : ObjectBody)
-    → wrote (size_if size value) (item_if leaves value) body
+    → wrote (size_if size value) (item_if encoding value) body
     ≡ wrote (body_size (field_in slot field value)) (λ place. body_bytes place (field_in slot field value)) body
-one_written slot field leaves reach size alignment items None body = refl
-one_written slot field leaves reach size alignment items (Some a) body =
+one_written slot field encoding reach size alignment items None body = refl
+one_written slot field encoding reach size alignment items (Some a) body =
     let item = items a in
     let sizes : size ≡ field_size (field a) + 0 = let e = item.size_is in omega (arith, e) in
-    let bytes : leaves a body.place ≡ field_item (field a) body.place ++ []
-    = sym (append-nil (field_item (field a) body.place) ∙ ap (λ (item : Item). item body.place) item.leaves_is) in
+    let bytes : encoding a body.place ≡ field_item (field a) body.place ++ []
+    = sym (append-nil (field_item (field a) body.place) ∙ ap (λ (item : Item). item body.place) item.encoding_is) in
     rw (sizes, bytes) refl

@@ -176,29 +176,29 @@ bytes_advanced content old (Err ReplayTooLarge) new h =
     stops {A = Offset (ListOf ℕ)} offset_named (WritesByteList content) (bytes content) (value.byte_list content) old refl refl (λ offset after put. by_entry (byte_list_entry content) old.builder offset after put) h.0 (inl h.1)
 bytes_advanced content old (Err (BadStep number why)) new h = absurd h
 
-module _ {A : Type 0} (leaves : A → Item) (size alignment : ℕ) (xs : List A) (value : Value) (old : ReplayState)
-    (entries : list_entries size alignment (map leaves xs) ≡ entries_of value) (one : (got : List ℕ) → named_by value got ≡ record { distance = last_of got; tags = None }) where
-  list_writes : {T : Type 0} (offset : Offset T) (after : builder.State) → WritesList Answers leaves size alignment xs old.builder (Ok offset) after
+module _ {A : Type 0} (encoding : A → Item) (size alignment : ℕ) (xs : List A) (value : Value) (old : ReplayState)
+    (entries : list_entries size alignment (map encoding xs) ≡ entries_of value) (one : (got : List ℕ) → named_by value got ≡ record { distance = last_of got; tags = None }) where
+  list_writes : {T : Type 0} (offset : Offset T) (after : builder.State) → WritesList Answers encoding size alignment xs old.builder (Ok offset) after
       → (got : List ℕ) × WritesEntries (entries_of value) [] old.builder (Ok got) after × (named_by value got ≡ offset_named offset)
   list_writes offset after done =
-      let put = ready_list_is_put leaves size alignment xs old.builder offset after done in (
+      let put = ready_list_is_put encoding size alignment xs old.builder offset after done in (
         put.0,
         subst (λ (es : List Entry). WritesEntries es [] old.builder (Ok put.0) after) entries put.1,
         one put.0 ∙ ap (λ d. record { distance = d; tags = None }) (sym put.2),
       )
 
-  list_refused : (T : Type 0) (error : BuildError) (after : builder.State) → WritesList {T = T} Answers leaves size alignment xs old.builder (Err error) after
+  list_refused : (T : Type 0) (error : BuildError) (after : builder.State) → WritesList {T = T} Answers encoding size alignment xs old.builder (Err error) after
       → WritesEntries (entries_of value) [] old.builder (Err error) after
   list_refused T error after refused =
       subst (λ (es : List Entry). WritesEntries es [] old.builder (Err error) after) entries
-      (ready_list_is_refused T leaves size alignment xs old.builder error after refused)
+      (ready_list_is_refused T encoding size alignment xs old.builder error after refused)
 
 module _ (width : ℕ) (w : Width) (items : List ℕ) (known : width_of width ≡ Some w) (fit : list_all (fits_width w) items ≡ true) (old : ReplayState) where
   abbrev number_list : Value
   number_list = value.plain_list (byte_len w) (byte_len w) (map (to_le_bytes w) items)
 
-  abbrev leaves_number : ℕ → Item
-  leaves_number = λ number. plain_item (to_le_bytes w number)
+  abbrev encoding_number : ℕ → Item
+  encoding_number = λ number. plain_item (to_le_bytes w number)
 
   numbers_value_is : value_of (values_listed old) (numbers width items) ≡ Some number_list
   numbers_value_is = ap (λ k. numbers_value k items) known ∙ ap (λ (all : Bool). if all then Some number_list else None) fit
@@ -206,26 +206,26 @@ module _ (width : ℕ) (w : Width) (items : List ℕ) (known : width_of width �
   numbers_are : entries_put (values_listed old) (numbers width items) ≡ Some (entries_of number_list)
   numbers_are = ap (option_map entries_of) numbers_value_is
 
-  numbers_entries : list_entries (byte_len w) (byte_len w) (map leaves_number items) ≡ entries_of number_list
+  numbers_entries : list_entries (byte_len w) (byte_len w) (map encoding_number items) ≡ entries_of number_list
   numbers_entries = ap (list_entries (byte_len w) (byte_len w)) (plain_items_are (to_le_bytes w) items)
 
   pub numbers_advanced : (T : Type 0) (answer : Result (Unit {0}) ReplayError) (new : ReplayState)
-      → WritesValue {A = Offset T} offset_named (WritesList Answers leaves_number (byte_len w) (byte_len w) items) old answer new → Advanced old (numbers width items) answer new
+      → WritesValue {A = Offset T} offset_named (WritesList Answers encoding_number (byte_len w) (byte_len w) items) old answer new → Advanced old (numbers width items) answer new
   numbers_advanced T (Ok done) new noted = record {
     taken = took_one old new (numbers width items) (Some noted.noted) (noted_kind noted.noted noted.answer noted.same) noted.first noted.pushed;
-    advances = runs_on offset_named (WritesList Answers leaves_number (byte_len w) (byte_len w) items) (numbers width items) number_list old numbers_value_is numbers_are
-        (list_writes leaves_number (byte_len w) (byte_len w) items number_list old numbers_entries (λ got. refl)) new noted (λ history after. refl);
-    settings = settings_stay offset_named (WritesList Answers leaves_number (byte_len w) (byte_len w) items) (numbers width items) number_list old numbers_value_is numbers_are
-        (list_writes leaves_number (byte_len w) (byte_len w) items number_list old numbers_entries (λ got. refl)) new noted;
+    advances = runs_on offset_named (WritesList Answers encoding_number (byte_len w) (byte_len w) items) (numbers width items) number_list old numbers_value_is numbers_are
+        (list_writes encoding_number (byte_len w) (byte_len w) items number_list old numbers_entries (λ got. refl)) new noted (λ history after. refl);
+    settings = settings_stay offset_named (WritesList Answers encoding_number (byte_len w) (byte_len w) items) (numbers width items) number_list old numbers_value_is numbers_are
+        (list_writes encoding_number (byte_len w) (byte_len w) items number_list old numbers_entries (λ got. refl)) new noted;
   }
   numbers_advanced T (Err ReplayOutOfMemory) new h =
-      lacks {A = Offset T} offset_named (WritesList Answers leaves_number (byte_len w) (byte_len w) items) (numbers width items) number_list old numbers_value_is numbers_are
-      (list_writes leaves_number (byte_len w) (byte_len w) items number_list old numbers_entries (λ got. refl))
-      (list_refused leaves_number (byte_len w) (byte_len w) items number_list old numbers_entries (λ got. refl) T OutOfMemory) new h
+      lacks {A = Offset T} offset_named (WritesList Answers encoding_number (byte_len w) (byte_len w) items) (numbers width items) number_list old numbers_value_is numbers_are
+      (list_writes encoding_number (byte_len w) (byte_len w) items number_list old numbers_entries (λ got. refl))
+      (list_refused encoding_number (byte_len w) (byte_len w) items number_list old numbers_entries (λ got. refl) T OutOfMemory) new h
   numbers_advanced T (Err ReplayTooLarge) new h =
-      stops {A = Offset T} offset_named (WritesList Answers leaves_number (byte_len w) (byte_len w) items) (numbers width items) number_list old numbers_value_is numbers_are
-      (list_writes leaves_number (byte_len w) (byte_len w) items number_list old numbers_entries (λ got. refl)) h.0
-      (list_refused leaves_number (byte_len w) (byte_len w) items number_list old numbers_entries (λ got. refl) T TooLarge h.0 h.1)
+      stops {A = Offset T} offset_named (WritesList Answers encoding_number (byte_len w) (byte_len w) items) (numbers width items) number_list old numbers_value_is numbers_are
+      (list_writes encoding_number (byte_len w) (byte_len w) items number_list old numbers_entries (λ got. refl)) h.0
+      (list_refused encoding_number (byte_len w) (byte_len w) items number_list old numbers_entries (λ got. refl) T TooLarge h.0 h.1)
   numbers_advanced T (Err (BadStep number why)) new h = absurd h
 
 module _ (steps : List ℕ) (offsets : List (Offset (Unit {0}))) (old : ReplayState)
@@ -233,8 +233,8 @@ module _ (steps : List ℕ) (offsets : List (Offset (Unit {0}))) (old : ReplaySt
   abbrev reference_list : Value
   reference_list = value.reference_list (map (λ (o : Offset (Unit {0})). o.distance) offsets)
 
-  abbrev leaves_offset : Offset (Unit {0}) → Item
-  leaves_offset = λ offset. reference_item offset.distance
+  abbrev encoding_offset : Offset (Unit {0}) → Item
+  encoding_offset = λ offset. reference_item offset.distance
 
   refs_value_is : value_of (values_listed old) (refs steps) ≡ Some reference_list
   refs_value_is = ap (option_map value.reference_list) found
@@ -242,23 +242,23 @@ module _ (steps : List ℕ) (offsets : List (Offset (Unit {0}))) (old : ReplaySt
   refs_are : entries_put (values_listed old) (refs steps) ≡ Some (entries_of reference_list)
   refs_are = ap (option_map entries_of) refs_value_is
 
-  refs_entries : list_entries 4 4 (map leaves_offset offsets) ≡ entries_of reference_list
+  refs_entries : list_entries 4 4 (map encoding_offset offsets) ≡ entries_of reference_list
   refs_entries = ap (list_entries 4 4) (reference_items_are (λ (o : Offset (Unit {0})). o.distance) offsets)
 
   pub refs_advanced : (T : Type 0) (answer : Result (Unit {0}) ReplayError) (new : ReplayState)
-      → WritesValue {A = Offset T} offset_named (WritesList Answers leaves_offset 4 4 offsets) old answer new → Advanced old (refs steps) answer new
+      → WritesValue {A = Offset T} offset_named (WritesList Answers encoding_offset 4 4 offsets) old answer new → Advanced old (refs steps) answer new
   refs_advanced T (Ok done) new noted = record {
     taken = took_one old new (refs steps) (Some noted.noted) (noted_kind noted.noted noted.answer noted.same) noted.first noted.pushed;
-    advances = runs_on offset_named (WritesList Answers leaves_offset 4 4 offsets) (refs steps) reference_list old refs_value_is refs_are
-        (list_writes leaves_offset 4 4 offsets reference_list old refs_entries (λ got. refl)) new noted (λ history after. refl);
-    settings = settings_stay offset_named (WritesList Answers leaves_offset 4 4 offsets) (refs steps) reference_list old refs_value_is refs_are
-        (list_writes leaves_offset 4 4 offsets reference_list old refs_entries (λ got. refl)) new noted;
+    advances = runs_on offset_named (WritesList Answers encoding_offset 4 4 offsets) (refs steps) reference_list old refs_value_is refs_are
+        (list_writes encoding_offset 4 4 offsets reference_list old refs_entries (λ got. refl)) new noted (λ history after. refl);
+    settings = settings_stay offset_named (WritesList Answers encoding_offset 4 4 offsets) (refs steps) reference_list old refs_value_is refs_are
+        (list_writes encoding_offset 4 4 offsets reference_list old refs_entries (λ got. refl)) new noted;
   }
   refs_advanced T (Err ReplayOutOfMemory) new h = λ history is_history. inl refl
   refs_advanced T (Err ReplayTooLarge) new h =
-      stops {A = Offset T} offset_named (WritesList Answers leaves_offset 4 4 offsets) (refs steps) reference_list old refs_value_is refs_are
-      (list_writes leaves_offset 4 4 offsets reference_list old refs_entries (λ got. refl)) h.0
-      (list_refused leaves_offset 4 4 offsets reference_list old refs_entries (λ got. refl) T TooLarge h.0 h.1)
+      stops {A = Offset T} offset_named (WritesList Answers encoding_offset 4 4 offsets) (refs steps) reference_list old refs_value_is refs_are
+      (list_writes encoding_offset 4 4 offsets reference_list old refs_entries (λ got. refl)) h.0
+      (list_refused encoding_offset 4 4 offsets reference_list old refs_entries (λ got. refl) T TooLarge h.0 h.1)
   refs_advanced T (Err (BadStep number why)) new h = absurd h
 
 pub found_reached : (old : ReplayState) → AreReached old → (steps : List ℕ) (offsets : List (Offset (Unit {0})))
@@ -325,8 +325,8 @@ FrontLeaves offset entry = LendsAll (then_does (λ before prepared after. IsPrep
 
 pub offset_finished : (offset : Offset (Unit {0})) (entry : ℕ → Entry) (old new : builder.State) (answer : Result (Bor (List ℕ)) BuildError) (lent : Bor (List ℕ)) → answer ≡ Ok lent
     → FrontLeaves offset entry old answer new → PutsInFront (entry offset.distance) old (length new.bytes) new × (lent.now ≡ new.bytes)
-offset_finished offset entry old new answer lent ok leaves =
-    let h = subst (λ a. FrontLeaves offset entry old a new) ok leaves in
+offset_finished offset entry old new answer lent ok encoding =
+    let h = subst (λ a. FrontLeaves offset entry old a new) ok encoding in
     let same : h.0.0 ≡ offset = (let e : Ok h.0.0 ≡ Ok offset = h.0.2.0 in cc) in
     (subst (λ before. PutsInFront (entry offset.distance) before (length new.bytes) new) h.0.2.1 (subst (λ (o : Offset (Unit {0})). PutsInFront (entry o.distance) h.0.1 (length new.bytes) new) same h.0.3), h.1)
 
@@ -360,8 +360,8 @@ module _ (front : Front) (root : ℕ) (identifier : Option (List ℕ)) (entry : 
   pub finish_not_given : (old : ReplayState) (offset : Offset (Unit {0})) → value_at (values_listed old) root ≡ Some offset.distance
       → (answer : Result (Bor (List ℕ)) BuildError) (lent : Bor (List ℕ)) (new : builder.State) → answer ≡ Ok lent
       → FrontLeaves offset entry old.builder answer new → Stopped old (finish front root identifier) ReplayOutOfMemory
-  finish_not_given old offset found answer lent new ok leaves = λ history is_history.
-      let done = offset_finished offset entry old.builder new answer lent ok leaves in
+  finish_not_given old offset found answer lent new ok encoding = λ history is_history.
+      let done = offset_finished offset entry old.builder new answer lent ok encoding in
       let after = done.0.puts.puts history is_history in
       inr (
       record {
@@ -374,7 +374,7 @@ module _ (front : Front) (root : ℕ) (identifier : Option (List ℕ)) (entry : 
   pub finish_stopped : (old : ReplayState) (offset : Offset (Unit {0})) → value_at (values_listed old) root ≡ Some offset.distance
       → (answer : Result (Bor (List ℕ)) BuildError) (error : BuildError) (new : builder.State) → answer ≡ Err error
       → FrontLeaves offset entry old.builder answer new → Stopped old (finish front root identifier) (replay_error error)
-  finish_stopped old offset found answer error new refused leaves = by_error error (subst (λ a. FrontLeaves offset entry old.builder a new) refused leaves)
+  finish_stopped old offset found answer error new refused encoding = by_error error (subst (λ a. FrontLeaves offset entry old.builder a new) refused encoding)
     where
       by_error : (error : BuildError) → FrontLeaves offset entry old.builder (Err error) new → Stopped old (finish front root identifier) (replay_error error)
       by_error OutOfMemory h = λ history is_history. elim h as (λ _. StepRefused old.builder.settings (state_with old history) (finish front root identifier)) [

@@ -112,14 +112,14 @@ module _ (old : ReplayState) (offsets : List (Option Written)) (are : offsets �
       (values_reached old reached) fields all made in
       subst (λ fields. fields_reach fields ≤ length old.builder.bytes) (sym same) (reach_within (length old.builder.bytes) all written.fields)
 
-  leaves_same : (answer : Result (Unit {0}) BuildError) (after : builder.State) → WritesTable (declared_of all) (λ place. body_bytes place these) old.builder answer after
+  encoding_same : (answer : Result (Unit {0}) BuildError) (after : builder.State) → WritesTable (declared_of all) (λ place. body_bytes place these) old.builder answer after
       → WritesTable (declared_of all) (λ place. body_bytes place all) old.builder answer after
-  leaves_same answer after put = subst (λ (fields : List (ℕ × Field)). WritesTable (declared_of all) (λ place. body_bytes place fields) old.builder answer after) same put
+  encoding_same answer after put = subst (λ (fields : List (ℕ × Field)). WritesTable (declared_of all) (λ place. body_bytes place fields) old.builder answer after) same put
 
   pub table_put : (offset : Offset (Unit {0})) (after : builder.State) → WritesTable (declared_of all) (λ place. body_bytes place these) old.builder (Ok tt) after
       → offset.distance ≡ length after.bytes → WritesTableAt all old.builder (Ok offset) after
-  table_put offset after put at = table_at all old.builder after offset (leaves_same (Ok tt) after put) at
+  table_put offset after put at = table_at all old.builder after offset (encoding_same (Ok tt) after put) at
 
   pub table_not_put : (error : BuildError) (after : builder.State) → WritesTable (declared_of all) (λ place. body_bytes place these) old.builder (Err error) after
       → WritesTableAt {T = Unit {0}} all old.builder (Err error) after
-  table_not_put error after put = table_refused (Unit {0}) all old.builder after error (leaves_same (Err error) after put)
+  table_not_put error after put = table_refused (Unit {0}) all old.builder after error (encoding_same (Err error) after put)

@@ -43,8 +43,8 @@ size_if size (Some prepared) = size
 
 -- its bytes by its place
 abbrev pub item_if : {A : Type 0} → (A → Item) → Option A → Item
-item_if leaves None place = []
-item_if leaves (Some prepared) place = leaves prepared place
+item_if encoding None place = []
+item_if encoding (Some prepared) place = encoding prepared place
 
 -- nothing is declared for the slot: its two bytes are 0
 abbrev pub IsUnused : Writer → ℕ → Type 0

@@ -25,7 +25,7 @@ impl<'a, 'b> ObjectFill for TableBody<'a, 'b> {
 
     ghost reach = { λ body. fields_reach (fields_in body) };
 
-    ghost leaves = { λ body place. body_bytes place (fields_in body) };
+    ghost encoding = { λ body place. body_bytes place (fields_in body) };
 
     fn fill(&self, writer: &mut ObjectWriter<'_>) {
         for field in self.fields {

@@ -177,8 +177,8 @@ impl BackVec {
     pub fn put_filled<F: Fill>(&mut self, place: u32, n: usize, filler: &F)
         requires room { n ≤ self.old.room }
         requires fits { F.fits filler.now place n }
-        ensures bytes { self.new.bytes ≡ F.leaves filler.now place n ++ self.old.bytes }
-        ensures count { length (F.leaves filler.now place n) ≡ n }
+        ensures bytes { self.new.bytes ≡ F.encoding filler.now place n ++ self.old.bytes }
+        ensures count { length (F.encoding filler.now place n) ≡ n }
         ensures room { self.new.room + n ≡ self.old.room }
     {
         let start = self.start - n;
@@ -192,8 +192,8 @@ impl BackVec {
         requires room { padding + n ≤ self.old.room }
         requires fits { F.fits filler.now place n }
         ensures bytes { self.new.bytes
-            ≡ F.leaves filler.now place n ++ (replicate padding 0 ++ self.old.bytes) }
-        ensures count { length (F.leaves filler.now place n) ≡ n }
+            ≡ F.encoding filler.now place n ++ (replicate padding 0 ++ self.old.bytes) }
+        ensures count { length (F.encoding filler.now place n) ≡ n }
         ensures room { self.new.room + (padding + n) ≡ self.old.room }
     {
         let end = self.start - padding;
@@ -209,8 +209,8 @@ impl BackVec {
     pub fn put_overwritten<W: Overwrite>(&mut self, place: u32, n: usize, writer: &W)
         requires room { n ≤ self.old.room }
         requires fits { W.fits writer.now place n }
-        ensures bytes { self.new.bytes ≡ W.leaves writer.now place n ++ self.old.bytes }
-        ensures count { length (W.leaves writer.now place n) ≡ n }
+        ensures bytes { self.new.bytes ≡ W.encoding writer.now place n ++ self.old.bytes }
+        ensures count { length (W.encoding writer.now place n) ≡ n }
         ensures room { self.new.room + n ≡ self.old.room }
     {
         let start = self.start - n;
@@ -230,8 +230,8 @@ impl BackVec {
         requires room { padding + n ≤ self.old.room }
         requires fits { W.fits writer.now place n }
         ensures bytes { self.new.bytes
-            ≡ W.leaves writer.now place n ++ (replicate padding 0 ++ self.old.bytes) }
-        ensures count { length (W.leaves writer.now place n) ≡ n }
+            ≡ W.encoding writer.now place n ++ (replicate padding 0 ++ self.old.bytes) }
+        ensures count { length (W.encoding writer.now place n) ≡ n }
         ensures room { self.new.room + (padding + n) ≡ self.old.room }
     {
         let end = self.start - padding;
@@ -257,10 +257,10 @@ impl BackVec {
         requires room { first_padding + length first.now + padding + n + length front.now
             ≤ self.old.room }
         requires fits { W.fits writer.now place n }
-        ensures bytes { self.new.bytes ≡ front.now ++ (W.leaves writer.now place n
+        ensures bytes { self.new.bytes ≡ front.now ++ (W.encoding writer.now place n
             ++ (replicate padding 0 ++ (first.now ++ (replicate first_padding 0
             ++ self.old.bytes)))) }
-        ensures count { length (W.leaves writer.now place n) ≡ n }
+        ensures count { length (W.encoding writer.now place n) ≡ n }
         ensures room { self.new.room
             + (first_padding + length first.now + padding + n + length front.now)
             ≡ self.old.room }
@@ -315,7 +315,7 @@ impl BackVec {
         filler: &F,
     ) -> Result<(), AllocError>
         requires { F.fits filler.now place n }
-        ensures ok { OnOk result (self.new.bytes ≡ F.leaves filler.now place n ++ self.old.bytes) }
+        ensures ok { OnOk result (self.new.bytes ≡ F.encoding filler.now place n ++ self.old.bytes) }
         ensures err { OnErr result (self.new ≡ self.old) }
         ensures count { OnOk result (length self.new.bytes ≡ n + length self.old.bytes) }
         ensures enough { n ≤ self.old.room → IsOk result }

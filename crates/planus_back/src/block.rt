@@ -130,8 +130,8 @@ impl Block {
     pub(crate) fn put_filled<F: Fill>(&mut self, at: usize, place: u32, n: usize, filler: &F)
         requires holds { HoldsFrom self.old (at + n) }
         requires fits { F.fits filler.now place n }
-        ensures puts { Puts self.old at (F.leaves filler.now place n) self.new }
-        ensures count { length (F.leaves filler.now place n) ≡ n }
+        ensures puts { Puts self.old at (F.encoding filler.now place n) self.new }
+        ensures count { length (F.encoding filler.now place n) ≡ n }
     {
         self.put_zeros(at, n);
         filler.fill(place, lend_mut(&mut self.places, self.base, at, n));
@@ -147,8 +147,8 @@ impl Block {
     )
         requires holds { HoldsFrom self.old (at + n) }
         requires fits { W.fits writer.now place n }
-        ensures puts { Puts self.old at (W.leaves writer.now place n) self.new }
-        ensures count { length (W.leaves writer.now place n) ≡ n }
+        ensures puts { Puts self.old at (W.encoding writer.now place n) self.new }
+        ensures count { length (W.encoding writer.now place n) ≡ n }
     {
         self.make_ready(at, at + n);
         writer.overwrite(place, lend_mut(&mut self.places, self.base, at, n));

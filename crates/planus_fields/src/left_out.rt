@@ -13,7 +13,7 @@ pub struct LeftOut(());
 impl<P: Primitive> WriteAsPrimitive<P> for LeftOut {
     ghost reach = { λ left_out. 0 };
 
-    ghost leaves = { λ left_out. plain_item (replicate P.SIZE 0) };
+    ghost encoding = { λ left_out. plain_item (replicate P.SIZE 0) };
 
     ghost field = { λ left_out.
         plain (record { bytes = replicate P.SIZE 0; alignment = P.ALIGNMENT }) };

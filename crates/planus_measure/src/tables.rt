@@ -16,7 +16,7 @@ impl ObjectFill for Two {
 
     ghost reach = { λ two. 0 };
 
-    ghost leaves = { λ two place. to_le_bytes w16 two.number ++ to_le_bytes w16 two.number };
+    ghost encoding = { λ two place. to_le_bytes w16 two.number ++ to_le_bytes w16 two.number };
 
     fn fill(&self, writer: &mut ObjectWriter<'_>) {
         writer.write::<u16, u16>(&self.number);
@@ -34,7 +34,7 @@ impl ObjectFill for Eight {
 
     ghost reach = { λ eight. 0 };
 
-    ghost leaves = { λ eight place.
+    ghost encoding = { λ eight place.
         to_le_bytes w16 eight.number ++ (to_le_bytes w16 eight.number
         ++ (to_le_bytes w16 eight.number ++ (to_le_bytes w16 eight.number
         ++ (to_le_bytes w16 eight.number ++ (to_le_bytes w16 eight.number
@@ -64,7 +64,7 @@ impl ObjectFill for Weapon {
 
     ghost reach = { λ weapon. weapon.name.distance };
 
-    ghost leaves = { λ weapon place.
+    ghost encoding = { λ weapon place.
         to_le_bytes w32 (place - weapon.name.distance) ++ to_le_bytes w16 weapon.damage };
 
     fn fill(&self, writer: &mut ObjectWriter<'_>) {

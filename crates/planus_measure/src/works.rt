@@ -84,7 +84,7 @@ impl Fill for Sevens {
 
     ghost fits = { λ _ place n. ⊤ };
 
-    ghost leaves = { λ _ place n. replicate n 7 };
+    ghost encoding = { λ _ place n. replicate n 7 };
 
     #[inline]
     fn fill(&self, _place: u32, bytes: &mut [u8]) {

@@ -15,22 +15,22 @@ items_more size place (first ∷ items) item =
     ∙ ap (λ at. items_bytes size (place - size) items ++ item at) (let e : place - size - length items * size ≡ place - (suc (length items)) * size = omega arith in e))
     ∙ sym (append_assoc (first place) (items_bytes size (place - size) items) (item (place - (suc (length items)) * size)))
 
-module _ {V : Type 0} (leaves : V → Item) (size place : ℕ) (values : List V) (i : ℕ) (value : V) (at : ℕ) (bytes old before item behind : List ℕ) where
+module _ {V : Type 0} (encoding : V → Item) (size place : ℕ) (values : List V) (i : ℕ) (value : V) (at : ℕ) (bytes old before item behind : List ℕ) where
   abbrev written : ℕ → List ℕ
-  written n = items_bytes size place (map leaves (take n values))
+  written n = items_bytes size place (map encoding (take n values))
 
   module _ (at_is : at ≡ i * size) (counted : length (written i) ≡ i * size) (so_far : bytes ≡ written i ++ drop (i * size) old)
-      (before_is : before ≡ take at bytes) (behind_is : behind ≡ drop size (drop at bytes)) (item_is : item ≡ leaves value (place - at)) (sized : length item ≡ size)
+      (before_is : before ≡ take at bytes) (behind_is : behind ≡ drop size (drop at bytes)) (item_is : item ≡ encoding value (place - at)) (sized : length item ≡ size)
       (there : i < length values) (next : take (i + 1) values ≡ take i values ++ value ∷ []) where
-    count : length (map leaves (take i values)) ≡ i
+    count : length (map encoding (take i values)) ≡ i
     count = simp (length-map) (length-take-le i values (omega (arith, there)))
 
     more : written (i + 1) ≡ written i ++ item
     more =
-        ap (λ vs. items_bytes size place (map leaves vs)) next
-        ∙ ap (items_bytes size place) (map-append leaves (take i values) (value ∷ []))
-        ∙ items_more size place (map leaves (take i values)) (leaves value)
-        ∙ ap (λ at. written i ++ leaves value at) (let c = count in let e : place - length (map leaves (take i values)) * size ≡ place - at = ap (λ n. place - n * size) c ∙ ap (λ n. place - n) (sym at_is) in e)
+        ap (λ vs. items_bytes size place (map encoding vs)) next
+        ∙ ap (items_bytes size place) (map-append encoding (take i values) (value ∷ []))
+        ∙ items_more size place (map encoding (take i values)) (encoding value)
+        ∙ ap (λ at. written i ++ encoding value at) (let c = count in let e : place - length (map encoding (take i values)) * size ≡ place - at = ap (λ n. place - n * size) c ∙ ap (λ n. place - n) (sym at_is) in e)
         ∙ ap (λ b. written i ++ b) (sym item_is)
 
     pub more_counted : length (written (i + 1)) ≡ (i + 1) * size

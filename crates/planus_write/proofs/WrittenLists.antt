@@ -35,15 +35,15 @@ greatest_power (suc (suc k)) =
 pub items_power : (size alignment : ℕ) → IsLayout size alignment → IsPowerOfTwo (max alignment 4)
 items_power size alignment layout = subst (λ a. IsPowerOfTwo (max a 4)) (sym layout.power.2) (greatest_power layout.power.0)
 
-module _ {A : Type 0} (leaves : A → Item) (reach : A → ℕ) (values : List A) (stride size alignment : ℕ) (same : stride ≡ size) where
+module _ {A : Type 0} (encoding : A → Item) (reach : A → ℕ) (values : List A) (stride size alignment : ℕ) (same : stride ≡ size) where
   abbrev items : List Item
-  items = map leaves values
+  items = map encoding values
 
   pub part_is : (n aligned : ℕ) → n ≡ length values * stride → aligned ≡ max alignment 4
       → filled_part n aligned (λ place n. items_bytes stride place items) ≡ items_part size alignment items
   part_is n aligned n_is aligned_is =
       ap (λ a. filled_part n a (λ place n. items_bytes stride place items)) aligned_is
-      ∙ ap (λ m. filled_part m (max alignment 4) (λ place n. items_bytes stride place items)) (n_is ∙ ap (λ s. length values * s) same ∙ ap (λ m. m * size) (sym (length-map values leaves)))
+      ∙ ap (λ m. filled_part m (max alignment 4) (λ place n. items_bytes stride place items)) (n_is ∙ ap (λ s. length values * s) same ∙ ap (λ m. m * size) (sym (length-map values encoding)))
       ∙ ap (λ s. filled_part (length items * size) (max alignment 4) (λ place n. items_bytes s place items)) same
 
   pub may_stand : (before n place : ℕ) → n ≡ length values * stride → AllByRecursion (λ value. reach value ≤ before) values → before + n ≤ place → MayStand reach stride place values
@@ -100,9 +100,9 @@ module _ (part : Part) (count : ℕ) (old : State) where
     counted_written offset new put_count =
         (first ∷ offset.distance ∷ [], new, (first, between, put, (offset.distance, new, put_behind (count_part count) [] (first ∷ []) between offset.distance new put_count, (refl, refl))), (refl, refl))
 
-module _ {X A T : Type 0} (prepares : List X → Outcome (List A)) (leaves : A → Item) (size alignment : ℕ) (xs : List X) (values : List A) (old mid : State)
+module _ {X A T : Type 0} (prepares : List X → Outcome (List A)) (encoding : A → Item) (size alignment : ℕ) (xs : List X) (values : List A) (old mid : State)
     (prepared : prepares xs old (Ok values) mid) where
-  pub list_is : (answer : Result (Offset T) BuildError) (new : State) → WritesPrepared size alignment (map leaves values) mid answer new
-      → WritesList prepares leaves size alignment xs old answer new
+  pub list_is : (answer : Result (Offset T) BuildError) (new : State) → WritesPrepared size alignment (map encoding values) mid answer new
+      → WritesList prepares encoding size alignment xs old answer new
   list_is (Ok offset) new h = (values, mid, prepared, h)
   list_is (Err error) new h = inr (values, mid, prepared, h)

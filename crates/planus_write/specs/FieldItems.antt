@@ -6,8 +6,8 @@ use Rattle.planus_write.specs.Items.{Item}
 use Rattle.planus_write.specs.Tables.{IsField, field_item, field_size}
 
 -- What is written with this size, alignment, bytes and reach is this field of the format.
-pub record IsItem (size alignment : ℕ) (leaves : Item) (reach : ℕ) (field : Field) : Type 0 where
+pub record IsItem (size alignment : ℕ) (encoding : Item) (reach : ℕ) (field : Field) : Type 0 where
   pub size_is : field_size field ≡ size
   pub alignment_is : field_alignment field ≡ alignment
-  pub leaves_is : field_item field ≡ leaves
+  pub encoding_is : field_item field ≡ encoding
   pub stands : (before : ℕ) → reach ≤ before → IsField before field

@@ -12,15 +12,15 @@ use Rattle.planus_write.specs.Contents.{Content, FieldIs, Comes}
 -- the items are prepared, and then the vector's entries written, or the call failed
 abbrev pub WritesItems : {Y A : Type 0} → (List Y → Outcome (List A)) → (A → Item)
     → (size alignment : ℕ) → List Y → Outcome ℕ
-WritesItems prepares leaves size alignment ys =
+WritesItems prepares encoding size alignment ys =
     then_does (prepares ys)
-    (λ items. AnswersLast (WritesEntries (list_entries size alignment (map leaves items)) []))
+    (λ items. AnswersLast (WritesEntries (list_entries size alignment (map encoding items)) []))
 
 -- Once the vector is written, a reference to it holds this.
 pub record ListHasContent {Y A : Type 0} (all_may : List Y → State → Type 0)
-    (prepares : List Y → Outcome (List A)) (leaves : A → Item) (size alignment : ℕ)
+    (prepares : List Y → Outcome (List A)) (encoding : A → Item) (size alignment : ℕ)
     (list : List Y → Content) : Type 0 where
   pub comes :
       (ys : List Y) (old : State) (distance : ℕ) (new : State) (history : History) → all_may ys old
-      → WritesItems prepares leaves size alignment ys old (Ok distance) new → IsHistoryOf old history
+      → WritesItems prepares encoding size alignment ys old (Ok distance) new → IsHistoryOf old history
       → Comes history new (λ after. FieldIs after (list ys) (reference distance))

@@ -137,8 +137,8 @@ sized_finish_entry root identifier =
 
 -- the bytes that a filler writes at the part's place
 abbrev pub filled_part : ℕ → ℕ → (ℕ → ℕ → List ℕ) → Part
-filled_part size alignment leaves =
-    record { size = size; alignment = alignment; bytes_at = λ place. leaves place size }
+filled_part size alignment encoding =
+    record { size = size; alignment = alignment; bytes_at = λ place. encoding place size }
 
 -- Items of this size, a positive multiple of the alignment, which is a power of two.
 pub record IsPlainList (size alignment : ℕ) (items : List (List ℕ)) : Type 0 where

@@ -91,10 +91,10 @@ pub record AreLawful {X A : Type 0} (may : X → State → Type 0) (outcome : X 
 -- A vector was written, or the call failed: its items are prepared, and then its entries written.
 abbrev pub WritesList : {X A T : Type 0} → (List X → Outcome (List A)) → (A → Item)
     → (size alignment : ℕ) → List X → Outcome (Offset T)
-WritesList {X} {A} {T} prepares leaves size alignment xs old answer new =
+WritesList {X} {A} {T} prepares encoding size alignment xs old answer new =
     AsOffset
     (then_does (prepares xs)
-    (λ items. AnswersLast (WritesEntries (list_entries size alignment (map leaves items)) [])))
+    (λ items. AnswersLast (WritesEntries (list_entries size alignment (map encoding items)) [])))
     old answer new
 
 abbrev pub WritesPrepared : {T : Type 0} → (size alignment : ℕ) → List Item → Outcome (Offset T)

@@ -147,8 +147,8 @@ impl Backing {
         requires within { size + (plan.now.padding + length self.old.bytes) ≤ greatest_place }
         requires fits { F.fits filler.now plan.now.place size }
         ensures put { (padded : Backed) × Pads plan.now self.old padded
-            × PutsBytes (F.leaves filler.now plan.now.place size) padded self.new }
-        ensures count { length (F.leaves filler.now plan.now.place size) ≡ size }
+            × PutsBytes (F.encoding filler.now plan.now.place size) padded self.new }
+        ensures count { length (F.encoding filler.now plan.now.place size) ≡ size }
     {
         self.inner
             .put_filled_padded(plan.padding, plan.place, size, filler);
@@ -192,8 +192,8 @@ impl Backing {
         requires within { size + (plan.now.padding + length self.old.bytes) ≤ greatest_place }
         requires fits { W.fits writer.now plan.now.place size }
         ensures put { (padded : Backed) × Pads plan.now self.old padded
-            × PutsBytes (W.leaves writer.now plan.now.place size) padded self.new }
-        ensures count { length (W.leaves writer.now plan.now.place size) ≡ size }
+            × PutsBytes (W.encoding writer.now plan.now.place size) padded self.new }
+        ensures count { length (W.encoding writer.now plan.now.place size) ≡ size }
     {
         self.promises = plan.promises;
         self.inner
@@ -205,8 +205,8 @@ impl Backing {
         requires room { size ≤ self.old.room }
         requires within { size + length self.old.bytes ≤ greatest_place }
         requires fits { W.fits writer.now place size }
-        ensures put { PutsBytes (W.leaves writer.now place size) self.old self.new }
-        ensures count { length (W.leaves writer.now place size) ≡ size }
+        ensures put { PutsBytes (W.encoding writer.now place size) self.old self.new }
+        ensures count { length (W.encoding writer.now place size) ≡ size }
     {
         self.inner.put_overwritten(place, size, writer);
     }
@@ -225,7 +225,7 @@ impl Backing {
         requires fits { (place : ℕ) → length self.old.bytes + size ≤ place
             → place ≤ greatest_place → W.fits writer.now place size }
         ensures { PutsPartsIf result vtable.now (filled_part size (mask + 1)
-            (W.leaves writer.now)) self.old self.new }
+            (W.encoding writer.now)) self.old self.new }
     {
         let Ok(first) = self.plan_part(vtable.len(), 1) else {
             return false;

@@ -193,7 +193,7 @@ impl Builder {
             → place ≤ length self.old.bytes + size + alignment_mask → place ≤ greatest_place
             → F.fits filler.now place size }
         ensures { WritesPart (unshared_entry (filled_part size (alignment_mask + 1)
-            (F.leaves filler.now))) self.old result self.new }
+            (F.encoding filler.now))) self.old result self.new }
     {
         let plan = self.backing.plan_room(size, alignment_mask)?;
         self.backing.put_planned(&plan, size, filler);
@@ -215,7 +215,7 @@ impl Builder {
             → place ≤ length self.old.bytes + size + alignment_mask → place ≤ greatest_place
             → W.fits writer.now place size }
         ensures written { WritesPart (unshared_entry (filled_part size (alignment_mask + 1)
-            (W.leaves writer.now))) self.old result self.new }
+            (W.encoding writer.now))) self.old result self.new }
         ensures small { IfOk result (λ done. size ≤ greatest_place) }
     {
         let place = self.backing.make_room(size, alignment_mask)?;

@@ -163,7 +163,7 @@ impl<'a, L: ByteItems> Overwrite for Copied<'a, L> {
     ghost fits = { λ copied place n. (n ≡ length (L.bytes_of copied.items.now))
         × (n ≤ greatest_place) };
 
-    ghost leaves = { λ copied place n. L.bytes_of copied.items.now };
+    ghost encoding = { λ copied place n. L.bytes_of copied.items.now };
 
     #[inline]
     fn overwrite(&self, _place: u32, bytes: &mut [u8]) {

@@ -15,7 +15,7 @@ impl<'a, L: ByteItems> Overwrite for ListPart<'a, L> {
     ghost fits = { λ part place n. (n ≡ length (L.bytes_of part.items.now) + 4)
         × (n ≤ greatest_place) };
 
-    ghost leaves = { λ part place n. to_le_bytes w32 (length (L.bytes_of part.items.now))
+    ghost encoding = { λ part place n. to_le_bytes w32 (length (L.bytes_of part.items.now))
         ++ L.bytes_of part.items.now };
 
     #[inline(always)]

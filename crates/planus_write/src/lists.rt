@@ -22,7 +22,7 @@ pub(crate) fn write_each<P: Primitive, V: WriteAsPrimitive<P>>(
 )
     requires size { length bytes.old ≡ length values.now * P.SIZE }
     requires may { MayStand V.reach P.SIZE place values.now }
-    ensures { bytes.new ≡ items_bytes P.SIZE place (map V.leaves values.now) }
+    ensures { bytes.new ≡ items_bytes P.SIZE place (map V.encoding values.now) }
 {
     let mut at = 0;
     for value in values {
@@ -43,8 +43,8 @@ impl<'a, P: Primitive, T: VectorWrite<P>> Overwrite for Items<'a, P, T> {
     ghost fits = { λ items place n. (n ≡ length items.values.now * T.STRIDE)
         × MayStand T.Value.reach T.STRIDE place items.values.now };
 
-    ghost leaves = { λ items place n.
-        items_bytes T.STRIDE place (map T.Value.leaves items.values.now) };
+    ghost encoding = { λ items place n.
+        items_bytes T.STRIDE place (map T.Value.encoding items.values.now) };
 
     #[inline]
     fn overwrite(&self, place: u32, bytes: &mut [u8]) {
@@ -89,7 +89,7 @@ pub(crate) fn write_prepared<P: Primitive, T: VectorWrite<P>>(
     values: &[T::Value],
 ) -> Result<Offset<List<P>>, BuildError>
     requires { AllByRecursion (λ value. T.Value.reach value ≤ length builder.old.bytes) values.now }
-    ensures { WritesPrepared P.SIZE P.ALIGNMENT (map T.Value.leaves values.now)
+    ensures { WritesPrepared P.SIZE P.ALIGNMENT (map T.Value.encoding values.now)
         builder.old result builder.new }
 {
     let Some(size) = values.len().checked_mul(T::stride()) else {
@@ -109,7 +109,7 @@ pub(crate) fn write_list<P: Primitive, T: VectorWrite<P>>(
     items: &[T],
 ) -> Result<Offset<List<P>>, BuildError>
     requires { T.all_may items.now builder.old }
-    ensures { WritesList T.prepares T.Value.leaves P.SIZE P.ALIGNMENT items.now
+    ensures { WritesList T.prepares T.Value.encoding P.SIZE P.ALIGNMENT items.now
         builder.old result builder.new }
 {
     if let Some(values) = T::as_prepared(items) {

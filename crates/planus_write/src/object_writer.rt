@@ -47,8 +47,8 @@ impl<'a> ObjectWriter<'a> {
     pub fn write<P: Primitive, T: WriteAsPrimitive<P>>(&mut self, value: &T)
         requires room { P.SIZE ≤ (body_of self.old).remaining }
         requires reach { T.reach value.now ≤ (body_of self.old).place }
-        ensures written { body_of self.new ≡ wrote P.SIZE (T.leaves value.now) (body_of self.old) }
-        ensures size { length (T.leaves value.now (body_of self.old).place) ≡ P.SIZE }
+        ensures written { body_of self.new ≡ wrote P.SIZE (T.encoding value.now) (body_of self.old) }
+        ensures size { length (T.encoding value.now (body_of self.old).place) ≡ P.SIZE }
     {
         let at = self.at;
         let place = self.place - at as u32;
@@ -60,7 +60,7 @@ impl<'a> ObjectWriter<'a> {
 
 /// The fields of a table, in the order declared.
 ///
-/// `size` is the number of their bytes, `leaves` names these by the place of the first, and `reach`
+/// `size` is the number of their bytes, `encoding` names these by the place of the first, and `reach`
 /// is the greatest distance in bytes from the end to which they refer.
 pub trait ObjectFill {
     ghost use Rattle.planus_write.specs.ObjectWriting.{body_of, wrote};
@@ -69,7 +69,7 @@ pub trait ObjectFill {
 
     ghost reach: { Self → ℕ };
 
-    ghost leaves: { Self → Item };
+    ghost encoding: { Self → Item };
 
     /// Writes all fields.
     fn fill(&self, writer: &mut ObjectWriter<'_>)
@@ -77,5 +77,5 @@ pub trait ObjectFill {
         requires size { (body_of writer.old).remaining ≡ size self.now }
         requires reach { reach self.now + size self.now ≤ (body_of writer.old).place }
         ensures { body_of writer.new
-            ≡ wrote (size self.now) (leaves self.now) (body_of writer.old) };
+            ≡ wrote (size self.now) (encoding self.now) (body_of writer.old) };
 }

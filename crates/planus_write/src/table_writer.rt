@@ -68,7 +68,7 @@ impl<'a, F: ObjectFill> Overwrite for Body<'a, F> {
     ghost fits = { λ body place n. (n ≡ F.size body.filler.now)
         × (F.reach body.filler.now + F.size body.filler.now ≤ place) };
 
-    ghost leaves = { λ body place n. F.leaves body.filler.now place };
+    ghost encoding = { λ body place n. F.encoding body.filler.now place };
 
     #[inline(always)]
     fn overwrite(&self, place: u32, bytes: &mut [u8]) {
@@ -128,7 +128,7 @@ impl<const N: usize> TableWriter<N> {
         requires size { F.size filler.now + 4 ≡ self.object_size }
         requires reach { F.reach filler.now ≤ length builder.old.bytes }
         ensures { (declared : List Declared) → WasTold self.entry declared
-            → WritesTable declared (F.leaves filler.now) builder.old result builder.new }
+            → WritesTable declared (F.encoding filler.now) builder.old result builder.new }
     {
         let TableWriter {
             mut vtable,

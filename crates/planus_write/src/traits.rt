@@ -48,11 +48,11 @@ pub trait Primitive: Sized {
 /// A value that is written in place as a `P`.
 ///
 /// `reach` is the distance in bytes from the end to which it refers, 0 for a number or a bool.
-/// `leaves` names the bytes written, by their place.
+/// `encoding` names the bytes written, by their place.
 pub trait WriteAsPrimitive<P: Primitive> {
     ghost reach: { Self → ℕ };
 
-    ghost leaves: { Self → Item };
+    ghost encoding: { Self → Item };
 
     ghost field: { Self → Field };
 
@@ -61,10 +61,10 @@ pub trait WriteAsPrimitive<P: Primitive> {
     fn write(&self, bytes: &mut [u8], place: u32)
         requires size { length bytes.old ≡ P.SIZE }
         requires reach { reach self.now ≤ place }
-        ensures { bytes.new ≡ leaves self.now place };
+        ensures { bytes.new ≡ encoding self.now place };
 
     ghost is_item: { (value : Self)
-        → IsItem P.SIZE P.ALIGNMENT (leaves value) (reach value) (field value) };
+        → IsItem P.SIZE P.ALIGNMENT (encoding value) (reach value) (field value) };
 }
 
 /// A value that a builder can write as one of kind `T`.
@@ -169,7 +169,7 @@ pub trait VectorWrite<P: Primitive>: Sized {
     fn write_values(values: &[Self::Value], bytes: &mut [u8], place: u32)
         requires size { length bytes.old ≡ length values.now * STRIDE }
         requires may { MayStand Self.Value.reach STRIDE place values.now }
-        ensures { bytes.new ≡ items_bytes STRIDE place (map Self.Value.leaves values.now) };
+        ensures { bytes.new ≡ items_bytes STRIDE place (map Self.Value.encoding values.now) };
 
     ghost is_size: { STRIDE ≡ P.SIZE };
 
@@ -177,5 +177,5 @@ pub trait VectorWrite<P: Primitive>: Sized {
 
     ghost are_lawful: { AreLawful may outcome all_may prepares Self.Value.reach };
 
-    ghost has_list: { ListHasContent all_may prepares Self.Value.leaves P.SIZE P.ALIGNMENT list };
+    ghost has_list: { ListHasContent all_may prepares Self.Value.encoding P.SIZE P.ALIGNMENT list };
 }

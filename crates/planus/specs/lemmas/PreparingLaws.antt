@@ -51,9 +51,9 @@ entries_append (entry ∷ fields) others =
       alignment = field_alignment entry.1;
     } ∷ rest) (entries_append fields others)
 
-module _ {A : Type 0} (slot : ℕ) (field : A → Field) (reach : A → ℕ) (leaves : A → Item)
+module _ {A : Type 0} (slot : ℕ) (field : A → Field) (reach : A → ℕ) (encoding : A → Item)
     (size alignment : ℕ)
-    (items : (value : A) → IsItem size alignment (leaves value) (reach value) (field value)) where
+    (items : (value : A) → IsItem size alignment (encoding value) (reach value) (field value)) where
   pub both_stand : (others : List (ℕ × Field)) (others_reach : ℕ) (value : Option A) (before : ℕ)
       → max others_reach (reach_if reach value) ≤ before
       → (others_reach ≤ before → AllByRecursion (λ entry. IsField before entry.1) others)

@@ -25,7 +25,7 @@ impl<'a, F: PreparedFields, L: PreparedFields> ObjectFill for Body<'a, F, L> {
 
     ghost reach = { λ body. max (F.reach body.fields.now) (L.reach body.last.now) };
 
-    ghost leaves = { λ body place.
+    ghost encoding = { λ body place.
         body_bytes place (F.there body.fields.now ++ L.there body.last.now) };
 
     #[inline(always)]

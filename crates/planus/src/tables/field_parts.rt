@@ -58,7 +58,7 @@ pub(crate) fn write_if<P: Primitive, A: WriteAsPrimitive<P>>(
 )
     requires room { size_if P.SIZE field.now ≤ (body_of writer.old).remaining }
     requires reach { reach_if A.reach field.now ≤ (body_of writer.old).place }
-    ensures { body_of writer.new ≡ wrote (size_if P.SIZE field.now) (item_if A.leaves field.now)
+    ensures { body_of writer.new ≡ wrote (size_if P.SIZE field.now) (item_if A.encoding field.now)
         (body_of writer.old) }
 {
     match field {

@@ -37,11 +37,11 @@ impl<const SLOT: usize, P: Primitive, A: WriteAsPrimitive<P>> PreparedFields
     }
 
     ghost stand = { λ field before reached.
-        both_stand SLOT A.field A.reach A.leaves P.SIZE P.ALIGNMENT A.is_item
+        both_stand SLOT A.field A.reach A.encoding P.SIZE P.ALIGNMENT A.is_item
         [] (reach_if A.reach field.value) field.value before
         (max_itself (reach_if A.reach field.value) before reached) (λ reached. tt) };
 
-    ghost among = { λ field. both_among SLOT A.field A.reach A.leaves P.SIZE P.ALIGNMENT A.is_item
+    ghost among = { λ field. both_among SLOT A.field A.reach A.encoding P.SIZE P.ALIGNMENT A.is_item
         [] [] field.value tt };
 }
 

@@ -43,7 +43,7 @@ pub trait TableWrite {
         requires size { F.size filler.now + 4 ≡ (at self).object_size }
         requires reach { F.reach filler.now ≤ length builder.old.bytes }
         ensures { (declared : List Declared) → WasTold (at self) declared
-            → WritesTable declared (F.leaves filler.now) builder.old result builder.new };
+            → WritesTable declared (F.encoding filler.now) builder.old result builder.new };
 }
 
 impl<const N: usize> TableWrite for TableWriter<N> {

@@ -14,7 +14,7 @@ pub struct TagsField(Offset<List<u8>>);
 impl WriteAsPrimitive<Offset<List<u8>>> for TagsField {
     ghost reach = { λ field. field.0.distance };
 
-    ghost leaves = { λ field. reference_item field.0.distance };
+    ghost encoding = { λ field. reference_item field.0.distance };
 
     ghost field = { λ field. tags field.0.distance };
 
@@ -33,7 +33,7 @@ pub struct ValuesField(Offset<List<Offset<()>>>);
 impl WriteAsPrimitive<Offset<List<Offset<()>>>> for ValuesField {
     ghost reach = { λ field. field.0.distance };
 
-    ghost leaves = { λ field. reference_item field.0.distance };
+    ghost encoding = { λ field. reference_item field.0.distance };
 
     ghost field = { λ field. values field.0.distance };
 

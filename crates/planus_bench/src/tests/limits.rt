@@ -51,7 +51,7 @@ struct Bytes<'a> {
 impl<'a> WriteAsPrimitive<Largest> for Bytes<'a> {
     ghost reach = { λ item. 0 };
 
-    ghost leaves = { λ item place. item.bytes.now };
+    ghost encoding = { λ item place. item.bytes.now };
 
     ghost field = { λ item. plain (record { bytes = item.bytes.now; alignment = 1 }) };
 

@@ -20,7 +20,7 @@ struct Same<'a> {
 impl<'a> Fill for Same<'a> {
     ghost fits = { λ filler _ n. n ≡ length filler.bytes.now };
 
-    ghost leaves = { λ filler _ _. filler.bytes.now };
+    ghost encoding = { λ filler _ _. filler.bytes.now };
 
     fn fill(&self, _place: u32, bytes: &mut [u8]) {
         bytes.copy_from_slice(self.bytes);
@@ -35,7 +35,7 @@ pub struct Repeated {
 impl Fill for Repeated {
     ghost fits = { λ _ _ _. ⊤ };
 
-    ghost leaves = { λ filler _ n. replicate n filler.byte };
+    ghost encoding = { λ filler _ n. replicate n filler.byte };
 
     fn fill(&self, _place: u32, bytes: &mut [u8]) {
         bytes.fill(self.byte);
@@ -48,7 +48,7 @@ struct OwnPlace;
 impl Fill for OwnPlace {
     ghost fits = { λ _ _ n. n ≡ 4 };
 
-    ghost leaves = { λ _ place _. to_le_bytes w32 place };
+    ghost encoding = { λ _ place _. to_le_bytes w32 place };
 
     fn fill(&self, place: u32, bytes: &mut [u8]) {
         bytes.copy_from_slice(&place.to_le_bytes());
@@ -61,7 +61,7 @@ struct PlaceFirst;
 impl Fill for PlaceFirst {
     ghost fits = { λ _ _ n. 4 ≤ n };
 
-    ghost leaves = { λ _ place n. to_le_bytes w32 place ++ replicate (n - 4) 0 };
+    ghost encoding = { λ _ place n. to_le_bytes w32 place ++ replicate (n - 4) 0 };
 
     fn fill(&self, place: u32, bytes: &mut [u8]) {
         bytes[..4].copy_from_slice(&place.to_le_bytes());

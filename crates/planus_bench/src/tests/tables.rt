@@ -23,7 +23,7 @@ impl<P: Primitive, T: WriteAsPrimitive<P>> ObjectFill for One<P, T> {
 
     ghost reach = { λ one. T.reach one.field };
 
-    ghost leaves = { λ one place. T.leaves one.field place };
+    ghost encoding = { λ one place. T.encoding one.field place };
 
     fn fill(&self, writer: &mut ObjectWriter<'_>) {
         writer.write::<P, T>(&self.field);

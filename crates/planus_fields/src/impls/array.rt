@@ -27,7 +27,7 @@ impl<P: Primitive, T: VectorWrite<P>, const N: usize> WriteAs<Offset<List<P>>> f
     ghost may = { λ items old. T.all_may items old };
 
     ghost outcome = { λ items old answer new.
-        WritesList T.prepares T.Value.leaves P.SIZE P.ALIGNMENT items old answer new };
+        WritesList T.prepares T.Value.encoding P.SIZE P.ALIGNMENT items old answer new };
 
     ghost content = { λ items. T.list items };
 
@@ -47,7 +47,7 @@ impl<P: Primitive, T: VectorWrite<P>, const N: usize> WriteAsOptional<Offset<Lis
     ghost may = { λ items old. T.all_may items old };
 
     ghost outcome = { λ items old answer new.
-        AlwaysWritten (WritesList T.prepares T.Value.leaves P.SIZE P.ALIGNMENT items) old answer new };
+        AlwaysWritten (WritesList T.prepares T.Value.encoding P.SIZE P.ALIGNMENT items) old answer new };
 
     ghost content = { λ items. Some (T.list items) };
 

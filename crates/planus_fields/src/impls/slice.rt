@@ -28,7 +28,7 @@ impl<'a, P: Primitive, T: VectorWrite<P>> WriteAs<Offset<List<P>>> for &'a [T] {
     ghost may = { λ items old. T.all_may items.now old };
 
     ghost outcome = { λ items old answer new.
-        WritesList T.prepares T.Value.leaves P.SIZE P.ALIGNMENT items.now old answer new };
+        WritesList T.prepares T.Value.encoding P.SIZE P.ALIGNMENT items.now old answer new };
 
     ghost content = { λ items. T.list items.now };
 
@@ -48,7 +48,7 @@ impl<'a, P: Primitive, T: VectorWrite<P>> WriteAsOptional<Offset<List<P>>> for &
     ghost may = { λ items old. T.all_may items.now old };
 
     ghost outcome = { λ items old answer new.
-        AlwaysWritten (WritesList T.prepares T.Value.leaves P.SIZE P.ALIGNMENT items.now) old answer
+        AlwaysWritten (WritesList T.prepares T.Value.encoding P.SIZE P.ALIGNMENT items.now) old answer
         new };
 
     ghost content = { λ items. Some (T.list items.now) };
@@ -70,7 +70,7 @@ impl<'a, P: Primitive, T: VectorWrite<P>> WriteAsDefault<Offset<List<P>>, ()> fo
     ghost may = { λ items old. T.all_may items.now old };
 
     ghost outcome = { λ items default old answer new.
-        LeftOutWhere (items.now ≡ []) (WritesList T.prepares T.Value.leaves P.SIZE P.ALIGNMENT
+        LeftOutWhere (items.now ≡ []) (WritesList T.prepares T.Value.encoding P.SIZE P.ALIGNMENT
         items.now) old answer new };
 
     ghost content = { λ items default. unless (is_empty items.now) (Some (T.list items.now)) };

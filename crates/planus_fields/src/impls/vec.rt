@@ -28,7 +28,7 @@ impl<P: Primitive, T: VectorWrite<P>> WriteAs<Offset<List<P>>> for Vec<T> {
     ghost may = { λ items old. T.all_may items.items old };
 
     ghost outcome = { λ items old answer new.
-        WritesList T.prepares T.Value.leaves P.SIZE P.ALIGNMENT items.items old answer new };
+        WritesList T.prepares T.Value.encoding P.SIZE P.ALIGNMENT items.items old answer new };
 
     ghost content = { λ items. T.list items.items };
 
@@ -48,7 +48,7 @@ impl<P: Primitive, T: VectorWrite<P>> WriteAsOptional<Offset<List<P>>> for Vec<T
     ghost may = { λ items old. T.all_may items.items old };
 
     ghost outcome = { λ items old answer new.
-        AlwaysWritten (WritesList T.prepares T.Value.leaves P.SIZE P.ALIGNMENT items.items) old
+        AlwaysWritten (WritesList T.prepares T.Value.encoding P.SIZE P.ALIGNMENT items.items) old
         answer new };
 
     ghost content = { λ items. Some (T.list items.items) };
@@ -70,7 +70,7 @@ impl<P: Primitive, T: VectorWrite<P>> WriteAsDefault<Offset<List<P>>, ()> for Ve
     ghost may = { λ items old. T.all_may items.items old };
 
     ghost outcome = { λ items default old answer new.
-        LeftOutWhere (items.items ≡ []) (WritesList T.prepares T.Value.leaves P.SIZE P.ALIGNMENT
+        LeftOutWhere (items.items ≡ []) (WritesList T.prepares T.Value.encoding P.SIZE P.ALIGNMENT
         items.items) old answer new };
 
     ghost content = { λ items default. unless (is_empty items.items) (Some (T.list items.items)) };

@@ -56,7 +56,7 @@ struct PlaceWord;
 impl Fill for PlaceWord {
     ghost fits = { λ _ place n. n ≡ 4 };
 
-    ghost leaves = { λ _ place n. to_le_bytes w32 place };
+    ghost encoding = { λ _ place n. to_le_bytes w32 place };
 
     fn fill(&self, place: u32, bytes: &mut [u8]) {
         bytes.copy_from_slice(&place.to_le_bytes());
@@ -66,7 +66,7 @@ impl Fill for PlaceWord {
 impl Overwrite for PlaceWord {
     ghost fits = { λ _ place n. n ≡ 4 };
 
-    ghost leaves = { λ _ place n. to_le_bytes w32 place };
+    ghost encoding = { λ _ place n. to_le_bytes w32 place };
 
     fn overwrite(&self, place: u32, bytes: &mut [u8]) {
         bytes.copy_from_slice(&place.to_le_bytes());

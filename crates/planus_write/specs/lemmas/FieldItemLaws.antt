@@ -16,7 +16,7 @@ pub plain_is_item : (size alignment : ℕ) (bytes : List ℕ) → length bytes �
 plain_is_item size alignment bytes sized layout = record {
   size_is = sized;
   alignment_is = refl;
-  leaves_is = refl;
+  encoding_is = refl;
   stands = λ before reached. (
     subst (λ n. 0 < n) (sym sized) layout.positive,
     subst (λ n. alignment ∣ n) (sym sized) layout.multiple,
@@ -35,7 +35,7 @@ pub reference_is_item : (distance : ℕ)
 reference_is_item distance = record {
   size_is = refl;
   alignment_is = refl;
-  leaves_is = refl;
+  encoding_is = refl;
   stands = λ before reached. reached;
 }
 
@@ -44,7 +44,7 @@ pub tags_are_item : (distance : ℕ)
 tags_are_item distance = record {
   size_is = refl;
   alignment_is = refl;
-  leaves_is = refl;
+  encoding_is = refl;
   stands = λ before reached. reached;
 }
 
@@ -53,6 +53,6 @@ pub values_are_item : (distance : ℕ)
 values_are_item distance = record {
   size_is = refl;
   alignment_is = refl;
-  leaves_is = refl;
+  encoding_is = refl;
   stands = λ before reached. reached;
 }

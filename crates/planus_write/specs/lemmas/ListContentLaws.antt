@@ -24,59 +24,59 @@ use Rattle.planus_write.specs.lemmas.ContentLaws.{all_stay, value_added}
 use Rattle.planus_write.specs.ListContents.{WritesItems, ListHasContent}
 
 pub list_prepared : {X Y A T : Type 0} {all_may : List Y → State → Type 0}
-    {prepares : List Y → Outcome (List A)} {leaves : A → Item} {size alignment : ℕ}
+    {prepares : List Y → Outcome (List A)} {encoding : A → Item} {size alignment : ℕ}
     {list : List Y → Content} (items : X → List Y)
-    → ListHasContent all_may prepares leaves size alignment list
+    → ListHasContent all_may prepares encoding size alignment list
     → PreparesContent {A = Offset T} (λ x old. all_may (items x) old)
-    (λ x old answer new. WritesList prepares leaves size alignment (items x) old answer new)
+    (λ x old answer new. WritesList prepares encoding size alignment (items x) old answer new)
     (λ x. list (items x)) (λ offset. reference offset.distance)
 list_prepared items lawful = record {
   comes = λ x old offset new history mays done is_history.
       lawful.comes (items x) old offset.distance new history mays done is_history;
 }
 
-record IsPut {Y A : Type 0} (prepares : List Y → Outcome (List A)) (leaves : A → Item)
+record IsPut {Y A : Type 0} (prepares : List Y → Outcome (List A)) (encoding : A → Item)
     (size alignment : ℕ) (ys : List Y) (old : State) (distance : ℕ) (new : State) : Type 0 where
   items : List A
   between : State
   prepared : prepares ys old (Ok items) between
   got : List ℕ
-  put : WritesEntries (list_entries size alignment (map leaves items)) [] between (Ok got) new
+  put : WritesEntries (list_entries size alignment (map encoding items)) [] between (Ok got) new
   at : distance ≡ last_of got
 
-is_put : {Y A : Type 0} (prepares : List Y → Outcome (List A)) (leaves : A → Item)
+is_put : {Y A : Type 0} (prepares : List Y → Outcome (List A)) (encoding : A → Item)
     (size alignment : ℕ) (ys : List Y) (old : State) (distance : ℕ) (new : State)
-    → WritesItems prepares leaves size alignment ys old (Ok distance) new
-    → IsPut prepares leaves size alignment ys old distance new
-is_put prepares leaves size alignment ys old distance new done = record {
+    → WritesItems prepares encoding size alignment ys old (Ok distance) new
+    → IsPut prepares encoding size alignment ys old distance new
+is_put prepares encoding size alignment ys old distance new done = record {
   items = done.0;
   between = done.1;
   prepared = done.2;
   got = done.3.0;
   put = subst
       (λ (state : State).
-      WritesEntries (list_entries size alignment (map leaves done.0)) [] done.1 (Ok done.3.0) state)
+      WritesEntries (list_entries size alignment (map encoding done.0)) [] done.1 (Ok done.3.0) state)
       (sym done.3.3.1) done.3.2;
   at = cc;
 }
 
-ready_put : {Y : Type 0} (leaves : Y → Item) (size alignment : ℕ) (ys : List Y) (old : State)
+ready_put : {Y : Type 0} (encoding : Y → Item) (size alignment : ℕ) (ys : List Y) (old : State)
     (distance : ℕ) (new : State)
-    → WritesItems Answers leaves size alignment ys old (Ok distance) new
+    → WritesItems Answers encoding size alignment ys old (Ok distance) new
     → (got : List ℕ)
-    × WritesEntries (list_entries size alignment (map leaves ys)) [] old (Ok got) new
+    × WritesEntries (list_entries size alignment (map encoding ys)) [] old (Ok got) new
     × (distance ≡ last_of got)
-ready_put {Y} leaves size alignment ys old distance new done =
-    let put = is_put Answers leaves size alignment ys old distance new done in
+ready_put {Y} encoding size alignment ys old distance new done =
+    let put = is_put Answers encoding size alignment ys old distance new done in
     let items : put.items ≡ ys = (let prepared = put.prepared in cc) in (
       put.got,
       subst
           (λ (state : State).
-          WritesEntries (list_entries size alignment (map leaves ys)) [] state (Ok put.got) new)
+          WritesEntries (list_entries size alignment (map encoding ys)) [] state (Ok put.got) new)
           put.prepared.1
           (subst
           (λ (items : List Y).
-          WritesEntries (list_entries size alignment (map leaves items)) [] put.between (Ok put.got)
+          WritesEntries (list_entries size alignment (map encoding items)) [] put.between (Ok put.got)
           new)
           items put.put),
       put.at,
@@ -244,12 +244,12 @@ all_as outcome of (y ∷ ys) old items new done = (
 
 pub list_prepared_as : {X Y A : Type 0} {may : X → State → Type 0} {outcome : X → Outcome A}
     {all_may : List X → State → Type 0} {prepares : List X → Outcome (List A)} {reach : A → ℕ}
-    {leaves : A → Item} {size alignment : ℕ} {list : List X → Content} (of : Y → X)
+    {encoding : A → Item} {size alignment : ℕ} {list : List X → Content} (of : Y → X)
     → AreLawful may outcome all_may prepares reach
-    → ListHasContent all_may prepares leaves size alignment list
+    → ListHasContent all_may prepares encoding size alignment list
     → ListHasContent (λ ys old. all_may (map of ys) old)
     (λ ys. PreparesItems (λ y old answer new. outcome (of y) old answer new) ys)
-    leaves size alignment (λ ys. list (map of ys))
+    encoding size alignment (λ ys. list (map of ys))
 list_prepared_as {X} {Y} {A} {outcome = outcome} {prepares = prepares} of are lawful = record {
   comes = λ ys old distance new history mays done is_history.
       lawful.comes (map of ys) old distance new history mays (

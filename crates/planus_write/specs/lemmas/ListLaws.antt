@@ -218,15 +218,15 @@ offsets_are_lawful {T} = ready_are_lawful (λ offsets old. AllIn old offsets) (�
 
 module _ {X A : Type 0} (all_may : List X → State → Type 0) (prepares : List X → Outcome (List A))
     (grow : (xs : List X) (old : State) → all_may xs old → GrowsFrom old (prepares xs))
-    (leaves : A → Item) (size alignment : ℕ) where
+    (encoding : A → Item) (size alignment : ℕ) where
   abbrev written : List A → List Entry
-  written items = list_entries size alignment (map leaves items)
+  written items = list_entries size alignment (map encoding items)
 
   abbrev does : List X → Outcome ℕ
   does xs = then_does (prepares xs) (λ items. AnswersLast (WritesEntries (written items) []))
 
   pub list_grows : {T : Type 0} (xs : List X) (old : State) → all_may xs old
-      → GrowsFrom {A = Offset T} old (WritesList prepares leaves size alignment xs)
+      → GrowsFrom {A = Offset T} old (WritesList prepares encoding size alignment xs)
   list_grows xs old h =
       as_offset_grows (does xs) old
       (then_grows old (prepares xs)
@@ -246,72 +246,72 @@ module _ {X A : Type 0} (all_may : List X → State → Type 0) (prepares : List
 
 pub list_is_lawful : {X A Y T : Type 0} {may : X → State → Type 0} {outcome : X → Outcome A}
     {all_may : List X → State → Type 0} {prepares : List X → Outcome (List A)} {reach : A → ℕ}
-    {leaves : A → Item} (size alignment : ℕ) (items_of : Y → List X)
+    {encoding : A → Item} (size alignment : ℕ) (items_of : Y → List X)
     → AreLawful may outcome all_may prepares reach
     → IsLawful {X = Y} {A = Offset T} (λ y old. all_may (items_of y) old)
-    (λ y old answer new. WritesList prepares leaves size alignment (items_of y) old answer new)
+    (λ y old answer new. WritesList prepares encoding size alignment (items_of y) old answer new)
     (λ offset. offset.distance)
-list_is_lawful {all_may = all_may} {prepares = prepares} {leaves = leaves} size alignment items_of
+list_is_lawful {all_may = all_may} {prepares = prepares} {encoding = encoding} size alignment items_of
     lawful =
     record {
       grows = λ y old answer new h done.
           list_grows all_may prepares
           (λ xs old h answer new done. lawful.grow xs old answer new h done)
-          leaves size alignment (items_of y) old h answer new done;
+          encoding size alignment (items_of y) old h answer new done;
       reaches = λ y old offset new h done.
           let same : offset.distance ≡ last_of done.3.0 = cc in
           subst (λ d. d ≤ length new.bytes) (sym same)
           (subst (λ (state : State). last_of done.3.0 ≤ length state.bytes) (sym done.3.3.1)
           (list_reaches all_may prepares
-          (λ xs old h answer new done. lawful.grow xs old answer new h done) leaves size alignment
+          (λ xs old h answer new done. lawful.grow xs old answer new h done) encoding size alignment
           done.0 done.1 done.3.0 done.3.1 done.3.2));
       stays = λ y old new grows h. lawful.stay (items_of y) old new grows h;
     }
 
-pub ready_list_is_put : {A T : Type 0} (leaves : A → Item) (size alignment : ℕ) (xs : List A)
+pub ready_list_is_put : {A T : Type 0} (encoding : A → Item) (size alignment : ℕ) (xs : List A)
     (old : State) (offset : Offset T) (new : State)
-    → WritesList Answers leaves size alignment xs old (Ok offset) new
+    → WritesList Answers encoding size alignment xs old (Ok offset) new
     → (got : List ℕ)
-    × WritesEntries (list_entries size alignment (map leaves xs)) [] old (Ok got) new
+    × WritesEntries (list_entries size alignment (map encoding xs)) [] old (Ok got) new
     × (offset.distance ≡ last_of got)
-ready_list_is_put {A} {T} leaves size alignment xs old offset new h =
+ready_list_is_put {A} {T} encoding size alignment xs old offset new h =
     let items : h.0 ≡ xs = cc in
     let counted : offset.distance ≡ last_of h.3.0 = cc in (
       h.3.0,
       subst
           (λ (state : State).
-          WritesEntries (list_entries size alignment (map leaves xs)) [] old (Ok h.3.0) state)
+          WritesEntries (list_entries size alignment (map encoding xs)) [] old (Ok h.3.0) state)
           (sym h.3.3.1)
           (subst
           (λ (state : State).
-          WritesEntries (list_entries size alignment (map leaves xs)) [] state (Ok h.3.0) h.3.1)
+          WritesEntries (list_entries size alignment (map encoding xs)) [] state (Ok h.3.0) h.3.1)
           h.2.1
           (subst
           (λ (items : List A).
-          WritesEntries (list_entries size alignment (map leaves items)) [] h.1 (Ok h.3.0)
+          WritesEntries (list_entries size alignment (map encoding items)) [] h.1 (Ok h.3.0)
           h.3.1)
           items h.3.2)),
       counted,
     )
 
 pub ready_list_is_refused
-    : {A : Type 0} (T : Type 0) (leaves : A → Item) (size alignment : ℕ) (xs : List A)
+    : {A : Type 0} (T : Type 0) (encoding : A → Item) (size alignment : ℕ) (xs : List A)
     (old : State) (error : BuildError) (new : State)
-    → WritesList {T = T} Answers leaves size alignment xs old (Err error) new
-    → WritesEntries (list_entries size alignment (map leaves xs)) [] old (Err error) new
-ready_list_is_refused T leaves size alignment xs old error new (inl h) = (cc)
-ready_list_is_refused {A} T leaves size alignment xs old error new
+    → WritesList {T = T} Answers encoding size alignment xs old (Err error) new
+    → WritesEntries (list_entries size alignment (map encoding xs)) [] old (Err error) new
+ready_list_is_refused T encoding size alignment xs old error new (inl h) = (cc)
+ready_list_is_refused {A} T encoding size alignment xs old error new
     (inr (items, mid, h, inl refused)) =
     let same : items ≡ xs = cc in
     subst
     (λ (state : State).
-    WritesEntries (list_entries size alignment (map leaves xs)) [] state (Err error) new)
+    WritesEntries (list_entries size alignment (map encoding xs)) [] state (Err error) new)
     h.1
     (subst
     (λ (all : List A).
-    WritesEntries (list_entries size alignment (map leaves all)) [] mid (Err error) new)
+    WritesEntries (list_entries size alignment (map encoding all)) [] mid (Err error) new)
     same refused)
-ready_list_is_refused T leaves size alignment xs old error new (inr (items, mid, h, inr refused)) =
+ready_list_is_refused T encoding size alignment xs old error new (inr (items, mid, h, inr refused)) =
     (cc)
 
 pub plain_items_are : {A : Type 0} (bytes_of : A → List ℕ) (xs : List A)

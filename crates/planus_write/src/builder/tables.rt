@@ -86,7 +86,7 @@ impl Builder {
         requires fits { (place : ℕ) → length self.old.bytes + size ≤ place
             → place ≤ greatest_place → W.fits writer.now place size }
         ensures { PutsTableIf result vtable.now (filled_part size (mask + 1)
-            (W.leaves writer.now)) self.old self.new }
+            (W.encoding writer.now)) self.old self.new }
     {
         !self.vtables.is_on() && self.backing.put_table(vtable, size, mask, writer)
     }

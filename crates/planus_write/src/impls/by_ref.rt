@@ -19,7 +19,7 @@ use crate::union_vector_offset::UnionVectorOffset;
 impl<'a, P: Primitive, T: WriteAsPrimitive<P>> WriteAsPrimitive<P> for ByRef<'a, T> {
     ghost reach = { λ by_ref. T.reach by_ref.0.now };
 
-    ghost leaves = { λ by_ref. T.leaves by_ref.0.now };
+    ghost encoding = { λ by_ref. T.encoding by_ref.0.now };
 
     ghost field = { λ by_ref. T.field by_ref.0.now };
 

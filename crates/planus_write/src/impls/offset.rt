@@ -35,7 +35,7 @@ impl<T> Primitive for Offset<T> {
 impl<T> WriteAsPrimitive<Offset<T>> for Offset<T> {
     ghost reach = { λ offset. offset.distance };
 
-    ghost leaves = { λ offset. reference_item offset.distance };
+    ghost encoding = { λ offset. reference_item offset.distance };
 
     ghost field = { λ offset. reference offset.distance };
 

@@ -32,7 +32,7 @@ impl<P: Plain> Primitive for P {
 impl<P: Plain> WriteAsPrimitive<P> for P {
     ghost reach = { λ x. 0 };
 
-    ghost leaves = { λ x. plain_item ((P.shape).encoded x) };
+    ghost encoding = { λ x. plain_item ((P.shape).encoded x) };
 
     ghost field = { λ x. plain (record { bytes = (P.shape).encoded x; alignment = P.ALIGNMENT }) };
 

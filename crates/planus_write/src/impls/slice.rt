@@ -16,7 +16,7 @@ impl<'a, P: Primitive, T: VectorWrite<P>> WriteAsOffset<List<P>> for &'a [T] {
     ghost may = { λ items old. T.all_may items.now old };
 
     ghost outcome = { λ items old answer new.
-        WritesList T.prepares T.Value.leaves P.SIZE P.ALIGNMENT items.now old answer new };
+        WritesList T.prepares T.Value.encoding P.SIZE P.ALIGNMENT items.now old answer new };
 
     #[inline]
     fn prepare(&self, builder: &mut Builder) -> Result<Offset<List<P>>, BuildError> {

@@ -16,7 +16,7 @@ impl<P: Primitive, T: VectorWrite<P>> WriteAsOffset<List<P>> for Vec<T> {
     ghost may = { λ items old. T.all_may items.items old };
 
     ghost outcome = { λ items old answer new.
-        WritesList T.prepares T.Value.leaves P.SIZE P.ALIGNMENT items.items old answer new };
+        WritesList T.prepares T.Value.encoding P.SIZE P.ALIGNMENT items.items old answer new };
 
     #[inline]
     fn prepare(&self, builder: &mut Builder) -> Result<Offset<List<P>>, BuildError> {

@@ -18,7 +18,7 @@ impl ObjectFill for Wide {
 
     ghost reach = { λ wide. 0 };
 
-    ghost leaves = { λ wide place. to_le_bytes w64 wide.first ++ to_le_bytes w8 wide.second };
+    ghost encoding = { λ wide place. to_le_bytes w64 wide.first ++ to_le_bytes w8 wide.second };
 
     fn fill(&self, writer: &mut ObjectWriter<'_>) {
         writer.write::<u64, u64>(&self.first);
@@ -37,7 +37,7 @@ impl ObjectFill for Named {
 
     ghost reach = { λ named. named.name.distance };
 
-    ghost leaves = { λ named place.
+    ghost encoding = { λ named place.
         to_le_bytes w32 (place - named.name.distance) ++ to_le_bytes w16 (cast_unsigned w16 named.damage) };
 
     fn fill(&self, writer: &mut ObjectWriter<'_>) {
@@ -54,7 +54,7 @@ impl ObjectFill for Nothing {
 
     ghost reach = { λ nothing. 0 };
 
-    ghost leaves = { λ nothing place. [] };
+    ghost encoding = { λ nothing place. [] };
 
     fn fill(&self, writer: &mut ObjectWriter<'_>) {
         let _remaining = writer.remaining();

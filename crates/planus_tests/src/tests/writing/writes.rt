@@ -15,7 +15,7 @@ struct Repeated {
 impl Fill for Repeated {
     ghost fits = { λ _ _ _. ⊤ };
 
-    ghost leaves = { λ filler _ n. replicate n filler.byte };
+    ghost encoding = { λ filler _ n. replicate n filler.byte };
 
     fn fill(&self, _place: u32, bytes: &mut [u8]) {
         bytes.fill(self.byte);
@@ -25,7 +25,7 @@ impl Fill for Repeated {
 impl Overwrite for Repeated {
     ghost fits = { λ _ _ _. ⊤ };
 
-    ghost leaves = { λ writer _ n. replicate n writer.byte };
+    ghost encoding = { λ writer _ n. replicate n writer.byte };
 
     fn overwrite(&self, _place: u32, bytes: &mut [u8]) {
         bytes.fill(self.byte);

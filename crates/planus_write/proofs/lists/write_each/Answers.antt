@@ -16,10 +16,10 @@ loop-value-preserved g c =
     = c.split_at_mut-item.ensures.back ∙ ap (λ n. drop n c.split_at_mut-before.result.1.now) turned ∙ ap (drop size) c.split_at_mut-before.ensures.back in
     let sized : length c.write.new.bytes ≡ size = c.write.auto.bytes ∙ c.split_at_mut-item.ensures.front_len ∙ turned in (
       (omega (arith, at_is, step)),
-      more_counted g.V.WriteAsPrimitive.leaves size c.args.place c.args.values.now c.loop-value.value-index c.value-item.result c.loop-value.at c.loop-value.bytes c.args.bytes.now
+      more_counted g.V.WriteAsPrimitive.encoding size c.args.place c.args.values.now c.loop-value.value-index c.value-item.result c.loop-value.at c.loop-value.bytes c.args.bytes.now
           c.split_at_mut-before.result.0.now c.write.new.bytes c.split_at_mut-item.result.1.now
           at_is c.loop-value.invariant.1 c.loop-value.invariant.2 before_is behind_is c.write.ensures sized c.loop-value-test.true next,
-      more_written g.V.WriteAsPrimitive.leaves size c.args.place c.args.values.now c.loop-value.value-index c.value-item.result c.loop-value.at c.loop-value.bytes c.args.bytes.now
+      more_written g.V.WriteAsPrimitive.encoding size c.args.place c.args.values.now c.loop-value.value-index c.value-item.result c.loop-value.at c.loop-value.bytes c.args.bytes.now
           c.split_at_mut-before.result.0.now c.write.new.bytes c.split_at_mut-item.result.1.now
           at_is c.loop-value.invariant.1 c.loop-value.invariant.2 before_is behind_is c.write.ensures sized c.loop-value-test.true next,
     )

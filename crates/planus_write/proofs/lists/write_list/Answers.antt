@@ -12,5 +12,5 @@ prepare_items-requires g c =
 
 pub returns-in-Some : goal.returns-in-Some
 returns-in-Some g c =
-    list_is g.T.VectorWrite.prepares g.T.Value.WriteAsPrimitive.leaves g.P.Primitive.SIZE g.P.Primitive.ALIGNMENT c.args.items.now c.in-Some.values.now
+    list_is g.T.VectorWrite.prepares g.T.Value.WriteAsPrimitive.encoding g.P.Primitive.SIZE g.P.Primitive.ALIGNMENT c.args.items.now c.in-Some.values.now
     c.args.builder.now c.args.builder.now (c.in-Some.ensures c.args.builder.now) c.write_prepared.result c.write_prepared.new.builder c.write_prepared.ensures

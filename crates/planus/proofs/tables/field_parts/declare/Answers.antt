@@ -8,7 +8,7 @@ pub returns-clause-told : goal.returns-clause-told
 returns-clause-told g c = λ fields told.
     let value = c.args._field.now in
     told_item c.args.slot g.A.WriteAsPrimitive.field g.P.Primitive.SIZE g.P.Primitive.ALIGNMENT
-    (g.A.WriteAsPrimitive.reach value) (g.A.WriteAsPrimitive.leaves value) value
+    (g.A.WriteAsPrimitive.reach value) (g.A.WriteAsPrimitive.encoding value) value
     (g.met.A.WriteAsPrimitive.is_item value) (g.W.TableWrite.at c.enter.new.self) fields
     (c.enter.ensures.told _ told)
 

@@ -10,7 +10,7 @@ use Rattle.planus_write.proofs.builder.Builder.write_over.Given as given
 use Rattle.planus_write.proofs.builder.Builder.write_over.Goals as goal
 
 abbrev part : (g : given.Over) → goal.After-put_overwritten g → Part
-part g c = filled_part c.args.size (c.args.alignment_mask + 1) (g.W.Overwrite.leaves c.args.writer.now)
+part g c = filled_part c.args.size (c.args.alignment_mask + 1) (g.W.Overwrite.encoding c.args.writer.now)
 
 put : (g : given.Over) → (c : goal.After-put_overwritten g)
     → PlacesEntry (unshared_entry (part g c)) [] (state_of c.self.inside) (length c.put_overwritten.new.self.bytes) (state_of (record c.self.inside { backing = c.put_overwritten.new.self }))
@@ -25,7 +25,7 @@ pub returns-clause-written : goal.returns-clause-written
 returns-clause-written g c = rw (← c.self.view_is) (put g c)
 
 abbrev refused_part : (g : given.Over) → goal.After-from_residual g → Part
-refused_part g c = filled_part c.args.size (c.args.alignment_mask + 1) (g.W.Overwrite.leaves c.args.writer.now)
+refused_part g c = filled_part c.args.size (c.args.alignment_mask + 1) (g.W.Overwrite.encoding c.args.writer.now)
 
 refused : (g : given.Over) → (c : goal.After-from_residual g) → Refuses (unshared_entry (refused_part g c)) [] (state_of c.self.inside) c.in_err-place.field-0.0 (state_of (record c.self.inside { backing = c.make_room.new.self }))
 refused g c = unshared_refused (refused_part g c) c.self.inside.backing _ _ c.in_err-place.field-0.0 c.make_room.new.self c.in_err-place.ensures.0 c.in_err-place.ensures.1

@@ -11,7 +11,7 @@ use Rattle.planus_write.proofs.builder.Builder.write_with.Given as given
 use Rattle.planus_write.proofs.builder.Builder.write_with.Goals as goal
 
 abbrev part : (g : given.Over) → goal.After-put_planned g → Part
-part g c = filled_part c.args.size (c.args.alignment_mask + 1) (g.F.Fill.leaves c.args.filler.now)
+part g c = filled_part c.args.size (c.args.alignment_mask + 1) (g.F.Fill.encoding c.args.filler.now)
 
 put : (g : given.Over) → (c : goal.After-put_planned g)
     → PlacesEntry (unshared_entry (part g c)) [] (state_of c.self.inside) (length c.put_planned.new.self.bytes) (state_of (record c.self.inside { backing = c.put_planned.new.self }))
@@ -28,7 +28,7 @@ pub returns : goal.returns
 returns g c = rw (← c.self.view_is) (put g c)
 
 abbrev refused_part : (g : given.Over) → goal.After-from_residual g → Part
-refused_part g c = filled_part c.args.size (c.args.alignment_mask + 1) (g.F.Fill.leaves c.args.filler.now)
+refused_part g c = filled_part c.args.size (c.args.alignment_mask + 1) (g.F.Fill.encoding c.args.filler.now)
 
 refused : (g : given.Over) → (c : goal.After-from_residual g) → Refuses (unshared_entry (refused_part g c)) [] (state_of c.self.inside) c.in_err-plan.field-0.0 (state_of (record c.self.inside { backing = c.plan_room.new.self }))
 refused g c = unshared_refused (refused_part g c) c.self.inside.backing _ _ c.in_err-plan.field-0.0 c.plan_room.new.self c.in_err-plan.ensures.0 c.in_err-plan.ensures.1

@@ -41,6 +41,6 @@ returns g c =
     let body = c.args.self.now in
     both_written (g.B.PreparedFields.there body.before.now) (field_in g.row.SLOT g.A.WriteAsPrimitive.field body.value.now) _ _ _
     c.write.ensures
-    (c.write_if.ensures ∙ one_written g.row.SLOT g.A.WriteAsPrimitive.field g.A.WriteAsPrimitive.leaves
+    (c.write_if.ensures ∙ one_written g.row.SLOT g.A.WriteAsPrimitive.field g.A.WriteAsPrimitive.encoding
     g.A.WriteAsPrimitive.reach g.P.Primitive.SIZE g.P.Primitive.ALIGNMENT g.met.A.WriteAsPrimitive.is_item
     body.value.now _)

@@ -8,7 +8,7 @@ use Rattle.planus_write.proofs.builder.tables.Builder.put_table.Given as given
 use Rattle.planus_write.proofs.builder.tables.Builder.put_table.Goals as goal
 
 abbrev body : (g : given.Over) → goal.After-put_table g → Part
-body g c = filled_part c.args.size (c.args.mask + 1) (g.W.Overwrite.leaves c.args.writer.now)
+body g c = filled_part c.args.size (c.args.mask + 1) (g.W.Overwrite.encoding c.args.writer.now)
 
 put : (g : given.Over) → (c : goal.After-put_table g)
     → PutsTableIf c.put_table.result c.args.vtable.now (body g c) (state_of c.self.inside) (state_of (record c.self.inside { backing = c.put_table.new.self }))
