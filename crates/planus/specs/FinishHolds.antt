@@ -69,7 +69,8 @@ HoldsBySize size_first steps root identifier given = SizedHolds steps root ident
 -- identifier follows, every alignment is kept, and the bytes are the fewest.
 -- The format: a buffer begins with a reference to its root; four bytes that identify the file may
 -- follow.
-pub record FinishHolds (settings : CacheSettings) (steps : List Step) (given : Finish) : Type 0 where
+pub record FinishHolds (settings : CacheSettings) (steps : List Step)
+    (given : Finish) : Type 0 where
   pub number : ℕ
   pub front : Front
   pub root : ℕ

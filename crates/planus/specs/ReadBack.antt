@@ -131,7 +131,8 @@ KeptTablesStay =
 abbrev pub FinishesKeepTables : {X T : Type 0} → (X → State → Type 0) → (X → Outcome (Offset T))
     → Type 0
 FinishesKeepTables {X} may outcome =
-    (contents : List (ℕ × Option Content)) (history : History) (state : State) (distance : ℕ) (root : X)
+    (contents : List (ℕ × Option Content)) (history : History) (state : State) (distance : ℕ)
+    (root : X)
     (identifier : Option (List ℕ)) (bytes : List ℕ) → IsHistoryOf state history
     → TableIsKept history contents distance → IsTrue (are_apart contents) → may root state
     → FinishGives (outcome root) identifier state bytes → TableStands bytes contents distance
@@ -140,7 +141,8 @@ FinishesKeepTables {X} may outcome =
 abbrev pub SizedFinishesKeepTables : {X T : Type 0} → (X → State → Type 0)
     → (X → Outcome (Offset T)) → Type 0
 SizedFinishesKeepTables {X} may outcome =
-    (contents : List (ℕ × Option Content)) (history : History) (state : State) (distance : ℕ) (root : X)
+    (contents : List (ℕ × Option Content)) (history : History) (state : State) (distance : ℕ)
+    (root : X)
     (identifier : Option (List ℕ)) (bytes : List ℕ) → IsHistoryOf state history
     → TableIsKept history contents distance → IsTrue (are_apart contents) → may root state
     → SizedFinishGives (outcome root) identifier state bytes

@@ -11,7 +11,8 @@ use Rattle.planus_read.specs.Values.{Value, Field}
 use Rattle.planus_write.specs.Shared.{CacheSettings}
 use Rattle.planus_back.specs.Parts.{Part, Written}
 use Rattle.planus_write.specs.Limits.{IsWithinLimit}
-use Rattle.planus_write.specs.History.{History, Entry, no_history, Puts, PutsAll, part_after, found_before}
+use Rattle.planus_write.specs.History.{History, Entry, no_history, Puts, PutsAll}
+use Rattle.planus_write.specs.History.{part_after, found_before}
 use Rattle.planus_write.specs.History.{ComesToTooLarge as ComesToTooLargeEntry}
 use Rattle.planus_write.specs.Parts.{Named, named_by, entries_of, finish_entry}
 use Rattle.planus_write.specs.Parts.{sized_finish_entry}

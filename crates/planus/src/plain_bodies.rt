@@ -41,7 +41,10 @@ macro_rules! put_fields {
 /// ```
 #[macro_export]
 macro_rules! read_fields {
-    ($name:ident, $buffer:ident, $offset:ident; $first:ident $(, $field:ident: $at:literal)* $(,)?) => {
+    (
+        $name:ident, $buffer:ident, $offset:ident;
+        $first:ident $(, $field:ident: $at:literal)* $(,)?
+    ) => {
         Ok($name {
             $first: $crate::Plain::read($buffer, $offset)?,
             $($field: $crate::Plain::read($buffer, $offset + $at)?,)*

@@ -46,13 +46,15 @@ abbrev pub Adds : CacheView → ℕ → CacheView → Type 0
 Adds old distance new = (other : ℕ) → Has new other ↔ (Has old other ⊎ (other ≡ distance))
 
 -- it fits all bytes that the cache before did and that have the key at the distance
-abbrev pub FitsWhereKeyStands : (List ℕ → Option (List ℕ)) → CacheView → List ℕ → ℕ → CacheView → Type 0
+abbrev pub FitsWhereKeyStands : (List ℕ → Option (List ℕ)) → CacheView → List ℕ → ℕ → CacheView
+    → Type 0
 FitsWhereKeyStands key_in old key distance new =
     (bytes : List ℕ) → Fits key_in old bytes → key_at key_in bytes distance ≡ Some key
     → Fits key_in new bytes
 
 -- the same where the key there had this bucket
-abbrev pub FitsWhereItsKeyStands : (List ℕ → Option (List ℕ)) → CacheView → Bucket → ℕ → CacheView → Type 0
+abbrev pub FitsWhereItsKeyStands : (List ℕ → Option (List ℕ)) → CacheView → Bucket → ℕ → CacheView
+    → Type 0
 FitsWhereItsKeyStands key_in old bucket distance new =
     (key : List ℕ) → IsBucketOf old key bucket → FitsWhereKeyStands key_in old key distance new
 

@@ -315,7 +315,8 @@ impl BackVec {
         filler: &F,
     ) -> Result<(), AllocError>
         requires { F.fits filler.now place n }
-        ensures ok { OnOk result (self.new.bytes ≡ F.encoding filler.now place n ++ self.old.bytes) }
+        ensures ok { OnOk result
+            (self.new.bytes ≡ F.encoding filler.now place n ++ self.old.bytes) }
         ensures err { OnErr result (self.new ≡ self.old) }
         ensures count { OnOk result (length self.new.bytes ≡ n + length self.old.bytes) }
         ensures enough { n ≤ self.old.room → IsOk result }

@@ -71,7 +71,8 @@ pub(crate) fn allocate<T, A: Allocator>(
 }
 
 pub(crate) fn deallocate<T, A: Allocator>(alloc: &A, slots: Slots<T>, deed: Deed<T, A>)
-    requires { (deed.at ≡ slots_ptr slots) × (deed.len ≡ slots_len slots) × (deed.alloc ≡ alloc.now) }
+    requires { (deed.at ≡ slots_ptr slots) × (deed.len ≡ slots_len slots)
+        × (deed.alloc ≡ alloc.now) }
 {
     let Deed { mark: _ } = deed;
     unsafe {

@@ -18,20 +18,65 @@ use std::io::Write;
 
 const VERSION: &str = "planus 0.1.0\n";
 
-const HELP: &str =
-    "planus reads schemas of flatbuffers, shows buffers by them, and prints their code.\n\nusage: planus check [-I FOLDER].. SCHEMA..\n       planus format [--write] [--drop-comments] SCHEMA..\n       planus view [OPTION].. SCHEMA BUFFER\n       planus rattle [--check] [-I FOLDER].. SCHEMA -o FOLDER\n       planus help, planus --help, planus COMMAND --help, planus --version\n\nSCHEMA and BUFFER are files, or - for standard input.\n";
+const HELP: &str = "\
+planus reads schemas of flatbuffers, shows buffers by them, and prints their code.
 
-const HELP_OF_CHECK: &str =
-    "usage: planus check [-I FOLDER].. SCHEMA..\n\nSays on standard error what is wrong with each schema and the files that it includes,\nor nothing. Included files are sought beside the file and in each FOLDER.\nEnds with 0 where nothing is wrong, with 1 where a schema has a fault, and with 2\nwhere the call is wrong or a file can't be read.\n";
+usage: planus check [-I FOLDER].. SCHEMA..
+       planus format [--write] [--drop-comments] SCHEMA..
+       planus view [OPTION].. SCHEMA BUFFER
+       planus rattle [--check] [-I FOLDER].. SCHEMA -o FOLDER
+       planus help, planus --help, planus COMMAND --help, planus --version
 
-const HELP_OF_FORMAT: &str =
-    "usage: planus format [--write] [--drop-comments] SCHEMA..\n\nPrints the canonical text of each schema.\n\n  --write          replaces each file by its text\n  --drop-comments  does so where comments are lost, all but documentation\n";
+SCHEMA and BUFFER are files, or - for standard input.
+";
 
-const HELP_OF_VIEW: &str =
-    "usage: planus view [OPTION].. SCHEMA BUFFER\n\nPrints what a buffer holds, a line a value, as far as the lines and bytes go.\n\n  --root NAME      the root is this table, and not that of the schema\n  --size-prefixed  BUFFER is any number of buffers, each after its size\n  --lines N        at most N lines, and not 1000\n  --bytes N        at most N bytes, and not 1048576\n  -I FOLDER        included files are sought in this folder too\n\nEnds with 0 where all is shown, with 1 where something is wrong with the buffer or\nmore follows, and with 2 where the call is wrong or a file can't be read.\n";
+const HELP_OF_CHECK: &str = "\
+usage: planus check [-I FOLDER].. SCHEMA..
 
-const HELP_OF_RATTLE: &str =
-    "usage: planus rattle [--check] [-I FOLDER].. SCHEMA -o FOLDER\n\nPrints the code of a schema as a crate: its files in FOLDER, whose last word is the\ncrate's name. A file that has its text already is left alone.\n\n  -o FOLDER        the folder of the crate, which is made if it isn't there\n  --check          writes nothing, and says which files aren't what is printed\n  -I FOLDER        included files are sought in this folder too\n\nEnds with 0 where all is printed, with 1 where the schema has a fault or something\nthat isn't supported, or --check names a file, and with 2 where the call is wrong or\na file can't be read or written.\n";
+Says on standard error what is wrong with each schema and the files that it includes,
+or nothing. Included files are sought beside the file and in each FOLDER.
+Ends with 0 where nothing is wrong, with 1 where a schema has a fault, and with 2
+where the call is wrong or a file can't be read.
+";
+
+const HELP_OF_FORMAT: &str = "\
+usage: planus format [--write] [--drop-comments] SCHEMA..
+
+Prints the canonical text of each schema.
+
+  --write          replaces each file by its text
+  --drop-comments  does so where comments are lost, all but documentation
+";
+
+const HELP_OF_VIEW: &str = "\
+usage: planus view [OPTION].. SCHEMA BUFFER
+
+Prints what a buffer holds, a line a value, as far as the lines and bytes go.
+
+  --root NAME      the root is this table, and not that of the schema
+  --size-prefixed  BUFFER is any number of buffers, each after its size
+  --lines N        at most N lines, and not 1000
+  --bytes N        at most N bytes, and not 1048576
+  -I FOLDER        included files are sought in this folder too
+
+Ends with 0 where all is shown, with 1 where something is wrong with the buffer or
+more follows, and with 2 where the call is wrong or a file can't be read.
+";
+
+const HELP_OF_RATTLE: &str = "\
+usage: planus rattle [--check] [-I FOLDER].. SCHEMA -o FOLDER
+
+Prints the code of a schema as a crate: its files in FOLDER, whose last word is the
+crate's name. A file that has its text already is left alone.
+
+  -o FOLDER        the folder of the crate, which is made if it isn't there
+  --check          writes nothing, and says which files aren't what is printed
+  -I FOLDER        included files are sought in this folder too
+
+Ends with 0 where all is printed, with 1 where the schema has a fault or something
+that isn't supported, or --check names a file, and with 2 where the call is wrong or
+a file can't be read or written.
+";
 
 const NO_SCHEMA: &str = "planus: no schema is named; - is standard input\n";
 

@@ -41,7 +41,8 @@ pub record PreparesUnionVector {X T : Type 0} (may : X → State → Type 0)
     (outcome : X → Outcome (Option (UnionVectorOffset T)))
     (contents : X → Option (Content × Content)) : Type 0 where
   pub comes :
-      (x : X) (old : State) (prepared : Option (UnionVectorOffset T)) (new : State) (history : History)
+      (x : X) (old : State) (prepared : Option (UnionVectorOffset T)) (new : State)
+      (history : History)
       → may x old → outcome x old (Ok prepared) new → IsHistoryOf old history
       → Comes history new (λ after. UnionVectorHolds after (contents x) prepared)
 

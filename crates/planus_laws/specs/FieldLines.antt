@@ -169,7 +169,8 @@ AllReturnGiven B table (line ∷ lines) = ReturnsGiven B table line × AllReturn
 -- Each table that a builder has is encoded in B, with all that it refers to.
 abbrev pub KeptTablesStandIn : List ℕ → State → Type 0
 KeptTablesStandIn B builder =
-    (history : History) (contents : List (ℕ × Option Content)) (distance : ℕ) → IsHistoryOf builder history
+    (history : History) (contents : List (ℕ × Option Content)) (distance : ℕ)
+    → IsHistoryOf builder history
     → TableIsKept history contents distance → IsTrue (are_apart contents)
     → TableStands B contents distance
 
@@ -178,7 +179,8 @@ KeptTablesStandIn B builder =
 abbrev pub RootIsRead :
     {V K : Type 0} → (V → Table) → Offset K → Option (List ℕ) → State → Result V Error → Type 0
 RootIsRead table_of root identifier builder read =
-    (before : State) (contents : List (ℕ × Option Content)) → (history : History) × IsHistoryOf before history
+    (before : State) (contents : List (ℕ × Option Content)) → (history : History)
+    × IsHistoryOf before history
     → WritesContents contents before root.distance builder → IsTrue (are_apart contents)
     → IsOkAnd read
     (λ view. (B : List ℕ) × FinishGives (IsPrepared root) identifier builder B

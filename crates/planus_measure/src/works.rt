@@ -11,8 +11,8 @@ use std::alloc::{AllocError, Global};
 /// Operations per round.
 pub const OPERATIONS: usize = 1000;
 
-const LETTERS: &str =
-    "abcdefghijklmnopqrstuvwxyzabcdefghijklmnopqrstuvwxyzabcdefghijklmnopqrstuvwxyzabcdefghijklmnopqrstuv";
+const LETTERS: &str = "abcdefghijklmnopqrstuvwxyzabcdefghijklmnopqrstuvwxyz\
+     abcdefghijklmnopqrstuvwxyzabcdefghijklmnopqrstuv";
 
 const NO_CACHES: Caches = Caches {
     vtables: false,

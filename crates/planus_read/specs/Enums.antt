@@ -58,7 +58,8 @@ enum_shape {E} {N} width are layout bits read_as Fits few again tag equal varian
       );
       again = λ S f x y fits stands there.
           (let stood : variant_in equal variants (read_as (bits (numbers x).number)) ≡ Some y =
-          stood_by (λ n. variant_in equal variants (read_as n)) width are S f (bits (numbers x).number)
+          stood_by (λ n. variant_in equal variants (read_as n)) width are S f
+          (bits (numbers x).number)
           y
           (few (numbers x).number fits) stands there in
           same_value

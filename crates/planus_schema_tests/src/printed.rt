@@ -144,7 +144,7 @@ fn has_owners(ship: &ShipRef<'_>) -> bool {
     };
     matches!(ship.owner(), Ok(Some(OwnerRef::Firm(firm))) if matches!(firm.vat(), Ok(Some([9]))))
         && matches!(first, Some(Ok(OwnerRef::Person(pia))) if matches!(pia.age(), Ok(44)))
-        && matches!(second, Some(Ok(OwnerRef::Firm(one))) if matches!(one.title(), Ok(Some("Line"))))
+        && matches!(second, Some(Ok(OwnerRef::Firm(it))) if matches!(it.title(), Ok(Some("Line"))))
 }
 
 fn has_all(ship: &ShipRef<'_>) -> bool {

@@ -52,7 +52,8 @@ impl<'buf, T: Stride> View for SliceView<'buf, T> {
         sub_view_count T.Stands.SIZE (slice_view v) (slice_view u) lo hi is };
 
     ghost sub_view_twice = { λ v u w lo hi a b is also.
-        sub_view_twice T.Stands.SIZE (slice_view v) (slice_view u) (slice_view w) lo hi a b is also };
+        sub_view_twice T.Stands.SIZE (slice_view v) (slice_view u) (slice_view w) lo hi a b is
+        also };
 
     #[inline]
     fn len(&self) -> usize {
@@ -147,7 +148,8 @@ impl<'buf, T: VectorReadInner<'buf> + Drop, E: From<T::Error> + Into<Error> + Dr
         &self,
         alloc: Global,
     ) -> Result<Vec<O>, CopyError<'n>>
-        ensures all { IfOk result (λ copies. AreAllConverted (IsSubVector (IsSubSlice T.Stands.SIZE))
+        ensures all { IfOk result (λ copies. AreAllConverted
+            (IsSubVector (IsSubSlice T.Stands.SIZE))
             (IsItemIn (IsItemOfSlice T.Stands.SIZE
             (λ S start f r. Converted (T.gives S start f) E.from_gives r)))
             (ReadConverts O.converts E.converts) self.now (count_of self.now) copies.items) }

@@ -75,12 +75,14 @@ abbrev mutual
   pub UnionsAre : History → Unions → List (ℕ × ℕ) → Type 0
   UnionsAre history no_unions [] = ⊤
   UnionsAre history (union_and tag content others) (union ∷ unions) =
-      (union.0 ≡ tag) × FieldIs history content (reference union.1) × UnionsAre history others unions
+      (union.0 ≡ tag) × FieldIs history content (reference union.1)
+      × UnionsAre history others unions
   UnionsAre history no_unions (union ∷ unions) = ⊥
   UnionsAre history (union_and tag content others) [] = ⊥
 
 abbrev pub Comes : History → State → (History → Type 0) → Type 0
-Comes history new Holds = (after : History) × IsHistoryOf new after × Extends history after × Holds after
+Comes history new Holds = (after : History) × IsHistoryOf new after × Extends history after
+    × Holds after
 
 -- Once a value is prepared, its field holds the value's content.
 pub record PreparesContent {X A : Type 0} (may : X → State → Type 0) (outcome : X → Outcome A)
@@ -91,7 +93,8 @@ pub record PreparesContent {X A : Type 0} (may : X → State → Type 0) (outcom
       → Comes history new (λ after. FieldIs after (content x) (field prepared))
 
 -- A written union holds this, or both are absent.
-abbrev pub UnionHolds : {T : Type 0} → History → Option (ℕ × Content) → Option (UnionOffset T) → Type 0
+abbrev pub UnionHolds : {T : Type 0} → History → Option (ℕ × Content) → Option (UnionOffset T)
+    → Type 0
 UnionHolds history None None = ⊤
 UnionHolds history (Some content) (Some union) =
     (union.tag ≡ content.0) × FieldIs history content.1 (reference (union_reach union))

@@ -50,7 +50,8 @@ PutsAfter (Some earlier) part shared before distance after = (distance ≡ earli
 PutsAfter None part shared before distance after = Adds part shared before distance after
 
 abbrev pub found_before : CacheSettings → Entry → History → Option ℕ
-found_before settings entry history = earlier_distance history.cached (shared_as settings entry.contents)
+found_before settings entry history = earlier_distance history.cached
+    (shared_as settings entry.contents)
 
 -- One entry is written, after those that got these distances, and gets this distance.
 abbrev pub Puts : CacheSettings → Entry → List ℕ → History → ℕ → History → Type 0

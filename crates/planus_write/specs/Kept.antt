@@ -21,7 +21,8 @@ pub record IsKept (history : History) (value : Value) (named : Named) : Type 0 w
   pub reached : named.distance ≤ length history.written.bytes
   pub tags_reached : TagsReached (length history.written.bytes) named.tags
   pub stands : Stands history.written.bytes (position_in history.written.bytes named) value
-  pub aligned : (front : List ℕ) → Keep history.written.promises (length (front ++ history.written.bytes))
+  pub aligned : (front : List ℕ)
+      → Keep history.written.promises (length (front ++ history.written.bytes))
       → AlignedAt (front ++ history.written.bytes)
       (moved (length front) (position_in history.written.bytes named)) value
 
@@ -37,7 +38,8 @@ KindIsKept history vtables bytes distance =
     × ((L : ℕ) → Keep history.written.promises L → 2 ∣ (L - distance))
 
 abbrev pub CachedIsKept : History → Cached → Type 0
-CachedIsKept history cached = KindIsKept history cached.contents.kind cached.contents.bytes cached.distance
+CachedIsKept history cached = KindIsKept history cached.contents.kind cached.contents.bytes
+    cached.distance
 
 abbrev pub AllCachedKept : History → Type 0
 AllCachedKept history = AllByRecursion (CachedIsKept history) history.cached

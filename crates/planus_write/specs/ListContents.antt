@@ -22,5 +22,6 @@ pub record ListHasContent {Y A : Type 0} (all_may : List Y → State → Type 0)
     (list : List Y → Content) : Type 0 where
   pub comes :
       (ys : List Y) (old : State) (distance : ℕ) (new : State) (history : History) → all_may ys old
-      → WritesItems prepares encoding size alignment ys old (Ok distance) new → IsHistoryOf old history
+      → WritesItems prepares encoding size alignment ys old (Ok distance) new
+      → IsHistoryOf old history
       → Comes history new (λ after. FieldIs after (list ys) (reference distance))

@@ -45,7 +45,8 @@ MayLackMemory None part old promises =
 MayLackMemory (Some contents) part old promises =
     IsWithinLimit (length old.bytes) part.size part.alignment promises
 
-pub record RefusedMemory (entry : Entry) (got : List ℕ) (old : State) (history : History) : Type 0 where
+pub record RefusedMemory (entry : Entry) (got : List ℕ) (old : State)
+    (history : History) : Type 0 where
   pub is_new : found_before old.settings entry history ≡ None
   pub lacks : MayLackMemory (shared_as old.settings entry.contents)
       (part_after entry got history) old history.written.promises

@@ -49,7 +49,8 @@ pub record Cached : Type 0 where
 abbrev pub distance_cached : List Cached → Contents → Option ℕ
 distance_cached [] contents = None
 distance_cached (one ∷ cached) contents =
-    if same_contents one.contents contents then Some one.distance else distance_cached cached contents
+    if same_contents one.contents contents then Some one.distance else distance_cached cached
+    contents
 
 abbrev pub earlier_distance : List Cached → Option Contents → Option ℕ
 earlier_distance cached None = None
@@ -57,4 +58,5 @@ earlier_distance cached (Some contents) = distance_cached cached contents
 
 abbrev pub and_cached : Option Contents → ℕ → List Cached → List Cached
 and_cached None distance cached = cached
-and_cached (Some contents) distance cached = record { contents = contents; distance = distance } ∷ cached
+and_cached (Some contents) distance cached = record { contents = contents; distance = distance }
+    ∷ cached

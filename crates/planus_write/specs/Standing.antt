@@ -32,7 +32,8 @@ ValuesAreKept =
 -- every history comes to that.
 abbrev pub EntriesArePut : Type 0
 EntriesArePut =
-    (entries : List Entry) (got : List ℕ) (old : State) (all : List ℕ) (new : State) (history : History)
+    (entries : List Entry) (got : List ℕ) (old : State) (all : List ℕ) (new : State)
+    (history : History)
     → WritesEntries entries got old (Ok all) new → IsHistoryOf old history
     → (after : History) × PutsAll old.settings entries got history all after × IsHistoryOf new after
 

@@ -61,6 +61,7 @@ pub record Extends (before after : History) : Type 0 where
 -- settings are as they were.
 pub record Grows (old new : State) : Type 0 where
   pub bytes : (front : List ℕ) × (new.bytes ≡ front ++ old.bytes)
-  pub history : (history : History) → IsHistoryOf old history → (after : History) × IsHistoryOf new after
+  pub history : (history : History) → IsHistoryOf old history → (after : History)
+      × IsHistoryOf new after
       × Extends history after
   pub settings : new.settings ≡ old.settings

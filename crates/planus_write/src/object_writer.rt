@@ -47,7 +47,8 @@ impl<'a> ObjectWriter<'a> {
     pub fn write<P: Primitive, T: WriteAsPrimitive<P>>(&mut self, value: &T)
         requires room { P.SIZE ≤ (body_of self.old).remaining }
         requires reach { T.reach value.now ≤ (body_of self.old).place }
-        ensures written { body_of self.new ≡ wrote P.SIZE (T.encoding value.now) (body_of self.old) }
+        ensures written { body_of self.new
+            ≡ wrote P.SIZE (T.encoding value.now) (body_of self.old) }
         ensures size { length (T.encoding value.now (body_of self.old).place) ≡ P.SIZE }
     {
         let at = self.at;
@@ -60,8 +61,8 @@ impl<'a> ObjectWriter<'a> {
 
 /// The fields of a table, in the order declared.
 ///
-/// `size` is the number of their bytes, `encoding` names these by the place of the first, and `reach`
-/// is the greatest distance in bytes from the end to which they refer.
+/// `size` is the number of their bytes, `encoding` names these by the place of the first, and
+/// `reach` is the greatest distance in bytes from the end to which they refer.
 pub trait ObjectFill {
     ghost use Rattle.planus_write.specs.ObjectWriting.{body_of, wrote};
 

@@ -10,7 +10,8 @@ pub(crate) struct TextPart<'a>(pub(crate) &'a [u8]);
 impl<'a> Overwrite for TextPart<'a> {
     ghost fits = { λ part place n. (n ≡ length part.0.now + 5) × (n ≤ greatest_place) };
 
-    ghost encoding = { λ part place n. to_le_bytes w32 (length part.0.now) ++ part.0.now ++ 0 ∷ [] };
+    ghost encoding = { λ part place n.
+        to_le_bytes w32 (length part.0.now) ++ part.0.now ++ 0 ∷ [] };
 
     #[inline(always)]
     fn overwrite(&self, _place: u32, bytes: &mut [u8]) {

@@ -10,7 +10,8 @@ use Rattle.planus.specs.TableFields.{field_in}
 use Rattle.planus_write.specs.State.{Extends}
 use Rattle.planus_write.specs.lemmas.ContentLaws.{field_stays}
 
-pub fields_stay : (before after : History) (contents : List (ℕ × Content)) (fields : List (ℕ × Field))
+pub fields_stay : (before after : History) (contents : List (ℕ × Content))
+    (fields : List (ℕ × Field))
     → Extends before after → FieldsAre before contents fields → FieldsAre after contents fields
 fields_stay before after [] [] extends are = tt
 fields_stay before after (content ∷ contents) (field ∷ fields) extends are = (
@@ -22,7 +23,8 @@ fields_stay before after [] (field ∷ fields) extends are = are
 fields_stay before after (content ∷ contents) [] extends are = are
 
 pub contents_both : (history : History) (contents tags : List (ℕ × Option Content))
-    (fields others : List (ℕ × Field)) → FieldsAre history (there_of contents) fields → FieldsAre history (there_of tags) others
+    (fields others : List (ℕ × Field)) → FieldsAre history (there_of contents) fields
+    → FieldsAre history (there_of tags) others
     → FieldsAre history (there_of (contents ++ tags)) (fields ++ others)
 contents_both history [] tags [] others first second = second
 contents_both history [] tags (field ∷ fields) others first second = elim first [ ]

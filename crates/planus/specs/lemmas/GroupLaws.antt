@@ -65,15 +65,16 @@ pub field_has_contents : {X Y A B : Type 0} {may : X → State → Type 0}
     → PreparesContents (λ y old. may (of y) old)
     (λ y old answer new. PreparesAs value (outcome (of y)) old answer new)
     (λ y. (slot, content (of y)) ∷ []) (λ prepared. field_in slot field (value prepared))
-field_has_contents {X} {Y} {A} {B} {may} {outcome} {content} {field} of value slot prepares = record {
-  comes = λ y old prepared new history may done is_history.
-      let near = prepares.comes (of y) old (value prepared) new history may done is_history in (
-        near.0,
-        near.1,
-        near.2,
-        only_field near.0 slot (content (of y)) field (value prepared) near.3,
-      );
-}
+field_has_contents {X} {Y} {A} {B} {may} {outcome} {content} {field} of value slot
+    prepares = record {
+      comes = λ y old prepared new history may done is_history.
+          let near = prepares.comes (of y) old (value prepared) new history may done is_history in (
+            near.0,
+            near.1,
+            near.2,
+            only_field near.0 slot (content (of y)) field (value prepared) near.3,
+          );
+    }
 
 module _ {X Y A B : Type 0} {may : X → State → Type 0} {others_may : Y → State → Type 0}
     {outcome : X → Outcome A} {others : Y → Outcome B} {reach : A → ℕ} {others_reach : B → ℕ}
@@ -113,7 +114,8 @@ module _ {X Y A B : Type 0} {may : X → State → Type 0} {others_may : Y → S
         let same : prepared ≡ (done.0, done.3.0) = let h = done.3.3.0 in cc in
         subst (λ state. max (reach prepared.0) (others_reach prepared.1) ≤ length state.bytes)
         (sym done.3.3.1)
-        (subst (λ prepared. max (reach prepared.0) (others_reach prepared.1) ≤ length done.3.1.bytes)
+        (subst (λ prepared.
+        max (reach prepared.0) (others_reach prepared.1) ≤ length done.3.1.bytes)
         (sym same) (omega (arith, one, two)));
     stays = λ both old new grows may. (
       first.stays both.0 old new grows may.0,
@@ -125,26 +127,31 @@ module _ {X Y A B : Type 0} {may : X → State → Type 0} {others_may : Y → S
       {others_contents : Y → List (ℕ × Option Content)} {there : A → List (ℕ × Field)}
       {others_there : B → List (ℕ × Field)} → PreparesContents may outcome contents there
       → PreparesContents others_may others others_contents others_there
-      → PreparesContents {X = X × Y} {A = A × B} (λ both old. may both.0 old × others_may both.1 old)
+      → PreparesContents {X = X × Y} {A = A × B}
+      (λ both old. may both.0 old × others_may both.1 old)
       (λ both old answer new. PreparesBoth (outcome both.0) (others both.1) old answer new)
       (λ both. contents both.0 ++ others_contents both.1)
       (λ prepared. there prepared.0 ++ others_there prepared.1)
-  both_have_contents {contents} {others_contents} {there} {others_there} holds others_hold = record {
-    comes = λ both old prepared new history may done is_history.
-        let near = holds.comes both.0 old done.0 done.1 history may.0 done.2 is_history in
-        let grown = first.grows both.0 old (Ok done.0) done.1 may.0 done.2 in
-        let far = others_hold.comes both.1 done.1 done.3.0 done.3.1 near.0
-        (second.stays both.1 old done.1 grown may.1) done.3.2 near.1 in
-        let same : prepared ≡ (done.0, done.3.0) = let h = done.3.3.0 in cc in (
-          far.0,
-          subst (λ state. IsHistoryOf state far.0) (sym done.3.3.1) far.1,
-          extends_on history near.0 far.0 near.2 far.2,
-          subst
-              (λ prepared. FieldsAre far.0 (there_of (contents both.0 ++ others_contents both.1))
-              (there prepared.0 ++ others_there prepared.1))
-              (sym same)
-              (contents_both far.0 (contents both.0) (others_contents both.1) (there done.0)
-              (others_there done.3.0)
-              (fields_stay near.0 far.0 (there_of (contents both.0)) (there done.0) far.2 near.3) far.3),
-        );
-  }
+  both_have_contents {contents} {others_contents} {there} {others_there} holds
+      others_hold = record {
+        comes = λ both old prepared new history may done is_history.
+            let near = holds.comes both.0 old done.0 done.1 history may.0 done.2 is_history in
+            let grown = first.grows both.0 old (Ok done.0) done.1 may.0 done.2 in
+            let far = others_hold.comes both.1 done.1 done.3.0 done.3.1 near.0
+            (second.stays both.1 old done.1 grown may.1) done.3.2 near.1 in
+            let same : prepared ≡ (done.0, done.3.0) = let h = done.3.3.0 in cc in (
+              far.0,
+              subst (λ state. IsHistoryOf state far.0) (sym done.3.3.1) far.1,
+              extends_on history near.0 far.0 near.2 far.2,
+              subst
+                  (λ prepared. FieldsAre far.0
+                  (there_of (contents both.0 ++ others_contents both.1))
+                  (there prepared.0 ++ others_there prepared.1))
+                  (sym same)
+                  (contents_both far.0 (contents both.0) (others_contents both.1) (there done.0)
+                  (others_there done.3.0)
+                  (fields_stay near.0 far.0 (there_of (contents both.0)) (there done.0) far.2
+                  near.3)
+                  far.3),
+            );
+      }

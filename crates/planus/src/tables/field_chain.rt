@@ -46,6 +46,7 @@ impl<'a, const SLOT: usize, P: Primitive, B: PreparedFields, A: WriteAsPrimitive
         (B.there fields.before.now) (B.reach fields.before.now) fields.value.now before reached
         (B.stand fields.before.now before) };
 
-    ghost among = { λ fields. both_among SLOT A.field A.reach A.encoding P.SIZE P.ALIGNMENT A.is_item
+    ghost among = { λ fields.
+        both_among SLOT A.field A.reach A.encoding P.SIZE P.ALIGNMENT A.is_item
         (B.there fields.before.now) B.all fields.value.now (B.among fields.before.now) };
 }

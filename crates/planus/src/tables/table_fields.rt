@@ -91,7 +91,8 @@ fn viewed<'a, 'n, V: TableView<'a>>(
 pub fn table_item<'a, 'n, V: TableView<'a>>(
     item: Option<Result<TableRef<'a, V::Kind>, Error<'n>>>,
 ) -> Option<Result<V, Error<'n>>>
-    ensures { (vector : VectorOf (SliceView (std_result (TableRef V.Kind) Error) ℕ ⟦<u32 as Plain>⟧))
+    ensures { (vector : VectorOf
+        (SliceView (std_result (TableRef V.Kind) Error) ℕ ⟦<u32 as Plain>⟧))
         (index : ℕ) → GetsTable V.Kind V.Kind.name vector index item.entry
         → IsTableItem V.Kind V.Kind.name V.table vector index result }
 {

@@ -21,7 +21,8 @@ pub left_out_prepared : {X A : Type 0} {may : X → State → Type 0} {outcome :
 left_out_prepared {X} {A} {may} {outcome} {content} {field} is_default Default decides lawful =
     record { comes = comes }
   where
-    holds : (x : X) (prepared : Option A) (new : State) (history : History) (b : Bool) → is_default x ≡ b
+    holds : (x : X) (prepared : Option A) (new : State) (history : History) (b : Bool)
+        → is_default x ≡ b
         → Comes history new (λ after. HoldsIf after (unless b (Some (content x))) field prepared)
         → Comes history new
         (λ after. HoldsIf after (unless (is_default x) (Some (content x))) field prepared)
@@ -30,16 +31,20 @@ left_out_prepared {X} {A} {may} {outcome} {content} {field} is_default Default d
         (λ after. HoldsIf after (unless b (Some (content x))) field prepared))
         (sym is) there
 
-    written : (x : X) (old : State) (found : A) (new : State) (history : History) (b : Bool) → may x old
-        → is_default x ≡ b → (Default x → ⊥) → outcome x old (Ok found) new → IsHistoryOf old history
+    written : (x : X) (old : State) (found : A) (new : State) (history : History) (b : Bool)
+        → may x old
+        → is_default x ≡ b → (Default x → ⊥) → outcome x old (Ok found) new
+        → IsHistoryOf old history
         → Comes history new
         (λ after. HoldsIf after (unless (is_default x) (Some (content x))) field (Some found))
     written x old found new history false may is other done is_history =
-        holds x (Some found) new history false is (lawful.comes x old found new history may done is_history)
+        holds x (Some found) new history false is
+        (lawful.comes x old found new history may done is_history)
     written x old found new history true may is other done is_history =
         absurd (other ((decides x).0 is))
 
-    comes : (x : X) (old : State) (prepared : Option A) (new : State) (history : History) → may x old
+    comes : (x : X) (old : State) (prepared : Option A) (new : State) (history : History)
+        → may x old
         → LeftOutWhere (Default x) (outcome x) old (Ok prepared) new → IsHistoryOf old history
         → Comes history new
         (λ after. HoldsIf after (unless (is_default x) (Some (content x))) field prepared)
@@ -62,7 +67,8 @@ pub never_prepared : {X A : Type 0} {may : X → State → Type 0} {field : A �
 never_prepared {X} {A} {may} {field} = record {
   comes = λ x old prepared new history may done is_history.
       (let same : None ≡ prepared = cc in
-      subst (λ (prepared : Option A). Comes history new (λ after. HoldsIf after None field prepared))
+      subst (λ (prepared : Option A). Comes history new
+      (λ after. HoldsIf after None field prepared))
       same
       (stays_there history old new (λ after. ⊤) done.1 is_history tt));
 }

@@ -36,7 +36,8 @@ module _ {X T : Type 0} {may : X → State → Type 0} {outcome : X → Outcome 
           (λ after. UnionVectorHolds after (Some (unions_hold (map content (items y)))) prepared)
       comes y old None new history mays done is_history = elim done.0 [ ]
       comes y old (Some vector) new history mays done is_history =
-          vector_comes lawful content prepares (items y) old vector new history mays done.1 is_history
+          vector_comes lawful content prepares
+          (items y) old vector new history mays done.1 is_history
 
   pub unions_or_none_prepared : {Y : Type 0} (items : Y → List X)
       → PreparesUnionVector (λ y old. AllMay may (items y) old)
@@ -59,7 +60,8 @@ module _ {X T : Type 0} {may : X → State → Type 0} {outcome : X → Outcome 
       comes [] old (Some vector) new history mays done is_history = absurd (done.0 refl)
       comes (x ∷ xs) old None new history mays done is_history = cc
       comes (x ∷ xs) old (Some vector) new history mays done is_history =
-          vector_comes lawful content prepares (x ∷ xs) old vector new history mays done.1 is_history
+          vector_comes lawful content prepares
+          (x ∷ xs) old vector new history mays done.1 is_history
 
 pub optional_union_vector_prepared : {X T : Type 0} {may : X → State → Type 0}
     {outcome : X → Outcome (Option (UnionVectorOffset T))}
@@ -113,7 +115,8 @@ pub always_union_prepared : {X T : Type 0} {may : X → State → Type 0}
     (λ x. Some (content x))
 always_union_prepared {X} {T} {may} {outcome} {content} lawful = record { comes = comes }
   where
-    comes : (x : X) (old : State) (prepared : Option (UnionOffset T)) (new : State) (history : History)
+    comes : (x : X) (old : State) (prepared : Option (UnionOffset T)) (new : State)
+        (history : History)
         → may x old → LeftOutWhere ⊥ (outcome x) old (Ok prepared) new → IsHistoryOf old history
         → Comes history new (λ after. UnionHolds after (Some (content x)) prepared)
     comes x old None new history may done is_history = elim done.0 [ ]

@@ -47,7 +47,8 @@ impl<P: Primitive, T: VectorWrite<P>, const N: usize> WriteAsOptional<Offset<Lis
     ghost may = { λ items old. T.all_may items old };
 
     ghost outcome = { λ items old answer new.
-        AlwaysWritten (WritesList T.prepares T.Value.encoding P.SIZE P.ALIGNMENT items) old answer new };
+        AlwaysWritten (WritesList T.prepares T.Value.encoding P.SIZE P.ALIGNMENT items) old answer
+        new };
 
     ghost content = { λ items. Some (T.list items) };
 

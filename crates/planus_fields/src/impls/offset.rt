@@ -73,6 +73,7 @@ impl<T, D> WriteAsDefault<Offset<T>, D> for Offset<T> {
 
     ghost is_lawful = { λ default. left_out_is_lawful (λ offset. ⊥) (offset_is_lawful) };
 
-    ghost has_content = { λ default. always_prepared (ready_prepared (λ offset. written offset.distance)
+    ghost has_content = { λ default. always_prepared (ready_prepared
+        (λ offset. written offset.distance)
         (λ offset. reference offset.distance) (λ offset history. refl)) };
 }

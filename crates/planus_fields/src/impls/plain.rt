@@ -43,7 +43,8 @@ impl<P: PlainField> WriteAsOptional<P> for P {
 
     ghost outcome = { λ x old answer new. AlwaysWritten (Answers x) old answer new };
 
-    ghost content = { λ x. Some (item (record { bytes = (P.shape).encoded x; alignment = P.ALIGNMENT })) };
+    ghost content = { λ x.
+        Some (item (record { bytes = (P.shape).encoded x; alignment = P.ALIGNMENT })) };
 
     #[inline]
     fn prepare(&self, _builder: &mut Builder) -> Result<Option<P>, BuildError> {
@@ -77,7 +78,8 @@ impl<P: PlainField + PartialEq> WriteAsDefault<P, P> for P {
         Ok(Some(*self))
     }
 
-    ghost is_lawful = { λ default. left_out_is_lawful (λ x. IsTrue (P.eq x default)) (ready_is_lawful) };
+    ghost is_lawful = { λ default.
+        left_out_is_lawful (λ x. IsTrue (P.eq x default)) (ready_is_lawful) };
 
     ghost has_content = { λ default. left_out_prepared (λ x. P.eq x default)
         (λ x. IsTrue (P.eq x default)) (λ x. ((λ h. h), (λ h. h)))

@@ -24,7 +24,8 @@ impl<'a> WriteAs<Offset<List<i8>>> for SignedList<'a> {
     ghost outcome = { λ list old answer new.
         WritesByteList (map (λ number. cast_unsigned w8 number) list.0.now) old answer new };
 
-    ghost content = { λ list. value (byte_list (map (λ number. cast_unsigned w8 number) list.0.now)) };
+    ghost content = { λ list.
+        value (byte_list (map (λ number. cast_unsigned w8 number) list.0.now)) };
 
     #[inline]
     fn prepare(&self, builder: &mut Builder) -> Result<Offset<List<i8>>, BuildError> {
@@ -34,7 +35,8 @@ impl<'a> WriteAs<Offset<List<i8>>> for SignedList<'a> {
     ghost is_lawful = { entry_is_lawful (λ list. byte_list_entry (map (λ number. cast_unsigned w8
         number) list.0.now)) };
 
-    ghost has_content = { byte_list_prepared (λ list. map (λ number. cast_unsigned w8 number) list.0.now) };
+    ghost has_content = { byte_list_prepared
+        (λ list. map (λ number. cast_unsigned w8 number) list.0.now) };
 }
 
 impl<'a> WriteAsOptional<Offset<List<i8>>> for SignedList<'a> {
@@ -46,7 +48,8 @@ impl<'a> WriteAsOptional<Offset<List<i8>>> for SignedList<'a> {
         AlwaysWritten (WritesByteList (map (λ number. cast_unsigned w8 number) list.0.now)) old
         answer new };
 
-    ghost content = { λ list. Some (value (byte_list (map (λ number. cast_unsigned w8 number) list.0.now))) };
+    ghost content = { λ list.
+        Some (value (byte_list (map (λ number. cast_unsigned w8 number) list.0.now))) };
 
     #[inline]
     fn prepare(&self, builder: &mut Builder) -> Result<Option<Offset<List<i8>>>, BuildError> {
@@ -56,7 +59,8 @@ impl<'a> WriteAsOptional<Offset<List<i8>>> for SignedList<'a> {
     ghost is_lawful = { left_out_is_lawful (λ list. ⊥) (entry_is_lawful (λ list. byte_list_entry
         (map (λ number. cast_unsigned w8 number) list.0.now))) };
 
-    ghost has_content = { always_prepared (byte_list_prepared (λ list. map (λ number. cast_unsigned w8 number) list.0.now)) };
+    ghost has_content = { always_prepared
+        (byte_list_prepared (λ list. map (λ number. cast_unsigned w8 number) list.0.now)) };
 }
 
 impl<'a> WriteAsDefault<Offset<List<i8>>, ()> for SignedList<'a> {
@@ -69,7 +73,8 @@ impl<'a> WriteAsDefault<Offset<List<i8>>, ()> for SignedList<'a> {
         list.0.now)) old answer new };
 
     ghost content = { λ list default.
-        unless (is_empty list.0.now) (Some (value (byte_list (map (λ number. cast_unsigned w8 number) list.0.now)))) };
+        unless (is_empty list.0.now)
+        (Some (value (byte_list (map (λ number. cast_unsigned w8 number) list.0.now)))) };
 
     #[inline]
     fn prepare(

@@ -48,8 +48,8 @@ impl<'a, P: Primitive, T: VectorWrite<P>> WriteAsOptional<Offset<List<P>>> for &
     ghost may = { λ items old. T.all_may items.now old };
 
     ghost outcome = { λ items old answer new.
-        AlwaysWritten (WritesList T.prepares T.Value.encoding P.SIZE P.ALIGNMENT items.now) old answer
-        new };
+        AlwaysWritten (WritesList T.prepares T.Value.encoding P.SIZE P.ALIGNMENT items.now) old
+        answer new };
 
     ghost content = { λ items. Some (T.list items.now) };
 

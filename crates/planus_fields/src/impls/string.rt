@@ -85,7 +85,9 @@ impl<'a> WriteAsDefault<Offset<Text>, &'a str> for String {
         left_out_is_lawful (λ text. string_bytes text ≡ default.now) (entry_is_lawful (λ text.
         text_entry (string_bytes text))) };
 
-    ghost has_content = { λ default. left_out_prepared (λ text. bytes_eq (string_bytes text) default.now)
-        (λ text. string_bytes text ≡ default.now) (λ text. bytes_eq-Decides (string_bytes text) default.now)
+    ghost has_content = { λ default. left_out_prepared
+        (λ text. bytes_eq (string_bytes text) default.now)
+        (λ text. string_bytes text ≡ default.now)
+        (λ text. bytes_eq-Decides (string_bytes text) default.now)
         (text_prepared (λ text. string_bytes text)) };
 }

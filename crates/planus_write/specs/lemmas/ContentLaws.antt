@@ -29,7 +29,8 @@ all_stay before after [] (distance ∷ distances) extends kept = kept
 all_stay before after (content ∷ contents) [] extends kept = kept
 
 mutual
-  pub field_stays : (before after : History) (content : Content) (field : Field) → Extends before after
+  pub field_stays : (before after : History) (content : Content) (field : Field)
+      → Extends before after
       → FieldIs before content field → FieldIs after content field
   field_stays before after (item content) field extends is = is
   field_stays before after (value content) field extends is =
@@ -80,8 +81,12 @@ mutual
 
 pub stays_there : (history : History) (old new : State) (Holds : History → Type 0) → new ≡ old
     → IsHistoryOf old history → Holds history → Comes history new Holds
-stays_there history old new Holds same is_history holds =
-    (history, subst (λ state. IsHistoryOf state history) (sym same) is_history, extends_itself history, holds)
+stays_there history old new Holds same is_history holds = (
+  history,
+  subst (λ state. IsHistoryOf state history) (sym same) is_history,
+  extends_itself history,
+  holds,
+)
 
 pub ready_prepared : {A : Type 0} {may : A → State → Type 0} (content : A → Content)
     (field : A → Field) → ((a : A) (history : History) → FieldIs history (content a) (field a))
@@ -89,7 +94,8 @@ pub ready_prepared : {A : Type 0} {may : A → State → Type 0} (content : A �
 ready_prepared {A} {may} content field is = record {
   comes = λ a old prepared new history may done is_history.
       (let same : a ≡ prepared = cc in
-      stays_there history old new (λ after. FieldIs after (content a) (field prepared)) done.1 is_history
+      stays_there history old new
+      (λ after. FieldIs after (content a) (field prepared)) done.1 is_history
       (subst (λ (b : A). FieldIs history (content a) (field b)) same (is a history)));
 }
 

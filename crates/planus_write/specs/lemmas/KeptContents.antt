@@ -45,7 +45,8 @@ byte_list_at_front content pad B small = (
   ap (take (length content)) (append_assoc content pad B) ∙ take-append_seam content (pad ++ B),
 )
 
-new_value : (part : Part) (value : Value) (shared : Option Contents) (before : History) (distance : ℕ)
+new_value : (part : Part) (value : Value) (shared : Option Contents) (before : History)
+    (distance : ℕ)
     (after : History) (adds : Adds part shared before distance after)
     → length (part.bytes_at adds.placed.place) ≡ part.size
     → Stands after.written.bytes (at 0) value
@@ -170,11 +171,13 @@ added_kept kind content part shared is_shared before distance after all kept add
           (and_cached s distance before.cached)) (sym some) (kept, old)
     ])
 
-pub alone_kept : (part : Part) (before : History) (distance : ℕ) (after : History) → AllCachedKept before
+pub alone_kept : (part : Part) (before : History) (distance : ℕ) (after : History)
+    → AllCachedKept before
     → Adds part None before distance after → AllCachedKept after
 alone_kept part before distance after all adds =
     subst (AllByRecursion (CachedIsKept after)) (sym adds.cached)
-    (cached_stays before after (added_extends part None before distance after adds) before.cached all)
+    (cached_stays before after
+    (added_extends part None before distance after adds) before.cached all)
 
 abbrev pub ContentsKept : Kind → List ℕ → History → ℕ → History → Type 0
 ContentsKept kind content before distance after = KindIsKept after kind content distance
@@ -218,7 +221,8 @@ module _ (kind : Kind) (part : List ℕ → Part) (new_kept : NewAreKept kind pa
       )
 
 pub put_kept : (kind : Kind) (part : List ℕ → Part) → NewAreKept kind part
-    → (settings : CacheSettings) (content got : List ℕ) (before : History) (distance : ℕ) (after : History)
+    → (settings : CacheSettings) (content got : List ℕ) (before : History) (distance : ℕ)
+    (after : History)
     → AllCachedKept before
     → Puts settings
     (record {
@@ -235,7 +239,8 @@ put_kept kind part new_kept settings content got before distance after all put =
     (earlier_distance before.cached shared) refl put
 
 pub contents_kept : (kind : Kind) (part : List ℕ → Part) → NewAreKept kind part
-    → (settings : CacheSettings) (content : List ℕ) (before : History) (got : List ℕ) (after : History)
+    → (settings : CacheSettings) (content : List ℕ) (before : History) (got : List ℕ)
+    (after : History)
     → AllCachedKept before
     → PutsAll settings
     (record {

@@ -261,7 +261,8 @@ list_kept item_of size alignment xs value settings before got after list all put
     let then = puts.3 in
     let kept = added_kept item_of size alignment xs before puts.1 then.1 puts.0 then.0 puts.2 then.2
     value list in
-    let cached = cached_after item_of size alignment xs before puts.1 then.1 puts.0 then.0 puts.2 then.2
+    let cached = cached_after item_of size alignment xs before puts.1 then.1 puts.0 then.0 puts.2
+    then.2
     all in
     let extends =
     extends_both item_of size alignment xs before puts.1 then.1 puts.0 then.0 puts.2 then.2 in

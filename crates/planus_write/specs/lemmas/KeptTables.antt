@@ -252,7 +252,8 @@ module _ (entries : List (ℕ × Field)) (before first second after : History) (
   added_kept : IsKept after (value.table entries) (record { distance = x; tags = None })
   added_kept = kept_at_front after (value.table entries) x after_ends table_stands table_aligned
 
-pub table_kept : (entries : List (ℕ × Field)) (settings : CacheSettings) (before : History) (got : List ℕ)
+pub table_kept : (entries : List (ℕ × Field)) (settings : CacheSettings) (before : History)
+    (got : List ℕ)
     (after : History)
     → IsTable (length before.written.bytes) entries → AllCachedKept before
     → PutsAll settings (table_entries entries) [] before got after
@@ -268,13 +269,15 @@ table_kept entries settings before got after good all puts =
     let words = bodies.3 in
     let kept = added_kept entries before first bodies.1 words.1 v bodies.0 words.0 vtable bodies.2
     words.2 good in
-    let cached = cached_kept entries before first bodies.1 words.1 v bodies.0 words.0 vtable bodies.2
+    let cached = cached_kept entries before first bodies.1 words.1 v bodies.0 words.0 vtable
+    bodies.2
     words.2 good in
     let extends =
     extends_all entries before first bodies.1 words.1 v bodies.0 words.0 vtable bodies.2 words.2
     good in
     subst (λ history. IsKept history (value.table entries)
-    (record { distance = last_of got; tags = None }) × AllCachedKept history × Extends before history)
+    (record { distance = last_of got; tags = None }) × AllCachedKept history
+    × Extends before history)
     (sym words.3.1) (
       subst (λ n. IsKept words.1 (value.table entries) (record { distance = n; tags = None }))
           (sym (ap last_of words.3.0)) kept,

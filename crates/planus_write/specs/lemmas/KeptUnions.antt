@@ -75,7 +75,8 @@ both_kept history items references tags first second = record {
 }
 
 pub union_vector_kept
-    : (settings : CacheSettings) (items : List (ℕ × ℕ)) (before : History) (got : List ℕ) (after : History)
+    : (settings : CacheSettings) (items : List (ℕ × ℕ)) (before : History) (got : List ℕ)
+    (after : History)
     → AllByRecursion (λ item. item.1 ≤ length before.written.bytes) items → AllCachedKept before
     → PutsAll settings (union_entries items) [] before got after
     → IsKept after (value.union_vector items)

@@ -6,7 +6,8 @@ use Rattle.std.proofs.Math.Nat.{pow-le-pow_right}
 use Rattle.planus_back.specs.Parts.{Part}
 use Rattle.planus_back.specs.Padding.{promise_of}
 use Rattle.planus_write.specs.Shared.{Contents, Cached, CacheSettings, and_cached, shared_as}
-use Rattle.planus_write.specs.History.{History, Entry, Adds, PutsAfter, Puts, found_before, part_after}
+use Rattle.planus_write.specs.History.{History, Entry, Adds, PutsAfter, Puts, found_before}
+use Rattle.planus_write.specs.History.{part_after}
 use Rattle.planus_write.specs.State.{State, IsHistoryOf, Extends, Grows}
 use Rattle.planus_write.specs.Placing.{Outcome, PlacesEntry, WritesEntry, LeftAsItWas}
 use Rattle.planus_read.specs.Plain.{IsLayout}

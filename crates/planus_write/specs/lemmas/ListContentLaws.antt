@@ -55,7 +55,8 @@ is_put prepares encoding size alignment ys old distance new done = record {
   got = done.3.0;
   put = subst
       (λ (state : State).
-      WritesEntries (list_entries size alignment (map encoding done.0)) [] done.1 (Ok done.3.0) state)
+      WritesEntries (list_entries size alignment (map encoding done.0)) [] done.1
+      (Ok done.3.0) state)
       (sym done.3.3.1) done.3.2;
   at = cc;
 }
@@ -76,7 +77,8 @@ ready_put {Y} encoding size alignment ys old distance new done =
           put.prepared.1
           (subst
           (λ (items : List Y).
-          WritesEntries (list_entries size alignment (map encoding items)) [] put.between (Ok put.got)
+          WritesEntries (list_entries size alignment (map encoding items)) [] put.between
+          (Ok put.got)
           new)
           items put.put),
       put.at,
@@ -99,7 +101,8 @@ plain_list_has_content bytes size alignment layout sized = record {
       ≡ entries_of content
       = ap (list_entries size alignment) (plain_items_are bytes ys) in
       let added = value_added content old put.0 new history
-      (subst (λ (all : List Entry). WritesEntries all [] old (Ok put.0) new) entries put.1) is_history
+      (subst (λ (all : List Entry). WritesEntries all [] old (Ok put.0) new) entries put.1)
+      is_history
       (record {
         sizes = all_sized bytes size sized ys;
         positive = layout.positive;
@@ -109,7 +112,8 @@ plain_list_has_content bytes size alignment layout sized = record {
       (added.0, added.1, added.2, (last_of put.0, ap (λ d. reference d) put.2, added.3)));
 }
 
-offsets_lie : {T : Type 0} (offsets : List (Offset T)) (old : State) (history : History) → IsHistoryOf old history
+offsets_lie : {T : Type 0} (offsets : List (Offset T)) (old : State) (history : History)
+    → IsHistoryOf old history
     → AllIn old offsets
     → AllByRecursion (λ distance. distance ≤ length history.written.bytes)
     (map (λ offset. offset.distance) offsets)
@@ -158,7 +162,8 @@ module _ {X S : Type 0} {may : X → State → Type 0} {outcome : X → Outcome 
     (lawful : IsLawful may outcome (λ offset. offset.distance)) (content : X → Value)
     (prepares : PreparesContent may outcome (λ x. value (content x))
     (λ offset. reference offset.distance)) where
-  one_prepared : (x : X) (old : State) (offset : Offset S) (new : State) (history : History) → may x old
+  one_prepared : (x : X) (old : State) (offset : Offset S) (new : State) (history : History)
+      → may x old
       → outcome x old (Ok offset) new → IsHistoryOf old history
       → Comes history new (λ after. IsKept after (content x) (named_at offset.distance))
   one_prepared x old offset new history mays done is_history =
@@ -170,7 +175,8 @@ module _ {X S : Type 0} {may : X → State → Type 0} {outcome : X → Outcome 
         subst (λ (d : ℕ). IsKept near.0 (content x) (named_at d)) at near.3.2,
       )
 
-  all_prepared : (xs : List X) (old : State) (offsets : List (Offset S)) (new : State) (history : History)
+  all_prepared : (xs : List X) (old : State) (offsets : List (Offset S)) (new : State)
+      (history : History)
       → AllMay may xs old → PreparesAll outcome xs old (Ok offsets) new → IsHistoryOf old history
       → Comes history new (λ after. AllKept after (map content xs) (distances_of offsets))
   all_prepared [] old offsets new history mays done is_history =

@@ -167,7 +167,8 @@ items_are_lawful_as {X} {Y} {A} {may} {outcome} {all_may} {prepares} {reach} of 
     record {
       each_may = λ ys old h. each ys old h;
       grow = λ ys old answer new h done. items.grow ys old answer new (each ys old h) done;
-      reach_all = λ ys old values new h done. items.reach_all ys old values new (each ys old h) done;
+      reach_all = λ ys old values new h done. items.reach_all ys old values new
+          (each ys old h) done;
       stay = λ ys old new grows h. are.stay (map of ys) old new grows h;
       one_by_one = λ ys old values new h done. (tt, old, refl, done);
     }
@@ -251,7 +252,8 @@ pub list_is_lawful : {X A Y T : Type 0} {may : X → State → Type 0} {outcome 
     → IsLawful {X = Y} {A = Offset T} (λ y old. all_may (items_of y) old)
     (λ y old answer new. WritesList prepares encoding size alignment (items_of y) old answer new)
     (λ offset. offset.distance)
-list_is_lawful {all_may = all_may} {prepares = prepares} {encoding = encoding} size alignment items_of
+list_is_lawful {all_may = all_may} {prepares = prepares} {encoding = encoding} size alignment
+    items_of
     lawful =
     record {
       grows = λ y old answer new h done.
@@ -311,7 +313,8 @@ ready_list_is_refused {A} T encoding size alignment xs old error new
     (λ (all : List A).
     WritesEntries (list_entries size alignment (map encoding all)) [] mid (Err error) new)
     same refused)
-ready_list_is_refused T encoding size alignment xs old error new (inr (items, mid, h, inr refused)) =
+ready_list_is_refused T encoding size alignment xs old error new
+    (inr (items, mid, h, inr refused)) =
     (cc)
 
 pub plain_items_are : {A : Type 0} (bytes_of : A → List ℕ) (xs : List A)

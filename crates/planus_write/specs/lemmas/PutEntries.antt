@@ -35,5 +35,6 @@ entries_too_large (entry ∷ entries) got old new history (inr h) is_history =
       first.0,
       first.1,
       subst
-          (λ settings. ComesToTooLarge settings entries (got ++ h.0 ∷ []) first.0) h.2.settings rest,
+          (λ settings. ComesToTooLarge settings entries (got ++ h.0 ∷ []) first.0) h.2.settings
+          rest,
     )

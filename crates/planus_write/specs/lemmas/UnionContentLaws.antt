@@ -58,7 +58,8 @@ module _ {X T : Type 0} {may : X → State → Type 0} {outcome : X → Outcome 
 
   pub vector_comes
       : (xs : List X) (old : State) (vector : UnionVectorOffset T) (new : State) (history : History)
-      → AllMay may xs old → WritesUnionVector outcome xs old (Ok vector) new → IsHistoryOf old history
+      → AllMay may xs old → WritesUnionVector outcome xs old (Ok vector) new
+      → IsHistoryOf old history
       → Comes history new
       (λ after. UnionVectorHolds after (Some (unions_hold (map content xs))) (Some vector))
   vector_comes xs old vector new history mays h is_history =
@@ -96,7 +97,8 @@ written_union_prepared {T} {may} = record {
       (let same : union ≡ prepared = cc in
       stays_there history old new
       (λ after. UnionHolds after (Some (written_union union)) (Some prepared)) done.1 is_history
-      (subst (λ (found : UnionOffset T). UnionHolds history (Some (written_union union)) (Some found))
+      (subst (λ (found : UnionOffset T). UnionHolds history (Some (written_union union))
+      (Some found))
       same
       (refl, refl)));
 }

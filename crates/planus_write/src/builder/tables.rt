@@ -62,7 +62,8 @@ impl Builder {
     #[inline]
     pub(crate) fn write_word(&mut self, vtable: u32) -> Result<u32, BuildError>
         requires { vtable ≤ greatest_place }
-        ensures entry { WritesEntry (unshared_entry (word_part vtable)) [] self.old result self.new }
+        ensures entry { WritesEntry (unshared_entry (word_part vtable)) [] self.old result
+            self.new }
         ensures last { IfOk result (λ place. place ≡ length self.new.bytes) }
     {
         let place = self.backing.make_room(4, 0)?;

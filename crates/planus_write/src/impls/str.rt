@@ -41,7 +41,8 @@ impl<'a> VectorWrite<Offset<Text>> for &'a str {
 
     ghost all_may = { λ texts old. ⊤ };
 
-    ghost prepares = { λ texts. PreparesItems (λ text old answer new. WritesText text.now old answer new) texts };
+    ghost prepares = { λ texts. PreparesItems
+        (λ text old answer new. WritesText text.now old answer new) texts };
 
     ghost list = { λ texts. values (map (λ text. text_value text.now) texts) };
 
@@ -79,5 +80,6 @@ impl<'a> VectorWrite<Offset<Text>> for &'a str {
     ghost are_lawful = { free_items_are_lawful (entry_is_lawful (λ text. text_entry text.now)) };
 
     ghost has_list = { values_have_content (entry_is_lawful (λ text. text_entry text.now))
-        (λ text. text_value text.now) (text_prepared (λ text. text.now)) (λ texts old free. all_free texts old) };
+        (λ text. text_value text.now) (text_prepared (λ text. text.now))
+        (λ texts old free. all_free texts old) };
 }

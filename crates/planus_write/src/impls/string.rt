@@ -40,7 +40,8 @@ impl VectorWrite<Offset<Text>> for String {
 
     ghost all_may = { λ texts old. ⊤ };
 
-    ghost prepares = { λ texts. PreparesItems (λ text old answer new. WritesText (string_bytes text) old answer new) texts };
+    ghost prepares = { λ texts. PreparesItems
+        (λ text old answer new. WritesText (string_bytes text) old answer new) texts };
 
     ghost list = { λ texts. values (map (λ text. text_value (string_bytes text)) texts) };
 
@@ -68,8 +69,11 @@ impl VectorWrite<Offset<Text>> for String {
 
     ghost is_lawful = { entry_is_lawful (λ text. text_entry (string_bytes text)) };
 
-    ghost are_lawful = { free_items_are_lawful (entry_is_lawful (λ text. text_entry (string_bytes text))) };
+    ghost are_lawful = { free_items_are_lawful
+        (entry_is_lawful (λ text. text_entry (string_bytes text))) };
 
-    ghost has_list = { values_have_content (entry_is_lawful (λ text. text_entry (string_bytes text)))
-        (λ text. text_value (string_bytes text)) (text_prepared (λ text. string_bytes text)) (λ texts old free. all_free texts old) };
+    ghost has_list = { values_have_content
+        (entry_is_lawful (λ text. text_entry (string_bytes text)))
+        (λ text. text_value (string_bytes text)) (text_prepared (λ text. string_bytes text))
+        (λ texts old free. all_free texts old) };
 }

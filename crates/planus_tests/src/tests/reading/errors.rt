@@ -18,7 +18,8 @@ fn kinds_print_their_texts(rt: HostRuntime) {
                 tags_len: 2,
                 values_len: 3,
             },
-            "Mismatched lengths between tag and value vectors. Length of tags = 2, length of values = 3",
+            "Mismatched lengths between tag and value vectors. Length of tags = 2, length of \
+             values = 3",
         ),
         (
             ErrorKind::from(UnknownEnumTagKind { tag: -1 }),

@@ -38,7 +38,8 @@ impl ObjectFill for Named {
     ghost reach = { λ named. named.name.distance };
 
     ghost encoding = { λ named place.
-        to_le_bytes w32 (place - named.name.distance) ++ to_le_bytes w16 (cast_unsigned w16 named.damage) };
+        to_le_bytes w32 (place - named.name.distance)
+        ++ to_le_bytes w16 (cast_unsigned w16 named.damage) };
 
     fn fill(&self, writer: &mut ObjectWriter<'_>) {
         writer.write::<Offset<Text>, Offset<Text>>(&self.name);
