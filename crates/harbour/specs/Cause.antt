@@ -1,6 +1,6 @@
 -- The variants of `Cause`.
 use Rattle.std.specs.Prelude.{◌∷◌, [], List, Option, Some, None}
-use Rattle.planus_laws.specs.Printed.{Table, UnionVariant, table_variant}
+use Rattle.planus.specs.Printed.{Table, UnionVariant, table_variant}
 use Rattle.harbour.specs.declared.cause.CauseRef.TheVariants as cause_ref
 use Rattle.harbour.specs.declared.cause.CauseRef.{CauseRef}
 

@@ -1,6 +1,6 @@
 -- The layout of `Fix`.
-use Rattle.planus_laws.specs.Printed.{Shape, u64_shape, field, no_more, struct_layout}
-use Rattle.planus_laws.specs.Printed.{struct_shape}
+use Rattle.planus.specs.Printed.{Shape, u64_shape, field, no_more, struct_layout}
+use Rattle.planus.specs.Printed.{struct_shape}
 use Rattle.std.proofs.Common.{refl, lit≤, lit<}
 use Rattle.harbour.specs.declared.fix.Fix.{Fix}
 use Rattle.harbour.specs.Kind.{kind_shape}

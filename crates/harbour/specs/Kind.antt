@@ -1,6 +1,6 @@
 -- The numbers of `Kind`.
 use Rattle.std.specs.Prelude.{◌∷◌, [], ℕ, List, nat_eq}
-use Rattle.planus_laws.specs.Printed.{Numbered, u8_enum, Shape}
+use Rattle.planus.specs.Printed.{Numbered, u8_enum, Shape}
 use Rattle.std.proofs.Common.{refl}
 use Rattle.harbour.specs.declared.kind.Kind.TheVariants as kind_value
 use Rattle.harbour.specs.declared.kind.Kind.{Kind}

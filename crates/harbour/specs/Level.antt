@@ -1,7 +1,7 @@
 -- The numbers of `Level`.
 use Rattle.std.specs.Prelude.{◌∷◌, [], ℤ, List, pos, negsuc}
 use Rattle.std.specs.Ordering.{int_eq}
-use Rattle.planus_laws.specs.Printed.{Numbered, i16_enum, Shape}
+use Rattle.planus.specs.Printed.{Numbered, i16_enum, Shape}
 use Rattle.std.proofs.Common.{refl}
 use Rattle.harbour.specs.declared.level.Level.TheVariants as level_value
 use Rattle.harbour.specs.declared.level.Level.{Level}

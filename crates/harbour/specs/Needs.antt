@@ -1,6 +1,6 @@
 -- The layout of `Needs`.
-use Rattle.planus_laws.specs.Printed.{Shape, u16_shape, field, no_more, struct_layout}
-use Rattle.planus_laws.specs.Printed.{struct_shape}
+use Rattle.planus.specs.Printed.{Shape, u16_shape, field, no_more, struct_layout}
+use Rattle.planus.specs.Printed.{struct_shape}
 use Rattle.std.proofs.Common.{refl, lit≤, lit<}
 use Rattle.harbour.specs.declared.needs.Needs.{Needs}
 

@@ -1,7 +1,7 @@
 //! Unions `Cause`.
 
 ghost use Rattle.std.specs.Prelude.{◌≡◌, codes};
-ghost use Rattle.planus_laws.specs.Printed.{ReadsVariants};
+ghost use Rattle.planus.specs.Printed.{ReadsVariants};
 ghost use Rattle.harbour.specs.Cause.{cause_variants};
 
 use crate::entry::{Entry, EntryRef};

@@ -1,8 +1,8 @@
 //! Tables `Company`.
 
 ghost use Rattle.std.specs.Prelude.{◌∷◌, [], codes};
-ghost use Rattle.planus_laws.specs.Printed.{IsTextField, IsBytesField, text_kind, bytes_kind};
-ghost use Rattle.planus_laws.specs.Printed.{optional};
+ghost use Rattle.planus.specs.Printed.{IsTextField, IsBytesField, text_kind, bytes_kind};
+ghost use Rattle.planus.specs.Printed.{optional};
 
 use planus::table_reader::Table;
 use planus::{

@@ -1,10 +1,10 @@
 //! Tables `Entry`.
 
 ghost use Rattle.std.specs.Prelude.{◌∷◌, [], codes, MatchOption, ⊤};
-ghost use Rattle.planus_laws.specs.Printed.{u64_shape, IsIn, AllIn, IsTextRequired};
-ghost use Rattle.planus_laws.specs.Printed.{IsTableRequired, IsTableVector, text_kind, table_kind};
-ghost use Rattle.planus_laws.specs.Printed.{IsPlainFieldOr, IsUnionField, ReadsVariants, tables};
-ghost use Rattle.planus_laws.specs.Printed.{optional, required, number_or, union};
+ghost use Rattle.planus.specs.Printed.{u64_shape, IsIn, AllIn, IsTextRequired};
+ghost use Rattle.planus.specs.Printed.{IsTableRequired, IsTableVector, text_kind, table_kind};
+ghost use Rattle.planus.specs.Printed.{IsPlainFieldOr, IsUnionField, ReadsVariants, tables};
+ghost use Rattle.planus.specs.Printed.{optional, required, number_or, union};
 ghost use Rattle.harbour.specs.Cause.{cause_variants};
 ghost use Rattle.harbour.specs.declared.cause.Cause.{Cause};
 ghost use Rattle.harbour.specs.declared.entry.Entry.{Entry};

@@ -1,8 +1,8 @@
 //! Tables `Origin`.
 
 ghost use Rattle.std.specs.Prelude.{◌∷◌, [], codes};
-ghost use Rattle.planus_laws.specs.Printed.{u16_shape, IsTextField, text_kind, IsPlainFieldOr};
-ghost use Rattle.planus_laws.specs.Printed.{optional, number_or};
+ghost use Rattle.planus.specs.Printed.{u16_shape, IsTextField, text_kind, IsPlainFieldOr};
+ghost use Rattle.planus.specs.Printed.{optional, number_or};
 
 use planus::table_reader::Table;
 use planus::{

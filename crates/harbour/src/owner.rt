@@ -1,7 +1,7 @@
 //! Unions `Owner`.
 
 ghost use Rattle.std.specs.Prelude.{◌≡◌, codes};
-ghost use Rattle.planus_laws.specs.Printed.{ReadsVariants};
+ghost use Rattle.planus.specs.Printed.{ReadsVariants};
 ghost use Rattle.harbour.specs.Owner.{owner_variants};
 
 use crate::company::{Company, CompanyRef};

@@ -1,8 +1,8 @@
 //! Tables `Person`.
 
 ghost use Rattle.std.specs.Prelude.{◌∷◌, [], codes};
-ghost use Rattle.planus_laws.specs.Printed.{u8_shape, IsTextRequired, text_kind, IsPlainFieldOr};
-ghost use Rattle.planus_laws.specs.Printed.{required, number_or};
+ghost use Rattle.planus.specs.Printed.{u8_shape, IsTextRequired, text_kind, IsPlainFieldOr};
+ghost use Rattle.planus.specs.Printed.{required, number_or};
 
 use planus::table_reader::Table;
 use planus::{

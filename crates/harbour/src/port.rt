@@ -1,13 +1,13 @@
 //! Tables `Port`.
 
 ghost use Rattle.std.specs.Prelude.{◌∷◌, [], codes};
-ghost use Rattle.planus_laws.specs.Printed.{u16_shape, IsIn, AllIn, AllUnionsIn};
-ghost use Rattle.planus_laws.specs.Printed.{IsPlainVectorRequired, IsBytesRequired};
-ghost use Rattle.planus_laws.specs.Printed.{IsTextVectorRequired, IsTableVectorRequired};
-ghost use Rattle.planus_laws.specs.Printed.{bytes_kind, IsPlainField, IsUnionRequired};
-ghost use Rattle.planus_laws.specs.Printed.{IsUnionVectorRequired, ReadsVariants, plains, texts};
-ghost use Rattle.planus_laws.specs.Printed.{tables, required, plain_if, union_required};
-ghost use Rattle.planus_laws.specs.Printed.{unions_required};
+ghost use Rattle.planus.specs.Printed.{u16_shape, IsIn, AllIn, AllUnionsIn};
+ghost use Rattle.planus.specs.Printed.{IsPlainVectorRequired, IsBytesRequired};
+ghost use Rattle.planus.specs.Printed.{IsTextVectorRequired, IsTableVectorRequired};
+ghost use Rattle.planus.specs.Printed.{bytes_kind, IsPlainField, IsUnionRequired};
+ghost use Rattle.planus.specs.Printed.{IsUnionVectorRequired, ReadsVariants, plains, texts};
+ghost use Rattle.planus.specs.Printed.{tables, required, plain_if, union_required};
+ghost use Rattle.planus.specs.Printed.{unions_required};
 ghost use Rattle.harbour.specs.Gauge.{gauge_shape};
 ghost use Rattle.harbour.specs.Owner.{owner_variants};
 ghost use Rattle.harbour.specs.declared.owner.OwnerRef.{OwnerRef};

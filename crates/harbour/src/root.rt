@@ -2,9 +2,9 @@
 
 ghost use Rattle.std.specs.Prelude.{◌↔◌, codes, IfOk, IsTrue, Some};
 ghost use Rattle.std.specs.Borrow.{sem};
-ghost use Rattle.planus_laws.specs.Printed.{BytesStand, IsPrefixed, FinishGives, SizedFinishGives};
-ghost use Rattle.planus_laws.specs.Printed.{EndsAs, FinishLeaves, SizedFinishLeaves, IsIn};
-ghost use Rattle.planus_laws.specs.Printed.{IsPrepared, IsRoot, IsSizedRoot};
+ghost use Rattle.planus.specs.Printed.{BytesStand, IsPrefixed, FinishGives, SizedFinishGives};
+ghost use Rattle.planus.specs.Printed.{EndsAs, FinishLeaves, SizedFinishLeaves, IsIn};
+ghost use Rattle.planus.specs.Printed.{IsPrepared, IsRoot, IsSizedRoot};
 ghost use Rattle.harbour.specs.declared.ship.Ship.{Ship};
 
 use crate::FILE_IDENTIFIER;

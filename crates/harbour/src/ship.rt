@@ -2,15 +2,15 @@
 
 ghost use Rattle.std.specs.Prelude.{◌∷◌, [], codes, pos, negsuc, true, false, MatchOption, ⊤};
 ghost use Rattle.std.specs.Int.{w16, w64};
-ghost use Rattle.planus_laws.specs.Printed.{u16_shape, u32_shape, i8_shape, i16_shape, i32_shape};
-ghost use Rattle.planus_laws.specs.Printed.{i64_shape, bool_shape, f32_shape, f64_shape, IsIn};
-ghost use Rattle.planus_laws.specs.Printed.{AllIn, AllUnionsIn, IsPlainVector, IsPlainRequired};
-ghost use Rattle.planus_laws.specs.Printed.{IsTextRequired, IsBytesField, IsTextVector};
-ghost use Rattle.planus_laws.specs.Printed.{IsTableField, IsTableVector, plain_kind, text_kind};
-ghost use Rattle.planus_laws.specs.Printed.{bytes_kind, table_kind, IsPlainField, IsPlainFieldOr};
-ghost use Rattle.planus_laws.specs.Printed.{IsUnionField, IsUnionVector, ReadsVariants, plains};
-ghost use Rattle.planus_laws.specs.Printed.{judged, texts, tables, optional, required, plain_if};
-ghost use Rattle.planus_laws.specs.Printed.{plain_or, number_or, signed_or, union, unions};
+ghost use Rattle.planus.specs.Printed.{u16_shape, u32_shape, i8_shape, i16_shape, i32_shape};
+ghost use Rattle.planus.specs.Printed.{i64_shape, bool_shape, f32_shape, f64_shape, IsIn};
+ghost use Rattle.planus.specs.Printed.{AllIn, AllUnionsIn, IsPlainVector, IsPlainRequired};
+ghost use Rattle.planus.specs.Printed.{IsTextRequired, IsBytesField, IsTextVector};
+ghost use Rattle.planus.specs.Printed.{IsTableField, IsTableVector, plain_kind, text_kind};
+ghost use Rattle.planus.specs.Printed.{bytes_kind, table_kind, IsPlainField, IsPlainFieldOr};
+ghost use Rattle.planus.specs.Printed.{IsUnionField, IsUnionVector, ReadsVariants, plains};
+ghost use Rattle.planus.specs.Printed.{judged, texts, tables, optional, required, plain_if};
+ghost use Rattle.planus.specs.Printed.{plain_or, number_or, signed_or, union, unions};
 ghost use Rattle.harbour.specs.Fix.{fix_shape};
 ghost use Rattle.harbour.specs.Kind.{kind_shape};
 ghost use Rattle.harbour.specs.declared.kind.Kind.TheVariants as kind_value;

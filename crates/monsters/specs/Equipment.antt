@@ -1,6 +1,6 @@
 -- The variants of `Equipment`.
 use Rattle.std.specs.Prelude.{◌∷◌, [], List, Option, Some}
-use Rattle.planus_laws.specs.Printed.{Table, UnionVariant, table_variant}
+use Rattle.planus.specs.Printed.{Table, UnionVariant, table_variant}
 use Rattle.monsters.specs.declared.equipment.EquipmentRef.TheVariants as equipment_ref
 use Rattle.monsters.specs.declared.equipment.EquipmentRef.{EquipmentRef}
 

@@ -1,7 +1,7 @@
 //! Unions `Equipment`.
 
 ghost use Rattle.std.specs.Prelude.{◌≡◌, codes};
-ghost use Rattle.planus_laws.specs.Printed.{ReadsVariants};
+ghost use Rattle.planus.specs.Printed.{ReadsVariants};
 ghost use Rattle.monsters.specs.Equipment.{equipment_variants};
 
 use crate::weapon::{Weapon, WeaponRef};

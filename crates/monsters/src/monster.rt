@@ -2,11 +2,11 @@
 
 ghost use Rattle.std.specs.Prelude.{◌∷◌, [], codes, pos, MatchOption, ⊤};
 ghost use Rattle.std.specs.Int.{w16};
-ghost use Rattle.planus_laws.specs.Printed.{i16_shape, IsIn, AllIn, AllUnionsIn, IsTextRequired};
-ghost use Rattle.planus_laws.specs.Printed.{IsBytesField, IsTableVector, text_kind, bytes_kind};
-ghost use Rattle.planus_laws.specs.Printed.{IsPlainFieldOr, IsUnionField, IsUnionVector};
-ghost use Rattle.planus_laws.specs.Printed.{ReadsVariants, tables, optional, required, signed_or};
-ghost use Rattle.planus_laws.specs.Printed.{union, unions};
+ghost use Rattle.planus.specs.Printed.{i16_shape, IsIn, AllIn, AllUnionsIn, IsTextRequired};
+ghost use Rattle.planus.specs.Printed.{IsBytesField, IsTableVector, text_kind, bytes_kind};
+ghost use Rattle.planus.specs.Printed.{IsPlainFieldOr, IsUnionField, IsUnionVector};
+ghost use Rattle.planus.specs.Printed.{ReadsVariants, tables, optional, required, signed_or};
+ghost use Rattle.planus.specs.Printed.{union, unions};
 ghost use Rattle.monsters.specs.Equipment.{equipment_variants};
 ghost use Rattle.monsters.specs.declared.equipment.Equipment.{Equipment};
 ghost use Rattle.monsters.specs.declared.equipment.EquipmentRef.{EquipmentRef};

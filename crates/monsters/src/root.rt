@@ -1,7 +1,7 @@
 //! The root of a buffer.
 
 ghost use Rattle.std.specs.Prelude.{codes};
-ghost use Rattle.planus_laws.specs.Printed.{IsRoot, IsSizedRoot};
+ghost use Rattle.planus.specs.Printed.{IsRoot, IsSizedRoot};
 ghost use Rattle.monsters.specs.declared.monster.Monster.{Monster};
 
 use crate::monster::MonsterRef;

@@ -2,8 +2,8 @@
 
 ghost use Rattle.std.specs.Prelude.{◌∷◌, [], codes, pos};
 ghost use Rattle.std.specs.Int.{w16};
-ghost use Rattle.planus_laws.specs.Printed.{i16_shape, IsTextField, text_kind, IsPlainFieldOr};
-ghost use Rattle.planus_laws.specs.Printed.{optional, signed_or};
+ghost use Rattle.planus.specs.Printed.{i16_shape, IsTextField, text_kind, IsPlainFieldOr};
+ghost use Rattle.planus.specs.Printed.{optional, signed_or};
 
 use planus::table_reader::Table;
 use planus::{

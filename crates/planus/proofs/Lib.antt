@@ -38,3 +38,4 @@ pub mod Once
 pub mod SameTrees
 pub mod Found
 pub mod Streams
+pub mod FieldLines

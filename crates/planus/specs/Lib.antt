@@ -28,6 +28,9 @@ pub mod FinishHolds
 pub mod Streams
 pub mod Once
 pub mod SameTrees
+pub mod FieldLines
+pub mod SizedRoots
+pub mod Printed
 pub use Rattle.planus_back.specs as back
 pub use Rattle.planus_read.specs as read
 pub use Rattle.planus_view.specs as view

@@ -25,9 +25,9 @@ pub use root::{
 };
 ";
 
-const LAWS_CRATE: &str = "planus_laws";
+const RUNTIME: &str = "planus";
 
-const LAWS: &str = "pub use planus_laws::Create;\n";
+const CREATE: &str = "pub use planus::Create;\n";
 
 const ROOT_ALONE: &str = "
 pub use root::{read_as_root, read_size_prefixed_as_root};
@@ -189,19 +189,19 @@ impl<'a> Files<'a> {
     fn put_namespace(&self, text: &mut Printer<'_>, namespace: &[u8], template: &str) {
         let context = self.context;
         let mut uses = Printer::new(context);
-        let mut laws = if namespace.is_empty() { LAWS } else { "" };
+        let mut create = if namespace.is_empty() { CREATE } else { "" };
         for index in self.order {
             if let Some(one) = context.declared.get(*index) {
                 if namespace_around(&one.name) == namespace {
-                    if context.names.module(*index) > LAWS_CRATE.as_bytes() {
-                        uses.put_str(laws);
-                        laws = "";
+                    if context.names.module(*index) > RUNTIME.as_bytes() {
+                        uses.put_str(create);
+                        create = "";
                     }
                     uses.put_passed_on(template, *index, &one.body);
                 }
             }
         }
-        uses.put_str(laws);
+        uses.put_str(create);
         text.join_apart(&self.modules_in(namespace));
         text.join_apart(&uses);
     }

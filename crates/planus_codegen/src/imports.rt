@@ -16,7 +16,7 @@ const WORDS: [(&str, &str); 5] = [
     ("std.specs.Int", "w8 w16 w32 w64"),
     ("std.specs.Ordering", "int_eq"),
     (
-        "planus_laws.specs.Printed",
+        "planus.specs.Printed",
         "Table BytesStand Numbered u8_enum u16_enum u32_enum u64_enum i8_enum i16_enum i32_enum \
          i64_enum Shape u8_shape u16_shape u32_shape u64_shape i8_shape i16_shape i32_shape \
          i64_shape bool_shape f32_shape f64_shape IsPrefixed field force_align no_more \

@@ -26,8 +26,10 @@ const FINISH: &str = "
 /// Finishes a buffer with this root and the file identifier, as [`Builder::finish`].
 pub fn finish_root(^builder: &mut Builder,^root: Offset<$T>^) -> Result<&[u8], BuildError>
     requires { IsIn builder.old root }
-    ensures bytes {~IfOk~result~(λ bytes.~FinishGives~(IsPrepared root)~(Some FILE_IDENTIFIER)~builder.old~bytes.now) }
-    ensures* after {~sem~𝓛~(EndsAs~builder.entry~(FinishLeaves~(IsPrepared root)~(Some FILE_IDENTIFIER)~builder.old~result)) }
+    ensures bytes {~IfOk~result~(λ bytes.~FinishGives~(IsPrepared root)~\
+     (Some FILE_IDENTIFIER)~builder.old~bytes.now) }
+    ensures* after {~sem~𝓛~(EndsAs~builder.entry~(FinishLeaves~(IsPrepared root)~\
+     (Some FILE_IDENTIFIER)~builder.old~result)) }
 {
     builder.finish(root, Some(FILE_IDENTIFIER))
 }
@@ -35,11 +37,14 @@ pub fn finish_root(^builder: &mut Builder,^root: Offset<$T>^) -> Result<&[u8], B
 
 const FINISH_SIZED: &str = "
 /// The same after the size of what follows, as [`Builder::finish_size_prefixed`].
-pub fn finish_root_size_prefixed(^builder: &mut Builder,^root: Offset<$T>^) -> Result<&[u8], BuildError>
+pub fn finish_root_size_prefixed(^builder: &mut Builder,^root: Offset<$T>^) \
+     -> Result<&[u8], BuildError>
     requires { IsIn builder.old root }
-    ensures bytes {~IfOk~result~(λ bytes.~SizedFinishGives~(IsPrepared root)~(Some FILE_IDENTIFIER)~builder.old~bytes.now) }
+    ensures bytes {~IfOk~result~(λ bytes.~SizedFinishGives~(IsPrepared root)~\
+     (Some FILE_IDENTIFIER)~builder.old~bytes.now) }
     ensures size { IfOk result (λ bytes. IsPrefixed bytes.now) }
-    ensures* after {~sem~𝓛~(EndsAs~builder.entry~(SizedFinishLeaves~(IsPrepared root)~(Some FILE_IDENTIFIER)~builder.old~result)) }
+    ensures* after {~sem~𝓛~(EndsAs~builder.entry~(SizedFinishLeaves~(IsPrepared root)~\
+     (Some FILE_IDENTIFIER)~builder.old~result)) }
 {
     builder.finish_size_prefixed(root, Some(FILE_IDENTIFIER))
 }

@@ -8,13 +8,14 @@ use planus_layout::Body;
 
 /// The names of `planus` that code may need.
 const NAMES: &str =
-    "BuildError Builder ByteList FieldAt FieldGroup Lines8 List Offset OrDefault Plain PlainField \
-     PlainTotal Result SliceWithStartOffset Stride TableKind TableReadUnion TableRef TableView \
-     TableWriter Text UnionOffset UnionVector Vector VectorReadUnion bytes_field bytes_required \
-     create_table fields plain_field plain_field_or plain_required plain_vector plain_vector_required \
-     put_fields read_fields read_root read_variant read_view table_field table_required \
-     table_vector table_vector_required text_field text_required text_vector text_vector_required \
-     union_field union_required union_vector union_vector_required";
+    "BuildError Builder Built ByteList Create FieldAt FieldGroup Lines8 List Offset OrDefault \
+     Plain PlainField PlainTotal Result SliceWithStartOffset Stride TableKind TableReadUnion \
+     TableRef TableView TableWriter Text UnionOffset UnionVector Vector VectorReadUnion \
+     bytes_field bytes_required create_table fields plain_field plain_field_or plain_required \
+     plain_vector plain_vector_required put_fields read_fields read_root read_sized_root \
+     read_variant read_view table_field table_required table_vector table_vector_required \
+     text_field text_required text_vector text_vector_required union_field union_required \
+     union_vector union_vector_required";
 
 /// The columns of an import on one line.
 const COLUMNS: usize = 98;
@@ -107,16 +108,6 @@ impl<'a> Printer<'a> {
         let mut path = Printer::new(self.context);
         path.put_str("use planus::");
         self.put_use(&path, &names);
-        let mut laws = Printer::new(self.context);
-        for name in ["Built", "Create", "read_sized_root"] {
-            if words.has(&[], name) {
-                laws.put_comma();
-                laws.put_str(name);
-            }
-        }
-        let mut path = Printer::new(self.context);
-        path.put_str("use planus_laws::");
-        self.put_use(&path, &laws);
     }
 
     pub(crate) fn put_code_uses(&mut self, words: &Words<'_>, order: &[usize], own: usize) {

@@ -18,7 +18,7 @@ use planus_layout::is_among as is_in;
 
 /// Words that no name in printed code can be: those of the language and of proofs, and names that
 /// the code has anyway.
-pub const RESERVED: [&str; 80] = [
+pub const RESERVED: [&str; 79] = [
     "_",
     "NOTHING",
     "Self",
@@ -33,7 +33,6 @@ pub const RESERVED: [&str; 80] = [
     "i8",
     "main",
     "planus",
-    "planus_laws",
     "std",
     "u16",
     "u32",

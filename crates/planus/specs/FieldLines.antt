@@ -5,22 +5,22 @@ use Rattle.std.specs.Prelude.{ℤ, FitsSigned, IsTrue}
 use Rattle.std.specs.Borrow.{Bor}
 use Rattle.std.specs.Int.{Width}
 use Rattle.std.specs.Ordering.{int_eq}
-use Rattle.planus.specs.read.declared.located.Error.{Error}
-use Rattle.planus.specs.read.declared.table_reader.Table.{Table}
-use Rattle.planus.specs.read.Plain.{Shape}
-use Rattle.planus.specs.read.Shapes.{u32_shape}
-use Rattle.planus.specs.read.declared.plain.Plain.{Ghosts as PlainGhosts}
-use Rattle.planus.specs.write.Contents.{Content, written, written_union}
-use Rattle.planus.specs.write.Finishing.{FinishGives}
-use Rattle.planus.specs.write.History.{History}
-use Rattle.planus.specs.write.Preparing.{IsPrepared}
-use Rattle.planus.specs.write.State.{State, IsHistoryOf}
-use Rattle.planus.specs.write.declared.offset.Offset.{Offset}
-use Rattle.planus.specs.write.declared.union_offset.UnionOffset.{UnionOffset}
-use Rattle.planus.specs.view.declared.item_errors.AsRead.{AsRead}
-use Rattle.planus.specs.view.declared.vector.SliceView.{SliceView}
-use Rattle.planus.specs.view.declared.vector_of.VectorOf.{VectorOf}
-use Rattle.planus.specs.fields.Contents.{holds_if, unless}
+use Rattle.planus_read.specs.declared.located.Error.{Error}
+use Rattle.planus_read.specs.declared.table_reader.Table.{Table}
+use Rattle.planus_read.specs.Plain.{Shape}
+use Rattle.planus_read.specs.Shapes.{u32_shape}
+use Rattle.planus_read.specs.declared.plain.Plain.{Ghosts as PlainGhosts}
+use Rattle.planus_write.specs.Contents.{Content, written, written_union}
+use Rattle.planus_write.specs.Finishing.{FinishGives}
+use Rattle.planus_write.specs.History.{History}
+use Rattle.planus_write.specs.Preparing.{IsPrepared}
+use Rattle.planus_write.specs.State.{State, IsHistoryOf}
+use Rattle.planus_write.specs.declared.offset.Offset.{Offset}
+use Rattle.planus_write.specs.declared.union_offset.UnionOffset.{UnionOffset}
+use Rattle.planus_view.specs.declared.item_errors.AsRead.{AsRead}
+use Rattle.planus_view.specs.declared.vector.SliceView.{SliceView}
+use Rattle.planus_view.specs.declared.vector_of.VectorOf.{VectorOf}
+use Rattle.planus_fields.specs.Contents.{holds_if, unless}
 use Rattle.planus.specs.Accessors.{FieldKind, IsField, IsRequired, SameIf, plains_kind, texts_kind}
 use Rattle.planus.specs.Accessors.{tables_kind}
 use Rattle.planus.specs.Holds.{holds_plain, holds_union_tag, holds_union_value}

@@ -1,6 +1,6 @@
 use Rattle.std.proofs.Common.{refl, None}
-use Rattle.planus_laws.proofs.FieldLines.{written_reads_back}
-use Rattle.planus_laws.proofs.create.Create.read_back.Goals as goal
+use Rattle.planus.proofs.FieldLines.{written_reads_back}
+use Rattle.planus.proofs.printed.create.Create.read_back.Goals as goal
 
 pub returns : goal.returns
 returns g c =

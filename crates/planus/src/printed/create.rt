@@ -3,12 +3,13 @@
 ghost use Rattle.std.specs.Prelude.{◌≡◌, ◌≤◌, List, length, IfOk, IsOkAnd, IsTrue, ⊤};
 ghost use Rattle.planus.specs.Contents.{WritesContents};
 ghost use Rattle.planus.specs.ReadBack.{are_apart};
-ghost use Rattle.planus.specs.write.State.{State, Grows};
-ghost use Rattle.planus_laws.specs.FieldLines.{FieldLine, ReadsBack, contents_of};
+ghost use Rattle.planus_write.specs.State.{State, Grows};
+ghost use Rattle.planus.specs.FieldLines.{FieldLine, ReadsBack, contents_of};
 
-use crate::finished::finish_and_read;
-use planus::located::Error;
-use planus::{BuildError, Builder, Offset, TableKind, TableView};
+use crate::printed::finished::finish_and_read;
+use crate::tables::{TableKind, TableView};
+use planus_read::Error;
+use planus_write::{BuildError, Builder, Offset};
 
 /// The offset of a table that was written, or the error of its write.
 pub type Built<K> = Result<Offset<K>, BuildError>;

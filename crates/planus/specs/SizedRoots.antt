@@ -1,10 +1,10 @@
 -- The roots of size-prefixed buffers.
 use Rattle.std.specs.Prelude.{◌≡◌, ◌⊎◌, List, ℕ, Result, Ok, Err}
 use Rattle.std.specs.Borrow.{Bor}
-use Rattle.planus.specs.read.declared.errors.ErrorKind.{ErrorKind}
-use Rattle.planus.specs.read.declared.table_reader.Table.{Table}
-use Rattle.planus.specs.read.Clauses.{FirstBroken}
-use Rattle.planus.specs.read.SizePrefixed.{Prefixed, PrefixedThere, prefixed_clauses}
+use Rattle.planus_read.specs.declared.errors.ErrorKind.{ErrorKind}
+use Rattle.planus_read.specs.declared.table_reader.Table.{Table}
+use Rattle.planus_read.specs.Clauses.{FirstBroken}
+use Rattle.planus_read.specs.SizePrefixed.{Prefixed, PrefixedThere, prefixed_clauses}
 use Rattle.planus.specs.Views.{reads_as}
 
 module _ {V : Type 0} (table_of : V → Table) (B : List ℕ) where

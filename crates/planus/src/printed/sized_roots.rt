@@ -1,9 +1,10 @@
 //! The roots of size-prefixed buffers.
 
-ghost use Rattle.planus_laws.specs.SizedRoots.{IsSizedRoot};
+ghost use Rattle.planus.specs.SizedRoots.{IsSizedRoot};
 
-use planus::errors::ErrorKind;
-use planus::{TableView, read_size_prefixed, read_view};
+use crate::tables::{TableView, read_view};
+use planus_read::errors::ErrorKind;
+use planus_read::read_size_prefixed;
 
 /// Returns the view of the root of the first of these size-prefixed buffers, and the bytes after
 /// the buffer.

@@ -1,7 +1,7 @@
 use Rattle.planus.specs.ReadBack.{TableHolds}
-use Rattle.planus_laws.specs.FieldLines.{KeptTablesStandIn}
-use Rattle.planus_laws.proofs.FieldLines.{ok_also}
-use Rattle.planus_laws.proofs.finished.finish_and_read.Goals as goal
+use Rattle.planus.specs.FieldLines.{KeptTablesStandIn}
+use Rattle.planus.proofs.FieldLines.{ok_also}
+use Rattle.planus.proofs.printed.finished.finish_and_read.Goals as goal
 
 pub returns : goal.returns
 returns g c = λ before contents history writes apart.

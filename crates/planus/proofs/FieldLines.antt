@@ -4,22 +4,22 @@ use Rattle.std.specs.Prelude.{not, ◌==◌, if◌then◌else◌, ⊤, IfOk, IsO
 use Rattle.std.specs.Ordering.{int_eq}
 use Rattle.std.proofs.lemmas.Bool.{and_parts, eqb-true, eqb-false, eq-eqb, ne_eqb, not-true}
 use Rattle.std.proofs.lemmas.Bool.Decides.{Decides-int_eq}
-use Rattle.planus.specs.read.declared.table_reader.Table.{Table}
-use Rattle.planus.specs.write.Contents.{Content, written, written_union}
-use Rattle.planus.specs.write.declared.offset.Offset.{Offset}
-use Rattle.planus.specs.write.History.{History}
-use Rattle.planus.specs.write.State.{State, IsHistoryOf}
-use Rattle.planus.specs.read.declared.located.Error.{Error}
+use Rattle.planus_read.specs.declared.table_reader.Table.{Table}
+use Rattle.planus_write.specs.Contents.{Content, written, written_union}
+use Rattle.planus_write.specs.declared.offset.Offset.{Offset}
+use Rattle.planus_write.specs.History.{History}
+use Rattle.planus_write.specs.State.{State, IsHistoryOf}
+use Rattle.planus_read.specs.declared.located.Error.{Error}
 use Rattle.planus.specs.Contents.{WritesContents}
-use Rattle.planus.specs.read.Plain.{Shape}
-use Rattle.planus.specs.fields.Contents.{unless}
+use Rattle.planus_read.specs.Plain.{Shape}
+use Rattle.planus_fields.specs.Contents.{unless}
 use Rattle.planus.specs.Holds.{as_signed, holds_plain}
 use Rattle.planus.specs.ReadPlain.{IsPlainFieldOr}
 use Rattle.planus.specs.ReadBack.{SlotHolds, TableHolds, content_at, is_other, are_apart}
-use Rattle.planus_laws.specs.FieldLines.{FieldLine, holds_first, holds_last, all_first, all_last}
-use Rattle.planus_laws.specs.FieldLines.{contents_of, Returns, ReturnsGiven, AllReturnGiven}
-use Rattle.planus_laws.specs.FieldLines.{KeptTablesStandIn, RootIsRead, ReadsBack}
-use Rattle.planus_laws.specs.FieldLines.FieldLine.{optional, required, plain_if, plain_or, number_or, signed_or, union, union_required, unions, unions_required}
+use Rattle.planus.specs.FieldLines.{FieldLine, holds_first, holds_last, all_first, all_last}
+use Rattle.planus.specs.FieldLines.{contents_of, Returns, ReturnsGiven, AllReturnGiven}
+use Rattle.planus.specs.FieldLines.{KeptTablesStandIn, RootIsRead, ReadsBack}
+use Rattle.planus.specs.FieldLines.FieldLine.{optional, required, plain_if, plain_or, number_or, signed_or, union, union_required, unions, unions_required}
 
 -- each entry is what a function has for its slot
 abbrev AllAgree : (ℕ → Option Content) → List (ℕ × Option Content) → Type 0

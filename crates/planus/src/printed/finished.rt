@@ -1,11 +1,13 @@
 //! A finish that is read at once.
 
 ghost use Rattle.std.specs.Prelude.{IfOk};
-ghost use Rattle.planus.specs.write.InBuilder.{IsIn};
-ghost use Rattle.planus_laws.specs.FieldLines.{RootIsRead};
+ghost use Rattle.planus_write.specs.InBuilder.{IsIn};
+ghost use Rattle.planus.specs.FieldLines.{RootIsRead};
 
-use planus::located::Error;
-use planus::{BuildError, Builder, Offset, TableView, laws, read_root};
+use crate::laws;
+use crate::tables::{TableView, read_root};
+use planus_read::Error;
+use planus_write::{BuildError, Builder, Offset};
 
 /// Finishes a buffer with this root, and reads the root. The read never fails: the view has all
 /// contents with which its table was written, and all tables that the builder had before are in the

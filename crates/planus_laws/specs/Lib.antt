@@ -1,3 +1,0 @@
-pub mod FieldLines
-pub mod SizedRoots
-pub mod Printed
