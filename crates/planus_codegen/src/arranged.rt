@@ -1,7 +1,7 @@
 //! The layout of printed text: where its lines end.
 
-use crate::printer::{ARGUMENT, BREAK, END, OWN};
-use std::alloc::{AllocError, Global};
+use crate::context::Context;
+use crate::printer::{ARGUMENT, BREAK, END, OWN, Printer};
 
 const COLUMNS: usize = 100;
 
@@ -14,10 +14,10 @@ const ARGUMENT_COLUMNS: usize = 60;
 const FIELD_COLUMNS: usize = 18;
 
 #[derive(Drop)]
-struct Arrangement {
-    text: String,
+struct Arrangement<'a> {
+    text: Printer<'a>,
     /// The letters since the last place where the line may end.
-    word: String,
+    word: Printer<'a>,
     /// Of the last line of the text, and of the word.
     column: usize,
     width: usize,
@@ -98,61 +98,61 @@ impl Measure {
     }
 }
 
-impl Arrangement {
-    fn put_line_end(&mut self, indent: usize) -> Result<(), AllocError> {
-        self.text.push('\n')?;
+impl<'a> Arrangement<'a> {
+    fn put_line_end(&mut self, indent: usize) {
+        self.text.put_char('\n');
         for _ in 0..indent {
-            self.text.push(' ')?;
+            self.text.put_char(' ');
         }
         self.column = indent;
-        Ok(())
     }
 
-    fn put_word(&mut self) -> Result<(), AllocError> {
+    fn put_word(&mut self) {
         let wanted = self.width.saturating_add(1);
         if self.apart && self.column.saturating_add(wanted) > WORD_COLUMNS {
-            self.put_line_end(going_on(self.indent, self.is_ghost))?;
+            self.put_line_end(going_on(self.indent, self.is_ghost));
         } else if self.apart {
-            self.text.push(' ')?;
+            self.text.put_char(' ');
             self.column = self.column.saturating_add(1);
         }
-        self.text.push_str(self.word.as_str())?;
+        self.text.join(&self.word);
         self.column = self.column.saturating_add(self.width);
         self.word.clear();
         self.width = 0;
-        Ok(())
     }
 
-    fn put_letter(&mut self, letter: char) -> Result<(), AllocError> {
+    fn put_letter(&mut self, letter: char) {
         if letter == ' ' && !self.apart && self.column == 0 && self.width == self.indent {
             self.indent = self.indent.saturating_add(1);
         }
-        self.word.push(letter)?;
+        self.word.put_char(letter);
         self.width = self.width.saturating_add(1);
-        Ok(())
     }
 
-    fn put_mark(&mut self, mark: usize, measure: Measure) -> Result<(), AllocError> {
+    // The end of an argument that is on a line of its own.
+    fn put_broken(&mut self, last: bool, record: bool) {
+        if last {
+            self.put_letter(if record { ';' } else { ',' });
+        }
+        self.put_word();
+        let more = match (last, record) {
+            (true, _) => 0,
+            (false, true) => 2,
+            (false, false) => 4,
+        };
+        self.put_line_end(self.indent.saturating_add(more));
+    }
+
+    fn put_mark(&mut self, mark: usize, measure: Measure) {
         let last = mark.saturating_add(1) == measure.marks;
         if measure.is_broken() {
-            if last {
-                self.put_letter(if measure.record { ';' } else { ',' })?;
-            }
-            self.put_word()?;
-            let more = match (last, measure.record) {
-                (true, _) => 0,
-                (false, true) => 2,
-                (false, false) => 4,
-            };
-            return self.put_line_end(self.indent.saturating_add(more));
+            self.put_broken(last, measure.record);
+        } else if measure.fields || (mark > 0 && !last) {
+            self.put_letter(' ');
         }
-        if measure.fields || (mark > 0 && !last) {
-            self.put_letter(' ')?;
-        }
-        Ok(())
     }
 
-    fn put_line(&mut self, line: &str) -> Result<(), AllocError> {
+    fn put_line(&mut self, line: &str) {
         let measure = measure_of(line);
         let mut mark = 0usize;
         self.indent = 0;
@@ -162,47 +162,40 @@ impl Arrangement {
         for letter in line.chars() {
             match letter {
                 BREAK => {
-                    self.put_word()?;
+                    self.put_word();
                     self.apart = true;
                 }
                 ARGUMENT => {
-                    self.put_mark(mark, measure)?;
+                    self.put_mark(mark, measure);
                     mark = mark.saturating_add(1);
                 }
                 OWN => {}
                 END => {
-                    self.put_word()?;
+                    self.put_word();
                     self.apart = false;
-                    self.put_line_end(self.indent.saturating_add(4))?;
+                    self.put_line_end(self.indent.saturating_add(4));
                 }
-                letter => self.put_letter(letter)?,
+                letter => self.put_letter(letter),
             }
         }
-        self.put_word()?;
-        self.text.push('\n')?;
-        Ok(())
+        self.put_word();
+        self.text.put_char('\n');
     }
 }
 
 /// Returns printed text with its lines broken, and without marks.
-pub(crate) fn arranged(alloc: Global, printed: &str) -> Result<String, AllocError> {
+pub(crate) fn arranged<'a>(context: &'a Context<'a>, printed: &str) -> Printer<'a> {
     let mut out = Arrangement {
-        text: String::new(alloc),
-        word: String::new(alloc),
+        text: Printer::new(context),
+        word: Printer::new(context),
         column: 0,
         width: 0,
         apart: false,
         indent: 0,
         is_ghost: false,
     };
-    let mut line = String::new(alloc);
-    for letter in printed.chars() {
-        if letter == '\n' {
-            out.put_line(line.as_str())?;
-            line.clear();
-        } else {
-            line.push(letter)?;
-        }
+    for line in printed.split_terminator('\n') {
+        out.put_line(line);
     }
-    Ok(out.text)
+    out.text
 }

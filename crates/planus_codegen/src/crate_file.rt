@@ -54,7 +54,7 @@ impl<'a> Files<'a> {
     // The path is a template.
     fn put(&mut self, path: &str, at: At, text: Printer<'_>) -> Result<(), AllocError> {
         let text = text.finish()?;
-        let text = arranged(self.context.alloc, text.as_str())?;
+        let text = arranged(self.context, text.as_str()).finish()?;
         let mut name = Printer::new(self.context);
         name.put(path, at);
         let path = name.finish()?;

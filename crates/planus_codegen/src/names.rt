@@ -222,26 +222,36 @@ pub(crate) fn name_at(names: &[Vec<u8>], index: usize) -> &[u8] {
 }
 
 fn names_of(alloc: Global, declared: &[Declared]) -> Result<Names, AllocError> {
-    let types = type_names(alloc, declared, false)?;
-    let modules = module_names(alloc, declared, &types)?;
-    let mut members = Vec::new(alloc);
-    for one in declared {
-        members.push(members_of(alloc, &one.body)?)?;
-    }
     let mut names = Names {
-        types,
-        modules,
-        members,
-        places: type_names(alloc, declared, true)?,
+        types: Vec::new(alloc),
+        modules: Vec::new(alloc),
+        members: Vec::new(alloc),
+        places: Vec::new(alloc),
         namespaces: Vec::new(alloc),
     };
-    for one in declared {
-        names.add_namespaces(alloc, &one.name)?;
-    }
+    names.add_all(alloc, declared)?;
     Ok(names)
 }
 
 impl Names {
+    fn add_members(&mut self, alloc: Global, declared: &[Declared]) -> Result<(), AllocError> {
+        for one in declared {
+            self.members.push(members_of(alloc, &one.body)?)?;
+        }
+        Ok(())
+    }
+
+    fn add_all(&mut self, alloc: Global, declared: &[Declared]) -> Result<(), AllocError> {
+        self.types = type_names(alloc, declared, false)?;
+        self.modules = module_names(alloc, declared, &self.types)?;
+        self.places = type_names(alloc, declared, true)?;
+        self.add_members(alloc, declared)?;
+        for one in declared {
+            self.add_namespaces(alloc, &one.name)?;
+        }
+        Ok(())
+    }
+
     fn add_namespaces(&mut self, alloc: Global, name: &[u8]) -> Result<(), AllocError> {
         for (at, byte) in name.iter().enumerate() {
             let namespace = name.get(..at).unwrap_or(name);

@@ -165,6 +165,11 @@ impl<'a> Printer<'a> {
         self.text.as_str()
     }
 
+    /// Leaves nothing of the text.
+    pub(crate) fn clear(&mut self) {
+        self.text.clear();
+    }
+
     /// Returns how many letters there are.
     pub(crate) fn columns(&self) -> usize {
         self.text.chars().count()
