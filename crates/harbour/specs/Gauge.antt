@@ -1,6 +1,6 @@
 -- The layout of `Gauge`.
-use Rattle.planus.specs.Printed.{Shape, i32_shape, bool_shape, field, force_align}
-use Rattle.planus.specs.Printed.{no_more, struct_layout, struct_shape}
+use Rattle.planus.specs.Printed.{Shape, i32_shape, bool_shape, field, force_align, no_more}
+use Rattle.planus.specs.Printed.{struct_layout, struct_shape}
 use Rattle.std.proofs.Common.{refl, lit≤, lit<}
 use Rattle.harbour.specs.declared.gauge.Gauge.{Gauge}
 

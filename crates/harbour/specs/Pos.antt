@@ -1,6 +1,6 @@
 -- The layout of `Pos`.
-use Rattle.planus.specs.Printed.{Shape, i16_shape, i32_shape, field, no_more}
-use Rattle.planus.specs.Printed.{struct_layout, struct_shape}
+use Rattle.planus.specs.Printed.{Shape, i16_shape, i32_shape, field, no_more, struct_layout}
+use Rattle.planus.specs.Printed.{struct_shape}
 use Rattle.std.proofs.Common.{refl, lit≤, lit<}
 use Rattle.harbour.specs.declared.pos.Pos.{Pos}
 

@@ -1,15 +1,13 @@
 //! Tables `Company`.
 
 ghost use Rattle.std.specs.Prelude.{◌∷◌, [], codes};
-ghost use Rattle.planus.specs.Printed.{IsTextField, IsBytesField, text_kind, bytes_kind};
-ghost use Rattle.planus.specs.Printed.{optional};
+ghost use Rattle.planus.specs.Printed.{IsTextField, IsBytesField, text_kind, bytes_kind, optional};
 
 use planus::table_reader::Table;
 use planus::{
-    Builder, ByteList, List, Offset, Result, TableKind, TableView, TableWriter, Text, bytes_field,
-    create_table, fields, text_field,
+    Builder, Built, ByteList, Create, List, Offset, Result, TableKind, TableView, TableWriter,
+    Text, bytes_field, create_table, fields, text_field,
 };
-use planus_laws::{Built, Create};
 
 /// The kind of `Company`, and of an offset to one.
 pub struct Company;

@@ -1,10 +1,10 @@
 //! Tables `Entry`.
 
 ghost use Rattle.std.specs.Prelude.{◌∷◌, [], codes, MatchOption, ⊤};
-ghost use Rattle.planus.specs.Printed.{u64_shape, IsIn, AllIn, IsTextRequired};
-ghost use Rattle.planus.specs.Printed.{IsTableRequired, IsTableVector, text_kind, table_kind};
-ghost use Rattle.planus.specs.Printed.{IsPlainFieldOr, IsUnionField, ReadsVariants, tables};
-ghost use Rattle.planus.specs.Printed.{optional, required, number_or, union};
+ghost use Rattle.planus.specs.Printed.{u64_shape, IsIn, AllIn, IsTextRequired, IsTableRequired};
+ghost use Rattle.planus.specs.Printed.{IsTableVector, text_kind, table_kind, IsPlainFieldOr};
+ghost use Rattle.planus.specs.Printed.{IsUnionField, ReadsVariants, tables, optional, required};
+ghost use Rattle.planus.specs.Printed.{number_or, union};
 ghost use Rattle.harbour.specs.Cause.{cause_variants};
 ghost use Rattle.harbour.specs.declared.cause.Cause.{Cause};
 ghost use Rattle.harbour.specs.declared.entry.Entry.{Entry};
@@ -15,11 +15,10 @@ use crate::cause::{Cause, CauseRef};
 use crate::origin::{Origin, OriginRef};
 use planus::table_reader::Table;
 use planus::{
-    Builder, List, Offset, OrDefault, Result, TableKind, TableRef, TableView, TableWriter, Text,
-    UnionOffset, Vector, create_table, fields, plain_field_or, table_required, table_vector,
-    text_required, union_field,
+    Builder, Built, Create, List, Offset, OrDefault, Result, TableKind, TableRef, TableView,
+    TableWriter, Text, UnionOffset, Vector, create_table, fields, plain_field_or, table_required,
+    table_vector, text_required, union_field,
 };
-use planus_laws::{Built, Create};
 
 /// An entry of a log.
 pub struct Entry;

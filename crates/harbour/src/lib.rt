@@ -27,7 +27,7 @@ pub use needs::Needs;
 pub use origin::{Origin, OriginFields, OriginRef};
 pub use owner::{Owner, OwnerRef};
 pub use person::{Person, PersonFields, PersonRef};
-pub use planus_laws::Create;
+pub use planus::Create;
 pub use port::{Port, PortFields, PortRef};
 pub use pos::Pos;
 pub use ship::{Ship, ShipFields, ShipRef};

@@ -6,10 +6,9 @@ ghost use Rattle.planus.specs.Printed.{optional, number_or};
 
 use planus::table_reader::Table;
 use planus::{
-    Builder, Offset, OrDefault, Result, TableKind, TableView, TableWriter, Text, create_table,
-    fields, plain_field_or, text_field,
+    Builder, Built, Create, Offset, OrDefault, Result, TableKind, TableView, TableWriter, Text,
+    create_table, fields, plain_field_or, text_field,
 };
-use planus_laws::{Built, Create};
 
 /// Where a log is kept.
 pub struct Origin;

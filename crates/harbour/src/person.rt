@@ -6,10 +6,9 @@ ghost use Rattle.planus.specs.Printed.{required, number_or};
 
 use planus::table_reader::Table;
 use planus::{
-    Builder, Offset, OrDefault, Result, TableKind, TableView, TableWriter, Text, create_table,
-    fields, plain_field_or, text_required,
+    Builder, Built, Create, Offset, OrDefault, Result, TableKind, TableView, TableWriter, Text,
+    create_table, fields, plain_field_or, text_required,
 };
-use planus_laws::{Built, Create};
 
 /// The kind of `Person`, and of an offset to one.
 pub struct Person;

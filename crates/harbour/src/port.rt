@@ -1,12 +1,11 @@
 //! Tables `Port`.
 
 ghost use Rattle.std.specs.Prelude.{◌∷◌, [], codes};
-ghost use Rattle.planus.specs.Printed.{u16_shape, IsIn, AllIn, AllUnionsIn};
-ghost use Rattle.planus.specs.Printed.{IsPlainVectorRequired, IsBytesRequired};
-ghost use Rattle.planus.specs.Printed.{IsTextVectorRequired, IsTableVectorRequired};
-ghost use Rattle.planus.specs.Printed.{bytes_kind, IsPlainField, IsUnionRequired};
-ghost use Rattle.planus.specs.Printed.{IsUnionVectorRequired, ReadsVariants, plains, texts};
-ghost use Rattle.planus.specs.Printed.{tables, required, plain_if, union_required};
+ghost use Rattle.planus.specs.Printed.{u16_shape, IsIn, AllIn, AllUnionsIn, IsPlainVectorRequired};
+ghost use Rattle.planus.specs.Printed.{IsBytesRequired, IsTextVectorRequired};
+ghost use Rattle.planus.specs.Printed.{IsTableVectorRequired, bytes_kind, IsPlainField};
+ghost use Rattle.planus.specs.Printed.{IsUnionRequired, IsUnionVectorRequired, ReadsVariants};
+ghost use Rattle.planus.specs.Printed.{plains, texts, tables, required, plain_if, union_required};
 ghost use Rattle.planus.specs.Printed.{unions_required};
 ghost use Rattle.harbour.specs.Gauge.{gauge_shape};
 ghost use Rattle.harbour.specs.Owner.{owner_variants};
@@ -18,12 +17,11 @@ use crate::owner::{Owner, OwnerRef};
 use crate::ship::Ship;
 use planus::table_reader::Table;
 use planus::{
-    Builder, ByteList, List, Offset, Result, TableKind, TableRef, TableView, TableWriter, Text,
-    UnionOffset, UnionVector, Vector, bytes_required, create_table, fields, plain_field,
-    plain_vector_required, table_vector_required, text_vector_required, union_required,
-    union_vector_required,
+    Builder, Built, ByteList, Create, List, Offset, Result, TableKind, TableRef, TableView,
+    TableWriter, Text, UnionOffset, UnionVector, Vector, bytes_required, create_table, fields,
+    plain_field, plain_vector_required, table_vector_required, text_vector_required,
+    union_required, union_vector_required,
 };
-use planus_laws::{Built, Create};
 
 /// Where ships lie.
 pub struct Port;

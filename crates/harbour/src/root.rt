@@ -3,15 +3,14 @@
 ghost use Rattle.std.specs.Prelude.{◌↔◌, codes, IfOk, IsTrue, Some};
 ghost use Rattle.std.specs.Borrow.{sem};
 ghost use Rattle.planus.specs.Printed.{BytesStand, IsPrefixed, FinishGives, SizedFinishGives};
-ghost use Rattle.planus.specs.Printed.{EndsAs, FinishLeaves, SizedFinishLeaves, IsIn};
-ghost use Rattle.planus.specs.Printed.{IsPrepared, IsRoot, IsSizedRoot};
+ghost use Rattle.planus.specs.Printed.{EndsAs, FinishLeaves, SizedFinishLeaves, IsIn, IsPrepared};
+ghost use Rattle.planus.specs.Printed.{IsRoot, IsSizedRoot};
 ghost use Rattle.harbour.specs.declared.ship.Ship.{Ship};
 
 use crate::FILE_IDENTIFIER;
 use crate::ship::{Ship, ShipRef};
 use planus::errors::ErrorKind;
-use planus::{BuildError, Builder, Offset, read_root};
-use planus_laws::read_sized_root;
+use planus::{BuildError, Builder, Offset, read_root, read_sized_root};
 
 /// Reads the root of a buffer.
 pub fn read_as_root(bytes: &[u8]) -> planus::Result<ShipRef<'_>>

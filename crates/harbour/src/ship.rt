@@ -3,14 +3,14 @@
 ghost use Rattle.std.specs.Prelude.{◌∷◌, [], codes, pos, negsuc, true, false, MatchOption, ⊤};
 ghost use Rattle.std.specs.Int.{w16, w64};
 ghost use Rattle.planus.specs.Printed.{u16_shape, u32_shape, i8_shape, i16_shape, i32_shape};
-ghost use Rattle.planus.specs.Printed.{i64_shape, bool_shape, f32_shape, f64_shape, IsIn};
-ghost use Rattle.planus.specs.Printed.{AllIn, AllUnionsIn, IsPlainVector, IsPlainRequired};
-ghost use Rattle.planus.specs.Printed.{IsTextRequired, IsBytesField, IsTextVector};
-ghost use Rattle.planus.specs.Printed.{IsTableField, IsTableVector, plain_kind, text_kind};
-ghost use Rattle.planus.specs.Printed.{bytes_kind, table_kind, IsPlainField, IsPlainFieldOr};
-ghost use Rattle.planus.specs.Printed.{IsUnionField, IsUnionVector, ReadsVariants, plains};
-ghost use Rattle.planus.specs.Printed.{judged, texts, tables, optional, required, plain_if};
-ghost use Rattle.planus.specs.Printed.{plain_or, number_or, signed_or, union, unions};
+ghost use Rattle.planus.specs.Printed.{i64_shape, bool_shape, f32_shape, f64_shape, IsIn, AllIn};
+ghost use Rattle.planus.specs.Printed.{AllUnionsIn, IsPlainVector, IsPlainRequired};
+ghost use Rattle.planus.specs.Printed.{IsTextRequired, IsBytesField, IsTextVector, IsTableField};
+ghost use Rattle.planus.specs.Printed.{IsTableVector, plain_kind, text_kind, bytes_kind};
+ghost use Rattle.planus.specs.Printed.{table_kind, IsPlainField, IsPlainFieldOr, IsUnionField};
+ghost use Rattle.planus.specs.Printed.{IsUnionVector, ReadsVariants, plains, judged, texts};
+ghost use Rattle.planus.specs.Printed.{tables, optional, required, plain_if, plain_or, number_or};
+ghost use Rattle.planus.specs.Printed.{signed_or, union, unions};
 ghost use Rattle.harbour.specs.Fix.{fix_shape};
 ghost use Rattle.harbour.specs.Kind.{kind_shape};
 ghost use Rattle.harbour.specs.declared.kind.Kind.TheVariants as kind_value;
@@ -32,12 +32,11 @@ use crate::owner::{Owner, OwnerRef};
 use crate::pos::Pos;
 use planus::table_reader::Table;
 use planus::{
-    Builder, ByteList, List, Offset, OrDefault, Result, TableKind, TableRef, TableView,
-    TableWriter, Text, UnionOffset, UnionVector, Vector, bytes_field, create_table, fields,
-    plain_field, plain_field_or, plain_required, plain_vector, table_field, table_vector,
+    Builder, Built, ByteList, Create, List, Offset, OrDefault, Result, TableKind, TableRef,
+    TableView, TableWriter, Text, UnionOffset, UnionVector, Vector, bytes_field, create_table,
+    fields, plain_field, plain_field_or, plain_required, plain_vector, table_field, table_vector,
     text_required, text_vector, union_field, union_vector,
 };
-use planus_laws::{Built, Create};
 
 /// A ship in a harbour.
 pub struct Ship;

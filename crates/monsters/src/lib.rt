@@ -7,7 +7,7 @@ mod weapon;
 
 pub use equipment::{Equipment, EquipmentRef};
 pub use monster::{Monster, MonsterFields, MonsterRef};
-pub use planus_laws::Create;
+pub use planus::Create;
 pub use weapon::{Weapon, WeaponFields, WeaponRef};
 
 mod root;

@@ -4,9 +4,8 @@ ghost use Rattle.std.specs.Prelude.{◌∷◌, [], codes, pos, MatchOption, ⊤}
 ghost use Rattle.std.specs.Int.{w16};
 ghost use Rattle.planus.specs.Printed.{i16_shape, IsIn, AllIn, AllUnionsIn, IsTextRequired};
 ghost use Rattle.planus.specs.Printed.{IsBytesField, IsTableVector, text_kind, bytes_kind};
-ghost use Rattle.planus.specs.Printed.{IsPlainFieldOr, IsUnionField, IsUnionVector};
-ghost use Rattle.planus.specs.Printed.{ReadsVariants, tables, optional, required, signed_or};
-ghost use Rattle.planus.specs.Printed.{union, unions};
+ghost use Rattle.planus.specs.Printed.{IsPlainFieldOr, IsUnionField, IsUnionVector, ReadsVariants};
+ghost use Rattle.planus.specs.Printed.{tables, optional, required, signed_or, union, unions};
 ghost use Rattle.monsters.specs.Equipment.{equipment_variants};
 ghost use Rattle.monsters.specs.declared.equipment.Equipment.{Equipment};
 ghost use Rattle.monsters.specs.declared.equipment.EquipmentRef.{EquipmentRef};
@@ -16,11 +15,10 @@ use crate::equipment::{Equipment, EquipmentRef};
 use crate::weapon::Weapon;
 use planus::table_reader::Table;
 use planus::{
-    Builder, ByteList, List, Offset, OrDefault, Result, TableKind, TableRef, TableView,
-    TableWriter, Text, UnionOffset, UnionVector, Vector, bytes_field, create_table, fields,
-    plain_field_or, table_vector, text_required, union_field, union_vector,
+    Builder, Built, ByteList, Create, List, Offset, OrDefault, Result, TableKind, TableRef,
+    TableView, TableWriter, Text, UnionOffset, UnionVector, Vector, bytes_field, create_table,
+    fields, plain_field_or, table_vector, text_required, union_field, union_vector,
 };
-use planus_laws::{Built, Create};
 
 /// The kind of `Monster`, and of an offset to one.
 pub struct Monster;

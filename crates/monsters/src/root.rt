@@ -6,8 +6,7 @@ ghost use Rattle.monsters.specs.declared.monster.Monster.{Monster};
 
 use crate::monster::MonsterRef;
 use planus::errors::ErrorKind;
-use planus::read_root;
-use planus_laws::read_sized_root;
+use planus::{read_root, read_sized_root};
 
 /// Reads the root of a buffer.
 pub fn read_as_root(bytes: &[u8]) -> planus::Result<MonsterRef<'_>>

@@ -7,10 +7,9 @@ ghost use Rattle.planus.specs.Printed.{optional, signed_or};
 
 use planus::table_reader::Table;
 use planus::{
-    Builder, Offset, OrDefault, Result, TableKind, TableView, TableWriter, Text, create_table,
-    fields, plain_field_or, text_field,
+    Builder, Built, Create, Offset, OrDefault, Result, TableKind, TableView, TableWriter, Text,
+    create_table, fields, plain_field_or, text_field,
 };
-use planus_laws::{Built, Create};
 
 /// What a monster carries.
 pub struct Weapon;

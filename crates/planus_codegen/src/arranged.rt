@@ -1,6 +1,5 @@
 //! The layout of printed text: where its lines end.
 
-use crate::context::Context;
 use crate::printer::{ARGUMENT, BREAK, END, OWN, Printer};
 
 const COLUMNS: usize = 100;
@@ -184,18 +183,19 @@ impl<'a> Arrangement<'a> {
 }
 
 /// Returns printed text with its lines broken, and without marks.
-pub(crate) fn arranged<'a>(context: &'a Context<'a>, printed: &str) -> Printer<'a> {
+pub(crate) fn arranged<'a>(printed: &Printer<'a>) -> Printer<'a> {
     let mut out = Arrangement {
-        text: Printer::new(context),
-        word: Printer::new(context),
+        text: Printer::new(printed.context),
+        word: Printer::new(printed.context),
         column: 0,
         width: 0,
         apart: false,
         indent: 0,
         is_ghost: false,
     };
-    for line in printed.split_terminator('\n') {
+    for line in printed.as_str().split_terminator('\n') {
         out.put_line(line);
     }
+    out.text.fail_as(printed);
     out.text
 }

@@ -13,7 +13,6 @@ use crate::structs::{has_padding, print_padded, print_struct, print_struct_layou
 use crate::supported::refuse_unsupported;
 use crate::tables::print_table;
 use crate::unions::{print_union, print_variants};
-use crate::words::{Part, Words};
 use planus_layout::{Body, Declared, Schema};
 use planus_plan::Plan;
 use std::alloc::{AllocError, Global};
@@ -52,9 +51,8 @@ struct Files<'a> {
 
 impl<'a> Files<'a> {
     // The path is a template.
-    fn put(&mut self, path: &str, at: At, text: Printer<'_>) -> Result<(), AllocError> {
-        let text = text.finish()?;
-        let text = arranged(self.context, text.as_str()).finish()?;
+    fn put(&mut self, path: &str, at: At, text: &Printer<'a>) -> Result<(), AllocError> {
+        let text = arranged(text).finish()?;
         let mut name = Printer::new(self.context);
         name.put(path, at);
         let path = name.finish()?;
@@ -62,50 +60,30 @@ impl<'a> Files<'a> {
         Ok(())
     }
 
-    fn code_uses(&self, code: &Printer<'_>, own: usize) -> Result<Printer<'a>, AllocError> {
-        let mut uses = Printer::new(self.context);
-        let words = Words::of(self.context.alloc, code.as_str(), Part::Code)?;
-        uses.put_code_uses(&words, self.order, own);
-        Ok(uses)
-    }
-
-    fn clause_uses(&self, code: &Printer<'_>) -> Result<Printer<'a>, AllocError> {
-        let mut uses = Printer::new(self.context);
-        let words = Words::of(self.context.alloc, code.as_str(), Part::Clauses)?;
-        uses.put_clause_uses(&words, self.order);
-        Ok(uses)
-    }
-
     // `own` is the declaration whose types the file has.
-    fn code_file(
-        &self,
-        head: &str,
-        at: At,
-        own: usize,
-        code: &Printer<'_>,
-    ) -> Result<Printer<'a>, AllocError> {
+    fn code_file(&self, head: &str, at: At, own: usize, code: &Printer<'_>) -> Printer<'a> {
         let mut file = Printer::new(self.context);
         file.put(head, at);
         file.put_str("\n");
-        file.join(&self.clause_uses(code)?);
+        file.put_clause_uses(code.as_str(), self.order);
         file.put_str("\n");
-        file.join(&self.code_uses(code, own)?);
+        file.put_code_uses(code.as_str(), self.order, own);
         file.put_str("\n");
         file.join(code);
-        Ok(file)
+        file
     }
 
     fn put_code(&mut self, head: &str, at: At, code: &Printer<'_>) -> Result<(), AllocError> {
-        let file = self.code_file(head, at, at.index, code)?;
-        self.put("src/$M.rt", at, file)
+        let file = self.code_file(head, at, at.index, code);
+        self.put("src/$M.rt", at, &file)
     }
 
     fn put_root(&mut self, root: usize) -> Result<(), AllocError> {
         let at = At::declaration(root);
         let code = print_root(self.context, at);
         let none = self.context.declared.len();
-        let file = self.code_file("//! The root of a buffer.\n", at, none, &code)?;
-        self.put("src/root.rt", at, file)
+        let file = self.code_file("//! The root of a buffer.\n", at, none, &code);
+        self.put("src/root.rt", at, &file)
     }
 
     fn put_definitions(
@@ -116,11 +94,10 @@ impl<'a> Files<'a> {
     ) -> Result<(), AllocError> {
         let mut file = Printer::new(self.context);
         file.put(head, at);
-        let words = Words::of(self.context.alloc, text.as_str(), Part::Definitions)?;
-        file.put_definition_uses(&words, self.order, at.index);
+        file.put_definition_uses(text.as_str(), self.order, at.index);
         file.put_str("\n");
         file.join(text);
-        self.put("specs/$T.antt", at, file)
+        self.put("specs/$T.antt", at, &file)
     }
 
     fn put_declared(&mut self, at: At, declared: &Declared) -> Result<(), AllocError> {
@@ -139,7 +116,7 @@ impl<'a> Files<'a> {
                 )?;
                 if has_padding(one) {
                     let proof = print_padded(context, at);
-                    self.put("proofs/$M/$TPlain/put/Answers.antt", at, proof)?;
+                    self.put("proofs/$M/$TPlain/put/Answers.antt", at, &proof)?;
                 }
                 let layout = print_struct_layout(context, at);
                 self.put_definitions("-- The layout of `$T`.\n", at, &layout)
@@ -214,7 +191,7 @@ impl<'a> Files<'a> {
             text.put("//! Namespace `$O`.\n", at);
             let namespace = context.names.namespace(index);
             self.put_namespace(&mut text, namespace, "pub use crate::$M::");
-            self.put("src$W.rt", at, text)?;
+            self.put("src$W.rt", at, &text)?;
         }
         Ok(())
     }
@@ -235,7 +212,7 @@ impl<'a> Files<'a> {
         if let Some(identifier) = context.identifier {
             text.put_identifier(identifier);
         }
-        self.put("src/lib.rt", At::declaration(0), text)
+        self.put("src/lib.rt", At::declaration(0), &text)
     }
 
     fn put_definition_list(&mut self) -> Result<(), AllocError> {
@@ -245,7 +222,19 @@ impl<'a> Files<'a> {
                 text.put("pub mod $T\n", At::declaration(index));
             }
         }
-        self.put("specs/Lib.antt", At::declaration(0), text)
+        self.put("specs/Lib.antt", At::declaration(0), &text)
+    }
+
+    fn put_all(&mut self) -> Result<(), AllocError> {
+        for (index, declared) in self.context.declared.iter().enumerate() {
+            self.put_declared(At::declaration(index), declared)?;
+        }
+        if let Some(root) = self.context.root {
+            self.put_root(root)?;
+        }
+        self.put_namespaces()?;
+        self.put_library()?;
+        self.put_definition_list()
     }
 }
 
@@ -276,15 +265,7 @@ fn files_of(context: &Context<'_>) -> Result<Vec<PrintedFile>, AllocError> {
         modules: &modules,
         files: Vec::new(context.alloc),
     };
-    for (index, declared) in context.declared.iter().enumerate() {
-        files.put_declared(At::declaration(index), declared)?;
-    }
-    if let Some(root) = context.root {
-        files.put_root(root)?;
-    }
-    files.put_namespaces()?;
-    files.put_library()?;
-    files.put_definition_list()?;
+    files.put_all()?;
     Ok(files.files)
 }
 

@@ -2,7 +2,7 @@
 
 use crate::at::At;
 use crate::printer::Printer;
-use crate::words::Words;
+use crate::words::{Part, Words};
 
 /// The words that clauses and definitions may need, by their modules: of the library those that
 /// `Printed` passes on.
@@ -136,30 +136,45 @@ impl<'a> Printer<'a> {
         }
     }
 
-    pub(crate) fn put_clause_uses(&mut self, words: &Words<'_>, order: &[usize]) {
-        let imports = Imports {
-            words,
-            start: "ghost use",
-            end: ";\n",
-            own: None,
-        };
+    fn put_all(&mut self, imports: Imports<'_>, order: &[usize]) {
         self.put_words(imports);
+        if imports.own.is_some() {
+            self.put_row(imports, OF_PROOFS, PROOF_WORDS);
+        }
         for index in order {
             self.put_owns(imports, *index);
         }
     }
 
-    pub(crate) fn put_definition_uses(&mut self, words: &Words<'_>, order: &[usize], own: usize) {
-        let imports = Imports {
-            words,
-            start: "use",
-            end: "\n",
-            own: Some(own),
-        };
-        self.put_words(imports);
-        self.put_row(imports, OF_PROOFS, PROOF_WORDS);
-        for index in order {
-            self.put_owns(imports, *index);
+    /// Adds the imports of the clauses of code.
+    pub(crate) fn put_clause_uses(&mut self, code: &str, order: &[usize]) {
+        match Words::of(self.context.alloc, code, Part::Clauses) {
+            Ok(words) => self.put_all(
+                Imports {
+                    words: &words,
+                    start: "ghost use",
+                    end: ";\n",
+                    own: None,
+                },
+                order,
+            ),
+            Err(_) => self.fail(),
+        }
+    }
+
+    /// Adds the imports of the definitions of a declaration.
+    pub(crate) fn put_definition_uses(&mut self, text: &str, order: &[usize], own: usize) {
+        match Words::of(self.context.alloc, text, Part::Definitions) {
+            Ok(words) => self.put_all(
+                Imports {
+                    words: &words,
+                    start: "use",
+                    end: "\n",
+                    own: Some(own),
+                },
+                order,
+            ),
+            Err(_) => self.fail(),
         }
     }
 }

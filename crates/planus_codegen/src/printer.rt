@@ -150,6 +150,14 @@ impl<'a> Printer<'a> {
 
     pub(crate) fn join(&mut self, other: &Printer<'_>) {
         self.put_str(other.text.as_str());
+        self.fail_as(other);
+    }
+
+    pub(crate) fn fail(&mut self) {
+        self.failed = true;
+    }
+
+    pub(crate) fn fail_as(&mut self, other: &Printer<'_>) {
         self.failed = self.failed || other.failed;
     }
 

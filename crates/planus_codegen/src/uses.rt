@@ -3,7 +3,7 @@
 use crate::at::At;
 use crate::context::Context;
 use crate::printer::Printer;
-use crate::words::Words;
+use crate::words::{Part, Words};
 use planus_layout::Body;
 
 /// The names of `planus` that code may need.
@@ -59,20 +59,22 @@ impl<'a> Printer<'a> {
         }
     }
 
-    // Adds an import of a list of names.
-    fn put_use(&mut self, path: &Printer<'_>, names: &Printer<'_>) {
+    // Adds an import of a list of names. The path is a template.
+    fn put_use(&mut self, path: &str, at: At, names: &Printer<'_>) {
         let width = names.columns();
         if width == 0 {
             return;
         }
-        let whole = path.columns().saturating_add(width).saturating_add(3);
+        let before = self.columns();
+        self.put(path, at);
+        let columns = self.columns().saturating_sub(before);
+        let whole = columns.saturating_add(width).saturating_add(3);
         let several = names.as_str().contains(',');
         let (start, end) = match (several, whole <= COLUMNS) {
             (false, _) => ("", ";\n"),
             (true, true) => ("{", "};\n"),
             (true, false) => ("{\n    ", ",\n};\n"),
         };
-        self.join(path);
         self.put_str(start);
         self.join(names);
         self.put_str(end);
@@ -85,9 +87,7 @@ impl<'a> Printer<'a> {
         if let Some(body) = context.body(index) {
             names.list_types(at, body, Some(words));
         }
-        let mut path = Printer::new(context);
-        path.put("use crate::$M::", at);
-        self.put_use(&path, &names);
+        self.put_use("use crate::$M::", at, &names);
     }
 
     fn put_planus_uses(&mut self, words: &Words<'_>) {
@@ -105,12 +105,10 @@ impl<'a> Printer<'a> {
                 names.put_str(name);
             }
         }
-        let mut path = Printer::new(self.context);
-        path.put_str("use planus::");
-        self.put_use(&path, &names);
+        self.put_use("use planus::", At::declaration(0), &names);
     }
 
-    pub(crate) fn put_code_uses(&mut self, words: &Words<'_>, order: &[usize], own: usize) {
+    fn put_uses_of(&mut self, words: &Words<'_>, order: &[usize], own: usize) {
         if words.has(&[], "FILE_IDENTIFIER") {
             self.put_str("use crate::FILE_IDENTIFIER;\n");
         }
@@ -122,14 +120,20 @@ impl<'a> Printer<'a> {
         self.put_planus_uses(words);
     }
 
+    /// Adds the imports of code. `own` is the declaration whose types the file has.
+    pub(crate) fn put_code_uses(&mut self, code: &str, order: &[usize], own: usize) {
+        match Words::of(self.context.alloc, code, Part::Code) {
+            Ok(words) => self.put_uses_of(&words, order, own),
+            Err(_) => self.fail(),
+        }
+    }
+
     /// Adds what a module passes on of a declaration.
     pub(crate) fn put_passed_on(&mut self, template: &str, index: usize, body: &Body) {
         let at = At::declaration(index);
         let mut names = Printer::new(self.context);
         names.list_types(at, body, None);
-        let mut path = Printer::new(self.context);
-        path.put(template, at);
-        self.put_use(&path, &names);
+        self.put_use(template, at, &names);
     }
 
     /// Adds the file identifier.

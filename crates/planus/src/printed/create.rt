@@ -8,7 +8,7 @@ ghost use Rattle.planus.specs.FieldLines.{FieldLine, ReadsBack, contents_of};
 
 use crate::printed::finished::finish_and_read;
 use crate::tables::{TableKind, TableView};
-use planus_read::Error;
+use planus_read::located::Error;
 use planus_write::{BuildError, Builder, Offset};
 
 /// The offset of a table that was written, or the error of its write.

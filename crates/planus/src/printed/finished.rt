@@ -6,7 +6,7 @@ ghost use Rattle.planus.specs.FieldLines.{RootIsRead};
 
 use crate::laws;
 use crate::tables::{TableView, read_root};
-use planus_read::Error;
+use planus_read::located::Error;
 use planus_write::{BuildError, Builder, Offset};
 
 /// Finishes a buffer with this root, and reads the root. The read never fails: the view has all
