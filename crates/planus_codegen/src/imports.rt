@@ -136,11 +136,14 @@ impl<'a> Printer<'a> {
         }
     }
 
-    fn put_all(&mut self, imports: Imports<'_>, order: &[usize]) {
+    fn put_clause_words(&mut self, words: &Words<'_>, order: &[usize]) {
+        let imports = Imports {
+            words,
+            start: "ghost use",
+            end: ";\n",
+            own: None,
+        };
         self.put_words(imports);
-        if imports.own.is_some() {
-            self.put_row(imports, OF_PROOFS, PROOF_WORDS);
-        }
         for index in order {
             self.put_owns(imports, *index);
         }
@@ -149,31 +152,29 @@ impl<'a> Printer<'a> {
     /// Adds the imports of the clauses of code.
     pub(crate) fn put_clause_uses(&mut self, code: &str, order: &[usize]) {
         match Words::of(self.context.alloc, code, Part::Clauses) {
-            Ok(words) => self.put_all(
-                Imports {
-                    words: &words,
-                    start: "ghost use",
-                    end: ";\n",
-                    own: None,
-                },
-                order,
-            ),
+            Ok(words) => self.put_clause_words(&words, order),
             Err(_) => self.fail(),
+        }
+    }
+
+    fn put_definition_words(&mut self, words: &Words<'_>, order: &[usize], own: usize) {
+        let imports = Imports {
+            words,
+            start: "use",
+            end: "\n",
+            own: Some(own),
+        };
+        self.put_words(imports);
+        self.put_row(imports, OF_PROOFS, PROOF_WORDS);
+        for index in order {
+            self.put_owns(imports, *index);
         }
     }
 
     /// Adds the imports of the definitions of a declaration.
     pub(crate) fn put_definition_uses(&mut self, text: &str, order: &[usize], own: usize) {
         match Words::of(self.context.alloc, text, Part::Definitions) {
-            Ok(words) => self.put_all(
-                Imports {
-                    words: &words,
-                    start: "use",
-                    end: "\n",
-                    own: Some(own),
-                },
-                order,
-            ),
+            Ok(words) => self.put_definition_words(&words, order, own),
             Err(_) => self.fail(),
         }
     }
