@@ -2,7 +2,7 @@
 
 use crate::groups::{are_taken, entries_of};
 use crate::refusal::Refusal;
-use planus_layout::{Body, Declared, Enum, Scalar, Table, TableField, Value};
+use planus_layout::{Body, Declared, Enum, Table, TableField, Value};
 use planus_plan::Plan;
 use std::alloc::{AllocError, Global};
 
@@ -43,25 +43,12 @@ fn has_too_many_fields(
     }
 }
 
-/// How many values of an enum the checker takes: fewer where their numbers are wide or signed.
-fn most_values(scalar: Scalar) -> usize {
-    match scalar {
-        Scalar::UByte => 40,
-        Scalar::Byte | Scalar::Short => 16,
-        Scalar::Long => 12,
-        _ => 17,
-    }
-}
-
 fn unsupported_enum(one: &Enum) -> Option<&'static str> {
     if one.scalar.is_bool() {
         return Some("an enum of bool");
     }
     if one.flags {
         return None;
-    }
-    if one.values.len() > most_values(one.scalar) {
-        return Some("an enum with more values than the checker takes");
     }
     for value in &one.values {
         if value.number.magnitude > GREATEST_NUMBER && !value.number.negative {
