@@ -2,7 +2,7 @@
 
 use crate::groups::{are_taken, entries_of};
 use crate::refusal::Refusal;
-use planus_layout::{Body, Declared, Enum, Table, TableField, Value};
+use planus_layout::{Body, Declared, Enum, Table, TableField, Union, Value};
 use planus_plan::Plan;
 use std::alloc::{AllocError, Global};
 
@@ -10,6 +10,10 @@ const TOO_MANY_FIELDS: &str = "a table with more fields than the checker takes";
 
 /// The greatest number of a variant in code.
 const GREATEST_NUMBER: u64 = 9_223_372_036_854_775_807;
+
+/// The most members of a union: the borrow checker covers the first 128 variants of an enum that
+/// has references.
+const MOST_MEMBERS: usize = 128;
 
 fn unsupported_field(field: &TableField) -> Option<&'static str> {
     match &field.default {
@@ -58,11 +62,19 @@ fn unsupported_enum(one: &Enum) -> Option<&'static str> {
     None
 }
 
+fn unsupported_union(one: &Union) -> Option<&'static str> {
+    if one.members.len() > MOST_MEMBERS {
+        return Some("a union of more than 128 members");
+    }
+    None
+}
+
 fn unsupported(body: &Body) -> Option<&'static str> {
     match body {
         Body::Table(one) => unsupported_table(one),
         Body::Enum(one) => unsupported_enum(one),
-        Body::Struct(_) | Body::Union(_) => None,
+        Body::Union(one) => unsupported_union(one),
+        Body::Struct(_) => None,
     }
 }
 
