@@ -1,8 +1,8 @@
 -- The words of clauses and definitions of printed code, passed on from where they are defined.
 pub use Rattle.planus_read.specs.declared.table_reader.Table.{Table}
 pub use Rattle.planus_read.specs.Bytes.{BytesStand}
-pub use Rattle.planus_read.specs.Enums.{Numbered, u8_enum, u16_enum, u32_enum, u64_enum, i8_enum}
-pub use Rattle.planus_read.specs.Enums.{i16_enum, i32_enum, i64_enum}
+pub use Rattle.planus_read.specs.Enums.{Numbered, variant_in, u8_enum, u16_enum, u32_enum}
+pub use Rattle.planus_read.specs.Enums.{u64_enum, i8_enum, i16_enum, i32_enum, i64_enum}
 pub use Rattle.planus_read.specs.Plain.{Shape}
 pub use Rattle.planus_read.specs.Shapes.{u8_shape, u16_shape, u32_shape, u64_shape, i8_shape}
 pub use Rattle.planus_read.specs.Shapes.{i16_shape, i32_shape, i64_shape, bool_shape, f32_shape}

@@ -3,7 +3,10 @@
 use crate::arranged::arranged;
 use crate::at::At;
 use crate::context::Context;
-use crate::enums::{print_enum, print_flags, print_flags_layout, print_numbers};
+use crate::enums::{
+    has_many_values, print_enum, print_flags, print_flags_layout, print_number_proofs,
+    print_numbers,
+};
 use crate::names::namespace_around;
 use crate::order::{keys_of, sort_by_key};
 use crate::printer::Printer;
@@ -126,9 +129,15 @@ impl<'a> Files<'a> {
                 let layout = print_flags_layout(context, at);
                 self.put_definitions("-- The layout of `$T`.\n", at, &layout)
             }
-            Body::Enum(_) => {
-                self.put_code("//! Enum `$T`.\n", at, &print_enum(context, at, declared))?;
-                self.put_definitions("-- The numbers of `$T`.\n", at, &print_numbers(context, at))
+            Body::Enum(one) => {
+                let code = print_enum(context, at, declared, one);
+                self.put_code("//! Enum `$T`.\n", at, &code)?;
+                if has_many_values(one) {
+                    let proofs = print_number_proofs(context, at);
+                    self.put("proofs/$M/$T/number/Answers.antt", at, &proofs)?;
+                }
+                let numbers = print_numbers(context, at, one);
+                self.put_definitions("-- The numbers of `$T`.\n", at, &numbers)
             }
             Body::Union(one) => {
                 self.put_code(

@@ -4,7 +4,10 @@ use crate::at::At;
 use crate::context::Context;
 use crate::printer::Printer;
 use crate::structs::{LAYOUT, READ, STRIDE, TOTAL};
-use planus_layout::Declared;
+use planus_layout::{Declared, Enum, Scalar};
+
+/// The values of an enum of many that one function looks for.
+const GROUP: usize = 10;
 
 const ENUM: &str = "\
 #[derive(Clone, Copy, Debug, PartialEq)]
@@ -26,6 +29,54 @@ const NUMBERS: &str = "\
 ~[]
 
 abbrev pub $M_is : (x : $T) → Numbered $q $M_values x
+";
+
+const READ_FOUND: &str = "        let number = <$b as Plain>::read(buffer, offset)?;
+        match from_0(number) {
+            Some(value) => Ok(value),
+            None => Err(ErrorKind::UnknownEnumTag {
+                source: UnknownEnumTagKind {
+                    tag: number as i128,
+                },
+            }),
+        }
+";
+
+const FINDER: &str = "
+#[tactic(auto, unfolding(crate::specs::$T::from_$p))]
+fn from_$p(number: $b) -> Option<$T>
+    ensures {~result ≡~variant_in $q $M_numbers.from_$p number }
+{
+    match number {
+";
+
+const NEXT: &str = "        _ => from_$p(number),
+    }
+}
+";
+
+const NUMBERS_FROM: &str = "\
+unfoldable pub from_$p : List ($j × $T)
+from_$p =";
+
+const FOUND: &str = "
+pub $M_found : (x : $T) →~variant_in $q from_0 ($M_number x) ≡ Some x
+unfolding";
+
+const FOUND_IS: &str = "
+abbrev pub $M_is : (x : $T) → Numbered $q from_0 x
+$M_is x = record { number = $M_number x; found = $M_found x }
+";
+
+/// The proof of each arm of `number`.
+const ARM_PROOF: &str = "
+pub returns-in-$n :~goal.returns-in-$n
+returns-in-$n c =~rw c.in-$n.is refl
+";
+
+const PROOF_HEAD: &str = "\
+use Rattle.std.proofs.Common.{refl}
+use Rattle.$c.proofs.$M.$T.number.Goals as goal
 ";
 
 const ENUM_SHAPE: &str = "
@@ -70,7 +121,28 @@ $M_shape = struct_shape (field (λ x. x.bits) $b_shape no_more)
     (struct_layout $P 1 (lit≤ tt) (lit< tt)) (λ v. record { bits = v.0 }) (λ x. refl)
 ";
 
-pub(crate) fn print_enum<'a>(context: &'a Context<'a>, at: At, declared: &Declared) -> Printer<'a> {
+/// How many values of an enum the checker takes in one list: fewer where their numbers are wide or
+/// signed.
+fn most_values(scalar: Scalar) -> usize {
+    match scalar {
+        Scalar::UByte => 40,
+        Scalar::Byte | Scalar::Short => 16,
+        Scalar::Long => 12,
+        _ => 17,
+    }
+}
+
+/// Whether an enum's values are more than the checker takes in one list.
+pub(crate) fn has_many_values(one: &Enum) -> bool {
+    one.values.len() > most_values(one.scalar)
+}
+
+pub(crate) fn print_enum<'a>(
+    context: &'a Context<'a>,
+    at: At,
+    declared: &Declared,
+    one: &Enum,
+) -> Printer<'a> {
     let mut printer = Printer::new(context);
     printer.put_docs("", &declared.docs, "/// One of some values.\n", at);
     printer.put(ENUM, at);
@@ -81,14 +153,84 @@ pub(crate) fn print_enum<'a>(context: &'a Context<'a>, at: At, declared: &Declar
     printer.put(LAYOUT, at);
     printer.put("        self.number().put(bytes);\n", at);
     printer.put(READ, at);
-    printer.put("        read_variant!($b, buffer, offset;~", at);
-    printer.put_each("$T::$n", ",~", at);
-    printer.put(")\n", at);
+    if has_many_values(one) {
+        printer.put(READ_FOUND, at);
+    } else {
+        printer.put("        read_variant!($b, buffer, offset;~", at);
+        printer.put_each("$T::$n", ",~", at);
+        printer.put(")\n", at);
+    }
     printer.put(STRIDE, at);
+    if has_many_values(one) {
+        put_finders(&mut printer, at);
+    }
     printer
 }
 
-pub(crate) fn print_numbers<'a>(context: &'a Context<'a>, at: At) -> Printer<'a> {
+// Each function looks for some values, and then calls the next.
+fn put_finders(printer: &mut Printer<'_>, at: At) {
+    for place in 0..printer.context.names.count(at.index) {
+        let at = at.member(place);
+        if place % GROUP == 0 {
+            printer.put(if place > 0 { NEXT } else { "" }, at);
+            printer.put(FINDER, at);
+        }
+        printer.put("        $i => Some($T::$n),\n", at);
+    }
+    printer.put("        _ => None,\n    }\n}\n", at);
+}
+
+// Adds a list of some values and those of the next list.
+fn put_numbers_from(printer: &mut Printer<'_>, at: At) {
+    let count = printer.context.names.count(at.index);
+    let end = at.place.saturating_add(GROUP);
+    printer.put(NUMBERS_FROM, at);
+    for place in at.place..end.min(count) {
+        printer.put("~($k, $M_value.$n) ∷", at.member(place));
+    }
+    printer.put(
+        if end < count {
+            "~from_$p\n\n"
+        } else {
+            "~[]\n\n"
+        },
+        at.member(end),
+    );
+}
+
+fn print_many_numbers<'a>(context: &'a Context<'a>, at: At) -> Printer<'a> {
+    let mut printer = Printer::new(context);
+    let groups = context.names.count(at.index).div_ceil(GROUP);
+    printer.put("-- its variants by their numbers, from some on\n", at);
+    for group in 0..groups {
+        let left = groups.saturating_sub(group).saturating_sub(1);
+        put_numbers_from(&mut printer, at.member(left.saturating_mul(GROUP)));
+    }
+    printer.put("abbrev pub $M_number : $T → $j\n", at);
+    printer.put_each("$M_number $M_value.$n = $k\n", "", at);
+    printer.put(FOUND, at);
+    for group in 0..groups {
+        printer.put("~from_$p", at.member(group.saturating_mul(GROUP)));
+    }
+    printer.put("\n", at);
+    printer.put_each("$M_found $M_value.$n = refl\n", "", at);
+    printer.put(FOUND_IS, at);
+    printer.put(ENUM_SHAPE, at);
+    printer
+}
+
+/// Returns the proofs of `number`, where there are many values.
+pub(crate) fn print_number_proofs<'a>(context: &'a Context<'a>, at: At) -> Printer<'a> {
+    let mut printer = Printer::new(context);
+    printer.put(PROOF_HEAD, at);
+    printer.put_each(ARM_PROOF, "", at);
+    printer
+}
+
+pub(crate) fn print_numbers<'a>(context: &'a Context<'a>, at: At, one: &Enum) -> Printer<'a> {
+    if has_many_values(one) {
+        return print_many_numbers(context, at);
+    }
     let mut printer = Printer::new(context);
     printer.put(
         "-- its variants by their numbers\nabbrev pub $M_values : List ($j × $T)\n",

@@ -14,7 +14,7 @@ const KNOWN_TYPES: &str =
      FieldAt FieldLine Float Lib Lines8 List None Numbered Offset Ok Option OrDefault PartialEq \
      Plain PlainField PlainTotal Result Shape SliceWithStartOffset Some Stride String Table \
      TableKind TableReadUnion TableView TableWriter Text Type UnionOffset UnionVariant \
-     UnionVector Unit Vec Vector VectorReadUnion";
+     UnionVector Unit UnknownEnumTagKind Vec Vector VectorReadUnion";
 
 /// What a crate has beside its modules.
 const KNOWN_MODULES: &str = "finish_root finish_root_size_prefixed has_identifier lib read_as_root \

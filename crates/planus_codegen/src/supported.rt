@@ -2,7 +2,7 @@
 
 use crate::groups::{are_taken, entries_of};
 use crate::refusal::Refusal;
-use planus_layout::{Body, Declared, Enum, Scalar, Table, TableField, Value};
+use planus_layout::{Body, Declared, Enum, Table, TableField, Union, Value};
 use planus_plan::Plan;
 use std::alloc::{AllocError, Global};
 
@@ -10,6 +10,10 @@ const TOO_MANY_FIELDS: &str = "a table with more fields than the checker takes";
 
 /// The greatest number of a variant in code.
 const GREATEST_NUMBER: u64 = 9_223_372_036_854_775_807;
+
+/// The most members of a union: the borrow checker covers the first 128 variants of an enum that
+/// has references.
+const MOST_MEMBERS: usize = 128;
 
 fn unsupported_field(field: &TableField) -> Option<&'static str> {
     match &field.default {
@@ -43,25 +47,12 @@ fn has_too_many_fields(
     }
 }
 
-/// How many values of an enum the checker takes: fewer where their numbers are wide or signed.
-fn most_values(scalar: Scalar) -> usize {
-    match scalar {
-        Scalar::UByte => 40,
-        Scalar::Byte | Scalar::Short => 16,
-        Scalar::Long => 12,
-        _ => 17,
-    }
-}
-
 fn unsupported_enum(one: &Enum) -> Option<&'static str> {
     if one.scalar.is_bool() {
         return Some("an enum of bool");
     }
     if one.flags {
         return None;
-    }
-    if one.values.len() > most_values(one.scalar) {
-        return Some("an enum with more values than the checker takes");
     }
     for value in &one.values {
         if value.number.magnitude > GREATEST_NUMBER && !value.number.negative {
@@ -71,11 +62,19 @@ fn unsupported_enum(one: &Enum) -> Option<&'static str> {
     None
 }
 
+fn unsupported_union(one: &Union) -> Option<&'static str> {
+    if one.members.len() > MOST_MEMBERS {
+        return Some("a union of more than 128 members");
+    }
+    None
+}
+
 fn unsupported(body: &Body) -> Option<&'static str> {
     match body {
         Body::Table(one) => unsupported_table(one),
         Body::Enum(one) => unsupported_enum(one),
-        Body::Struct(_) | Body::Union(_) => None,
+        Body::Union(one) => unsupported_union(one),
+        Body::Struct(_) => None,
     }
 }
 

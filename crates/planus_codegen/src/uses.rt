@@ -92,7 +92,9 @@ impl<'a> Printer<'a> {
 
     fn put_planus_uses(&mut self, words: &Words<'_>) {
         let has_kind = words.has(&[], "ErrorKind");
-        if has_kind {
+        if words.has(&[], "UnknownEnumTagKind") {
+            self.put_str("use planus::errors::{ErrorKind, UnknownEnumTagKind};\n");
+        } else if has_kind {
             self.put_str("use planus::errors::ErrorKind;\n");
         }
         if words.has(&[], "Table") {
