@@ -78,20 +78,18 @@ fn unsupported(body: &Body) -> Option<&'static str> {
     }
 }
 
-fn refuse(alloc: Global, what: &'static str, one: &Declared) -> Refusal {
-    match Vec::from_slice(alloc, &one.name) {
-        Ok(name) => Refusal::Unsupported { what, name },
-        Err(error) => Refusal::from(error),
-    }
+fn refuse(alloc: Global, what: &'static str, one: &Declared) -> Result<(), Refusal> {
+    let name = Vec::from_slice(alloc, &one.name)?;
+    Err(Refusal::Unsupported { what, name })
 }
 
 pub(crate) fn refuse_unsupported(alloc: Global, declared: &[Declared]) -> Result<(), Refusal> {
     for (index, one) in declared.iter().enumerate() {
         if let Some(what) = unsupported(&one.body) {
-            return Err(refuse(alloc, what, one));
+            return refuse(alloc, what, one);
         }
         if has_too_many_fields(alloc, declared, index, &one.body)? {
-            return Err(refuse(alloc, TOO_MANY_FIELDS, one));
+            return refuse(alloc, TOO_MANY_FIELDS, one);
         }
     }
     Ok(())
