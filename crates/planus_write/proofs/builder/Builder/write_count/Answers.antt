@@ -6,7 +6,7 @@ use Rattle.planus_write.specs.inner.Backed.{PutsBytes}
 use Rattle.planus_write.specs.Placing.{PlacesEntry, Refuses}
 use Rattle.planus_write.specs.View.{state_of}
 use Rattle.planus_write.proofs.PlacedParts.{part_put, unshared_refused, still_sound, left_sound}
-use Rattle.planus_write.proofs.builder.lists.Builder.write_count.Goals as goal
+use Rattle.planus_write.proofs.builder.Builder.write_count.Goals as goal
 
 put : (c : goal.After-put) → PlacesEntry (unshared_entry (count_part c.args.count)) [] (state_of c.self.inside) c.in_ok-place.place (state_of (record c.self.inside { backing = c.put.new.self }))
 put c =

@@ -13,7 +13,7 @@ use Rattle.planus_write.proofs.ContentsInFront.{text_in_front}
 use Rattle.planus_write.specs.lemmas.KeptContents.{new_texts}
 use Rattle.planus_write.proofs.PlannedRoom.{makes_room}
 use Rattle.planus_write.proofs.PlacedParts.{begun, found_again, not_begun, new_bytes, still_sound, left_sound}
-use Rattle.planus_write.proofs.builder.texts.Builder.write_text_if.Goals as goal
+use Rattle.planus_write.proofs.builder.Builder.write_text_if.Goals as goal
 
 pub find_or_plan-requires-clause-power : goal.find_or_plan-requires-clause-power
 find_or_plan-requires-clause-power c = (2, refl)

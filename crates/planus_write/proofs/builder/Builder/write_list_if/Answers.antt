@@ -13,8 +13,8 @@ use Rattle.planus_write.proofs.ContentsInFront.{list_in_front}
 use Rattle.planus_write.specs.lemmas.KeptContents.{new_byte_lists}
 use Rattle.planus_write.proofs.PlannedRoom.{makes_room}
 use Rattle.planus_write.proofs.PlacedParts.{begun, found_again, not_begun, new_bytes, still_sound, left_sound}
-use Rattle.planus_write.proofs.builder.byte_lists.Builder.write_list_if.Given as given
-use Rattle.planus_write.proofs.builder.byte_lists.Builder.write_list_if.Goals as goal
+use Rattle.planus_write.proofs.builder.Builder.write_list_if.Given as given
+use Rattle.planus_write.proofs.builder.Builder.write_list_if.Goals as goal
 
 pub find_or_plan-requires-clause-power : goal.find_or_plan-requires-clause-power
 find_or_plan-requires-clause-power g c = (2, refl)

@@ -8,7 +8,7 @@ use Rattle.planus_write.specs.Placing.{Refuses}
 use Rattle.planus_write.specs.View.{state_of}
 use Rattle.planus_write.specs.lemmas.PartBytes.{front_number}
 use Rattle.planus_write.proofs.PlacedParts.{front_refused, sized_finishes, still_sound, left_sound}
-use Rattle.planus_write.proofs.builder.finishes.Builder.write_sized_root.Goals as goal
+use Rattle.planus_write.proofs.builder.Builder.write_sized_root.Goals as goal
 
 finish : (c : goal.After-put_three) → PutsInFront (sized_finish_entry c.args.root c.args.identifier) (state_of c.self.inside) c.in_ok-place.place (state_of (record c.self.inside { backing = c.put_three.new.self }))
 finish c =

@@ -4,8 +4,8 @@ use Rattle.planus_write.specs.Parts.{filled_part}
 use Rattle.planus_write.specs.View.{state_of}
 use Rattle.planus_write.specs.inner.WholeTables.{PutsTableIf}
 use Rattle.planus_write.proofs.WholeTables.{puts_table_if, table_sound}
-use Rattle.planus_write.proofs.builder.tables.Builder.put_table.Given as given
-use Rattle.planus_write.proofs.builder.tables.Builder.put_table.Goals as goal
+use Rattle.planus_write.proofs.builder.Builder.put_table.Given as given
+use Rattle.planus_write.proofs.builder.Builder.put_table.Goals as goal
 
 abbrev body : (g : given.Over) → goal.After-put_table g → Part
 body g c = filled_part c.args.size (c.args.mask + 1) (g.W.Overwrite.encoding c.args.writer.now)

@@ -12,7 +12,7 @@ use Rattle.planus_write.proofs.ContentsInFront.{vtable_in_front}
 use Rattle.planus_write.specs.lemmas.KeptTables.{new_vtables}
 use Rattle.planus_write.proofs.PlannedRoom.{makes_room}
 use Rattle.planus_write.proofs.PlacedParts.{begun, found_again, not_begun, new_bytes, still_sound, left_sound}
-use Rattle.planus_write.proofs.builder.tables.Builder.write_vtable_once.Goals as goal
+use Rattle.planus_write.proofs.builder.Builder.write_vtable_once.Goals as goal
 
 pub find_or_plan-requires-clause-fits : goal.find_or_plan-requires-clause-fits
 find_or_plan-requires-clause-fits c = (c.self.invariant.1.cached vtables).fits
