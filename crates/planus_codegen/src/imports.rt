@@ -17,7 +17,7 @@ const WORDS: [(&str, &str); 5] = [
     ("std.specs.Ordering", "int_eq"),
     (
         "planus_laws.specs.Printed",
-        "Table BytesStand Numbered variant_in u8_enum u16_enum u32_enum u64_enum i8_enum i16_enum i32_enum \
+        "Table BytesStand slice_bytes slice_start Numbered variant_in u8_enum u16_enum u32_enum u64_enum i8_enum i16_enum i32_enum \
          i64_enum Shape u8_shape u16_shape u32_shape u64_shape i8_shape i16_shape i32_shape \
          i64_shape bool_shape f32_shape f64_shape IsPrefixed field force_align no_more \
          struct_layout struct_shape FinishGives SizedFinishGives EndsAs FinishLeaves \
@@ -40,8 +40,9 @@ const PROOF_WORDS: &str = "refl lit≤ lit<";
 const NAME_COLUMNS: usize = 80;
 
 /// What follows a module's name in the name of a definition, and its import.
-const OWN_DEFINITIONS: [(&str, &str); 6] = [
+const OWN_DEFINITIONS: [(&str, &str); 7] = [
     ("_variants", " Rattle.$c.specs.$T.{$M_variants}"),
+    ("_tags", " Rattle.$c.specs.$T as $M_tags"),
     ("_is", " Rattle.$c.specs.$T.{$M_is}"),
     ("_numbers", " Rattle.$c.specs.$T as $M_numbers"),
     ("_shape", " Rattle.$c.specs.$T.{$M_shape}"),

@@ -3,6 +3,7 @@ pub use Rattle.planus.specs.read.declared.table_reader.Table.{Table}
 pub use Rattle.planus.specs.read.Bytes.{BytesStand}
 pub use Rattle.planus.specs.read.Enums.{Numbered, variant_in, u8_enum, u16_enum, u32_enum, u64_enum}
 pub use Rattle.planus.specs.read.Enums.{i8_enum, i16_enum, i32_enum, i64_enum}
+pub use Rattle.planus.specs.read.Pieces.{slice_bytes, slice_start}
 pub use Rattle.planus.specs.read.Plain.{Shape}
 pub use Rattle.planus.specs.read.Shapes.{u8_shape, u16_shape, u32_shape, u64_shape, i8_shape}
 pub use Rattle.planus.specs.read.Shapes.{i16_shape, i32_shape, i64_shape, bool_shape, f32_shape}
