@@ -3,6 +3,7 @@ pub use Rattle.planus_read.specs.declared.table_reader.Table.{Table}
 pub use Rattle.planus_read.specs.Bytes.{BytesStand}
 pub use Rattle.planus_read.specs.Enums.{Numbered, variant_in, u8_enum, u16_enum, u32_enum}
 pub use Rattle.planus_read.specs.Enums.{u64_enum, i8_enum, i16_enum, i32_enum, i64_enum}
+pub use Rattle.planus_read.specs.Slices.{slice_bytes, slice_start}
 pub use Rattle.planus_read.specs.Plain.{Shape}
 pub use Rattle.planus_read.specs.Shapes.{u8_shape, u16_shape, u32_shape, u64_shape, i8_shape}
 pub use Rattle.planus_read.specs.Shapes.{i16_shape, i32_shape, i64_shape, bool_shape, f32_shape}

@@ -143,7 +143,7 @@ impl<'a> Files<'a> {
                 self.put_code(
                     "//! Unions `$T`.\n",
                     at,
-                    &print_union(context, at, declared),
+                    &print_union(context, at, declared, one),
                 )?;
                 let variants = print_variants(context, at, one);
                 self.put_definitions("-- The variants of `$T`.\n", at, &variants)

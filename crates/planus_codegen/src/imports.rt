@@ -17,18 +17,18 @@ const WORDS: [(&str, &str); 5] = [
     ("std.specs.Ordering", "int_eq"),
     (
         "planus.specs.Printed",
-        "Table BytesStand Numbered variant_in u8_enum u16_enum u32_enum u64_enum i8_enum \
-         i16_enum i32_enum i64_enum Shape u8_shape u16_shape u32_shape u64_shape i8_shape \
-         i16_shape i32_shape i64_shape bool_shape f32_shape f64_shape IsPrefixed field \
-         force_align no_more struct_layout struct_shape FinishGives SizedFinishGives EndsAs \
-         FinishLeaves SizedFinishLeaves IsIn AllIn AllUnionsIn IsPrepared IsPlainVector \
-         IsPlainVectorRequired IsPlainRequired IsTextField IsTextRequired IsBytesField \
-         IsBytesRequired IsTextVector IsTextVectorRequired IsTableField IsTableRequired \
-         IsTableVector IsTableVectorRequired plain_kind text_kind bytes_kind table_kind \
-         IsPlainField IsPlainFieldOr IsRoot IsUnionField IsUnionRequired IsUnionVector \
-         IsUnionVectorRequired ReadsVariants UnionVariant table_variant plains judged texts \
-         tables optional required plain_if plain_or number_or signed_or union union_required \
-         unions unions_required IsSizedRoot",
+        "Table BytesStand slice_bytes slice_start Numbered variant_in u8_enum u16_enum u32_enum \
+         u64_enum i8_enum i16_enum i32_enum i64_enum Shape u8_shape u16_shape u32_shape \
+         u64_shape i8_shape i16_shape i32_shape i64_shape bool_shape f32_shape f64_shape \
+         IsPrefixed field force_align no_more struct_layout struct_shape FinishGives \
+         SizedFinishGives EndsAs FinishLeaves SizedFinishLeaves IsIn AllIn AllUnionsIn \
+         IsPrepared IsPlainVector IsPlainVectorRequired IsPlainRequired IsTextField \
+         IsTextRequired IsBytesField IsBytesRequired IsTextVector IsTextVectorRequired \
+         IsTableField IsTableRequired IsTableVector IsTableVectorRequired plain_kind text_kind \
+         bytes_kind table_kind IsPlainField IsPlainFieldOr IsRoot IsUnionField IsUnionRequired \
+         IsUnionVector IsUnionVectorRequired ReadsVariants UnionVariant table_variant plains \
+         judged texts tables optional required plain_if plain_or number_or signed_or union \
+         union_required unions unions_required IsSizedRoot",
     ),
 ];
 
@@ -41,8 +41,9 @@ const PROOF_WORDS: &str = "refl lit≤ lit<";
 const NAME_COLUMNS: usize = 80;
 
 /// What follows a module's name in the name of a definition, and its import.
-const OWN_DEFINITIONS: [(&str, &str); 6] = [
+const OWN_DEFINITIONS: [(&str, &str); 7] = [
     ("_variants", " Rattle.$c.specs.$T.{$M_variants}"),
+    ("_tags", " Rattle.$c.specs.$T as $M_tags"),
     ("_is", " Rattle.$c.specs.$T.{$M_is}"),
     ("_numbers", " Rattle.$c.specs.$T as $M_numbers"),
     ("_shape", " Rattle.$c.specs.$T.{$M_shape}"),

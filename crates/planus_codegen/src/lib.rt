@@ -1,5 +1,5 @@
-//! The code of a schema, as a crate over `planus`: each accessor has the contract that it reads back
-//! what was written. `print_crate` returns its files.
+//! The code of a schema, as a crate over `planus`: each accessor has the contract that it reads
+//! back what was written. `print_crate` returns its files.
 #![tactic(auto)]
 
 mod arranged;
