@@ -6,9 +6,6 @@ use crate::printer::Printer;
 use crate::structs::{LAYOUT, READ, STRIDE, TOTAL};
 use planus_layout::{Declared, Enum, Scalar};
 
-/// The values of an enum of many that one function looks for.
-const GROUP: usize = 10;
-
 const ENUM: &str = "\
 #[derive(Clone, Copy, Debug, PartialEq)]
 pub enum $T {
@@ -162,56 +159,20 @@ pub(crate) fn print_enum<'a>(
     }
     printer.put(STRIDE, at);
     if has_many_values(one) {
-        put_finders(&mut printer, at);
+        printer.put_functions(FINDER, "        $i => Some($T::$n),\n", NEXT, at);
+        printer.put("        _ => None,\n    }\n}\n", at);
     }
     printer
 }
 
-// Each function looks for some values, and then calls the next.
-fn put_finders(printer: &mut Printer<'_>, at: At) {
-    for place in 0..printer.context.names.count(at.index) {
-        let at = at.member(place);
-        if place % GROUP == 0 {
-            printer.put(if place > 0 { NEXT } else { "" }, at);
-            printer.put(FINDER, at);
-        }
-        printer.put("        $i => Some($T::$n),\n", at);
-    }
-    printer.put("        _ => None,\n    }\n}\n", at);
-}
-
-// Adds a list of some values and those of the next list.
-fn put_numbers_from(printer: &mut Printer<'_>, at: At) {
-    let count = printer.context.names.count(at.index);
-    let end = at.place.saturating_add(GROUP);
-    printer.put(NUMBERS_FROM, at);
-    for place in at.place..end.min(count) {
-        printer.put("~($k, $M_value.$n) ∷", at.member(place));
-    }
-    printer.put(
-        if end < count {
-            "~from_$p\n\n"
-        } else {
-            "~[]\n\n"
-        },
-        at.member(end),
-    );
-}
-
 fn print_many_numbers<'a>(context: &'a Context<'a>, at: At) -> Printer<'a> {
     let mut printer = Printer::new(context);
-    let groups = context.names.count(at.index).div_ceil(GROUP);
     printer.put("-- its variants by their numbers, from some on\n", at);
-    for group in 0..groups {
-        let left = groups.saturating_sub(group).saturating_sub(1);
-        put_numbers_from(&mut printer, at.member(left.saturating_mul(GROUP)));
-    }
+    printer.put_lists(NUMBERS_FROM, "~($k, $M_value.$n) ∷", at);
     printer.put("abbrev pub $M_number : $T → $j\n", at);
     printer.put_each("$M_number $M_value.$n = $k\n", "", at);
     printer.put(FOUND, at);
-    for group in 0..groups {
-        printer.put("~from_$p", at.member(group.saturating_mul(GROUP)));
-    }
+    printer.put_list_names(at);
     printer.put("\n", at);
     printer.put_each("$M_found $M_value.$n = refl\n", "", at);
     printer.put(FOUND_IS, at);

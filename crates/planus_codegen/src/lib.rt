@@ -4,6 +4,7 @@
 
 mod arranged;
 mod at;
+mod chains;
 mod context;
 mod crate_file;
 mod defaults;

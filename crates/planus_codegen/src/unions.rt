@@ -8,9 +8,6 @@ use planus_layout::{Declared, Union};
 /// The most members of a union that one function reads.
 const MOST_TOGETHER: usize = 20;
 
-/// The members that each function reads, where there are more.
-const GROUP: usize = 8;
-
 const KIND: &str = "\
 pub struct $T;
 
@@ -119,47 +116,6 @@ abbrev pub $M_variants : List (UnionVariant $TRef)
 $M_variants = from_0
 ";
 
-// Each function reads some members, and then calls the next.
-fn put_readers(printer: &mut Printer<'_>, at: At) {
-    for place in 0..printer.context.names.count(at.index) {
-        let at = at.member(place);
-        if place % GROUP == 0 {
-            printer.put(if place > 0 { NEXT } else { "" }, at);
-            printer.put(READ_FROM, at);
-        }
-        printer.put(ARM_FROM, at);
-    }
-    printer.put(UNKNOWN_FROM, at);
-}
-
-// Adds a list of some variants and those of the next list.
-fn put_variants_from(printer: &mut Printer<'_>, at: At) {
-    let count = printer.context.names.count(at.index);
-    let end = at.place.saturating_add(GROUP);
-    printer.put(VARIANTS_FROM, at);
-    for place in at.place..end.min(count) {
-        printer.put("~table_variant $g $M_$g ∷", at.member(place));
-    }
-    printer.put(
-        if end < count {
-            "~from_$p\n\n"
-        } else {
-            "~[]\n\n"
-        },
-        at.member(end),
-    );
-}
-
-fn put_all_variants(printer: &mut Printer<'_>, at: At) {
-    let groups = printer.context.names.count(at.index).div_ceil(GROUP);
-    printer.put("-- by their tags, from some on\n", at);
-    for group in 0..groups {
-        let left = groups.saturating_sub(group).saturating_sub(1);
-        put_variants_from(printer, at.member(left.saturating_mul(GROUP)));
-    }
-    printer.put(ALL_VARIANTS, at);
-}
-
 pub(crate) fn print_union<'a>(
     context: &'a Context<'a>,
     at: At,
@@ -187,7 +143,8 @@ pub(crate) fn print_union<'a>(
     }
     printer.put(VECTOR, at);
     if one.members.len() > MOST_TOGETHER {
-        put_readers(&mut printer, at);
+        printer.put_functions(READ_FROM, ARM_FROM, NEXT, at);
+        printer.put(UNKNOWN_FROM, at);
     }
     printer
 }
@@ -196,7 +153,9 @@ pub(crate) fn print_variants<'a>(context: &'a Context<'a>, at: At, one: &Union) 
     let mut printer = Printer::new(context);
     printer.put_each(if one.members.len() > 1 { ONE_OF } else { ONLY }, "", at);
     if one.members.len() > MOST_TOGETHER {
-        put_all_variants(&mut printer, at);
+        printer.put("-- by their tags, from some on\n", at);
+        printer.put_lists(VARIANTS_FROM, "~table_variant $g $M_$g ∷", at);
+        printer.put(ALL_VARIANTS, at);
         return printer;
     }
     printer.put(VARIANTS, at);
