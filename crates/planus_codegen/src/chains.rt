@@ -22,7 +22,7 @@ impl<'a> Printer<'a> {
         }
         self.put(
             if end < count {
-                "~from_$p\n\n"
+                "~from_$p_on\n\n"
             } else {
                 "~[]\n\n"
             },
@@ -41,7 +41,7 @@ impl<'a> Printer<'a> {
 
     pub(crate) fn put_list_names(&mut self, at: At) {
         for list in 0..self.lists(at) {
-            self.put("~from_$p", at.member(list.saturating_mul(GROUP)));
+            self.put("~from_$p_on", at.member(list.saturating_mul(GROUP)));
         }
     }
 

@@ -40,9 +40,9 @@ const READ_FOUND: &str = "        let number = <$b as Plain>::read(buffer, offse
 ";
 
 const FINDER: &str = "
-#[tactic(auto, unfolding(crate::specs::$T::from_$p))]
+#[tactic(auto, unfolding(crate::specs::$T::from_$p_on))]
 fn from_$p(number: $b) -> Option<$T>
-    ensures {~result ≡~variant_in $q $M_numbers.from_$p number }
+    ensures {~result ≡~variant_in $q $M_numbers.from_$p_on number }
 {
     match number {
 ";
@@ -53,15 +53,15 @@ const NEXT: &str = "        _ => from_$p(number),
 ";
 
 const NUMBERS_FROM: &str = "\
-unfoldable pub from_$p : List ($j × $T)
-from_$p =";
+unfoldable pub from_$p_on : List ($j × $T)
+from_$p_on =";
 
 const FOUND: &str = "
-pub $M_found : (x : $T) →~variant_in $q from_0 ($M_number x) ≡ Some x
+pub $M_found : (x : $T) →~variant_in $q from_0_on ($M_number x) ≡ Some x
 unfolding";
 
 const FOUND_IS: &str = "
-abbrev pub $M_is : (x : $T) → Numbered $q from_0 x
+abbrev pub $M_is : (x : $T) → Numbered $q from_0_on x
 $M_is x = record { number = $M_number x; found = $M_found x }
 ";
 

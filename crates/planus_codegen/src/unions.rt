@@ -51,13 +51,13 @@ const UNKNOWN: &str = "            _ => Err(ErrorKind::UnknownUnionTag { tag }),
 ";
 
 const READ_FROM: &str = "
-#[tactic(auto, unfolding(crate::specs::$T::from_$p))]
+#[tactic(auto, unfolding(crate::specs::$T::from_$p_on))]
 fn from_$p<'a>(
     buffer: SliceWithStartOffset<'a>,
     tag: u8,
     offset: usize,
 ) -> Result<$TRef<'a>, ErrorKind>
-    ensures {~ReadsVariants~$M_tags.from_$p~(slice_bytes buffer.entry)~\
+    ensures {~ReadsVariants~$M_tags.from_$p_on~(slice_bytes~buffer.entry)~\
      (slice_start~buffer.entry)~tag~offset~result }
 {
     match tag {
@@ -108,12 +108,12 @@ abbrev pub $M_variants : List (UnionVariant $TRef)
 $M_variants =";
 
 const VARIANTS_FROM: &str = "\
-unfoldable pub from_$p : List (UnionVariant $TRef)
-from_$p =";
+unfoldable pub from_$p_on : List (UnionVariant $TRef)
+from_$p_on =";
 
 const ALL_VARIANTS: &str = "\
 abbrev pub $M_variants : List (UnionVariant $TRef)
-$M_variants = from_0
+$M_variants = from_0_on
 ";
 
 pub(crate) fn print_union<'a>(
