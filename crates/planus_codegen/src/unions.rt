@@ -57,8 +57,8 @@ fn from_$p<'a>(
     tag: u8,
     offset: usize,
 ) -> Result<$TRef<'a>, ErrorKind>
-    ensures {~ReadsVariants~$M_tags.from_$p_on~(slice_bytes~buffer.entry)~\
-     (slice_start~buffer.entry)~tag~offset~result }
+    ensures {~ReadsVariants~$M_tags.from_$p_on~(slice_bytes buffer.entry)~\
+     (slice_start buffer.entry)~tag~offset~result }
 {
     match tag {
 ";
