@@ -18,7 +18,7 @@ ghost use Rattle.planus_schema.specs.Faults.{faults_found, IsExact, AreWithin};
 ghost use Rattle.planus_schema.specs.Faults.{name_left as name_left_lem};
 
 use crate::enums::enum_of;
-use crate::fault::{Fault, Problem, Refusal, Stop, note, wrong};
+use crate::fault::{Fault, Problem, Refusal, Stop, note, or_return, wrong};
 use crate::head::{Head, heads};
 use crate::heads::Heads;
 use crate::statements::statements;
@@ -49,12 +49,22 @@ fn body_of(alloc: Global, heads: &Heads, declared: &[Declared], head: &Head) -> 
     let left = name_left(head.declaration);
     let space = head.space;
     match &head.declaration.item {
-        Item::Table(record) => Ok(Body::Table(table_of(alloc, heads, space, record, left)?)),
-        Item::Struct(record) => Ok(Body::Struct(struct_of(
-            alloc, heads, declared, space, record, left,
-        )?)),
-        Item::Enum(body) => Ok(Body::Enum(enum_of(alloc, body)?)),
-        Item::Union(body) => Ok(Body::Union(union_of(alloc, heads, space, body)?)),
+        Item::Table(record) => {
+            let table = or_return!(table_of(alloc, heads, space, record, left));
+            Ok(Body::Table(table))
+        }
+        Item::Struct(record) => {
+            let body = or_return!(struct_of(alloc, heads, declared, space, record, left));
+            Ok(Body::Struct(body))
+        }
+        Item::Enum(body) => {
+            let body = or_return!(enum_of(alloc, body));
+            Ok(Body::Enum(body))
+        }
+        Item::Union(body) => {
+            let body = or_return!(union_of(alloc, heads, space, body));
+            Ok(Body::Union(body))
+        }
         _ => Err(wrong(Problem::UnknownType, left)),
     }
 }
@@ -94,14 +104,15 @@ fn add_body(
     ensures measures { OnOk result (measures_of declared.new.items
         ≡ measures_of declared.old.items ++ measure_of_body (Some body) ∷ []) }
 {
-    let name = Vec::from_slice(alloc, &head.name)?;
-    let docs = copied(alloc, &head.declaration.docs)?;
-    declared.push(Declared {
+    let name = or_return!(Vec::from_slice(alloc, &head.name));
+    let docs = or_return!(copied(alloc, &head.declaration.docs));
+    let added = Declared {
         name,
         docs,
         file: head.file,
         body,
-    })?;
+    };
+    or_return!(declared.push(added), AllocError);
     Ok(())
 }
 
@@ -125,12 +136,9 @@ fn add_declared(
         faults.new.items) }
 {
     match body_of(alloc, heads, declared, head) {
-        Ok(body) => {
-            add_body(alloc, declared, head, body)?;
-            Ok(())
-        }
+        Ok(body) => add_body(alloc, declared, head, body),
         Err(stop) => {
-            note(faults, head.file, stop)?;
+            or_return!(note(faults, head.file, stop));
             let body = stand_in(alloc, &head.declaration.item);
             add_body(alloc, declared, head, body)
         }
@@ -152,7 +160,7 @@ fn declarations(
 {
     let mut declared = Vec::new(alloc);
     'heads: for head in heads.as_slice() {
-        add_declared(alloc, heads, &mut declared, head, faults)?;
+        or_return!(add_declared(alloc, heads, &mut declared, head, faults));
     }
     Ok(declared)
 }
@@ -193,7 +201,7 @@ fn check_names(heads: &Heads, faults: &mut Vec<Fault>) -> Result<(), AllocError>
 {
     let mut index = 0;
     'heads: for head in heads.as_slice() {
-        check_name(heads, index, head, faults)?;
+        or_return!(check_name(heads, index, head, faults));
         index += 1;
     }
     Ok(())
@@ -213,19 +221,25 @@ fn settle(alloc: Global, files: &[Vec<Declaration>]) -> Result<Schema, Refusal>
     ensures faults { IfErr result (λ e. IsRefusal e) }
     ensures exact { IfErr result (λ e. IsExact files.now e) }
 {
-    let list = heads(alloc, files)?;
-    let heads = Heads::new(alloc, &list)?;
+    let list = or_return!(heads(alloc, files), Refusal::OutOfMemory);
+    let heads = or_return!(Heads::new(alloc, &list), Refusal::OutOfMemory);
     let mut faults = Vec::new(alloc);
-    check_names(&heads, &mut faults)?;
-    let declarations = declarations(alloc, &heads, &mut faults)?;
-    let statements = statements(alloc, &heads, files, &mut faults)?;
+    or_return!(check_names(&heads, &mut faults), Refusal::OutOfMemory);
+    let declarations = or_return!(
+        declarations(alloc, &heads, &mut faults),
+        Refusal::OutOfMemory
+    );
+    let statements = or_return!(
+        statements(alloc, &heads, files, &mut faults),
+        Refusal::OutOfMemory
+    );
     if faults.is_empty() {
         Ok(Schema {
             declarations,
             statements,
         })
     } else {
-        put_in_order(&mut faults)?;
+        or_return!(put_in_order(&mut faults), Refusal::OutOfMemory);
         Err(Refusal::Faults(faults))
     }
 }

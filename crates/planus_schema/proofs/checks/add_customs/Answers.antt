@@ -8,4 +8,4 @@ pub declarations-preserved : goal.declarations-preserved
 declarations-preserved c =
     let known = names_of c.declarations.known.items in
     let r = drop_next c.args.declarations.now c.declarations.declaration-index c.declaration-item.result (omega arith) c.declaration-item.is in
-    rw c.in_ok-add_custom.ensures (append_assoc known _ _ ∙ ap (λ ds. known ++ customs_in ds) (sym r) ∙ c.declarations.invariant)
+    rw c.in-Ok.ensures (append_assoc known _ _ ∙ ap (λ ds. known ++ customs_in ds) (sym r) ∙ c.declarations.invariant)

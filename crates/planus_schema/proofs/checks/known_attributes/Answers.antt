@@ -8,4 +8,4 @@ pub files-preserved : goal.files-preserved
 files-preserved c =
     let known = names_of c.files.known.items in
     let r = drop_next c.args.files.now c.files.declarations-index c.declarations-item.result (omega arith) c.declarations-item.is in
-    rw (c.in_ok-add_customs.ensures, c.deref.ensures.value) (append_assoc known _ _ ∙ ap (λ fs. known ++ customs_of fs) (sym r) ∙ c.files.invariant)
+    rw (c.in-Ok-add_customs.ensures, c.deref.ensures.value) (append_assoc known _ _ ∙ ap (λ fs. known ++ customs_of fs) (sym r) ∙ c.files.invariant)

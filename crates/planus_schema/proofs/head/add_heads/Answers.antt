@@ -12,8 +12,8 @@ declarations-preserved c =
     let placed = map placed_of c.declarations.heads.items in
     let r = drop_next c.args.declarations.now c.declarations.declaration-index c.declaration-item.result (omega arith) c.declaration-item.is in
     record {
-      heads = rw (c.in_ok-add_head.ensures.heads, c.space_after-space.ensures) (append_assoc heads _ _
+      heads = rw (c.in-Ok.ensures.heads, c.space_after-space.ensures) (append_assoc heads _ _
           ∙ ap (λ ds. heads ++ heads_in c.args.file (path_in c.declarations.space) (schema_of ds)) (sym r) ∙ i.heads);
-      placed = rw (c.in_ok-add_head.ensures.placed, c.space_after-space.ensures) (append_assoc placed _ _
+      placed = rw (c.in-Ok.ensures.placed, c.space_after-space.ensures) (append_assoc placed _ _
           ∙ ap (λ ds. placed ++ placed_in c.args.file (path_in c.declarations.space) ds) (sym r) ∙ i.placed);
     }

@@ -12,5 +12,5 @@ words-preserved c =
     let w = c.word-item.result in
     let before = names_of (take c.words.word-index c.args.words.now) in
     let t = map_next (λ (v : Vec ℕ). v.items) c.args.words.now c.words.word-index w (omega arith) c.word-item.is in
-    rw t (c.in_ok-put_word.ensures ∙ ap (with_word c.words.out.items) c.deref.ensures.value
+    rw t (c.in-Ok.ensures ∙ ap (with_word c.words.out.items) c.deref.ensures.value
     ∙ ap (λ o. with_word o w.items) c.words.invariant ∙ sym (fold-append with_word c.args.out.now.items before (w.items ∷ [])))

@@ -29,11 +29,11 @@ heads-preserved c =
     let is : h ≡ get_or hs n h = subst (λ xs. h ≡ get_or xs n h) c.as_slice-head-items.ensures c.head-item.is in
     record {
       index = omega (arith, i.index);
-      distinct = λ e. first_is_new hs n h within is (c.in_ok-check_name.ensures.first e ∙ ap Some i.index)
-          (i.distinct (c.in_ok-check_name.ensures.kept e));
-      kept = λ e. i.kept (c.in_ok-check_name.ensures.kept e);
-      most = c.in_ok-check_name.ensures.most;
-      adds = adds_next c.heads.faults.items _ c.check_name.new.faults.items _ _ c.in_ok-check_name.ensures.adds
+      distinct = λ e. first_is_new hs n h within is (c.in-Ok.ensures.first e ∙ ap Some i.index)
+          (i.distinct (c.in-Ok.ensures.kept e));
+      kept = λ e. i.kept (c.in-Ok.ensures.kept e);
+      most = c.in-Ok.ensures.most;
+      adds = adds_next c.heads.faults.items _ c.check_name.new.faults.items _ _ c.in-Ok.ensures.adds
           (ap (λ hs'. first_twenty (c.heads.faults.items ++ name_faults (map head_of hs) c.heads.index (map placed_of hs'))) (sym (drop_next hs n h within is)) ∙ i.adds);
     }
 

@@ -19,11 +19,11 @@ heads-preserved c =
     let t = map_next head_of hs n h within is in
     record {
       says = λ e. rw t (declared_push (map head_of hs) (map head_of (take n hs)) c.heads.declared.items c.add_declared.new.declared.items (head_of c.head-item.result)
-          (i.says (c.in_ok-add_declared.ensures.kept e)) (c.in_ok-add_declared.ensures.says e));
-      kept = λ e. i.kept (c.in_ok-add_declared.ensures.kept e);
-      most = c.in_ok-add_declared.ensures.most;
-      adds = ap (λ ms. first_twenty (c.add_declared.new.faults.items ++ body_faults (map head_of hs) ms (map placed_of (drop (n + 1) hs)))) c.in_ok-add_declared.ensures.measures
-          ∙ adds_next c.heads.faults.items _ c.add_declared.new.faults.items _ _ c.in_ok-add_declared.ensures.adds
+          (i.says (c.in-Ok.ensures.kept e)) (c.in-Ok.ensures.says e));
+      kept = λ e. i.kept (c.in-Ok.ensures.kept e);
+      most = c.in-Ok.ensures.most;
+      adds = ap (λ ms. first_twenty (c.add_declared.new.faults.items ++ body_faults (map head_of hs) ms (map placed_of (drop (n + 1) hs)))) c.in-Ok.ensures.measures
+          ∙ adds_next c.heads.faults.items _ c.add_declared.new.faults.items _ _ c.in-Ok.ensures.adds
           (ap (λ hs'. first_twenty (c.heads.faults.items ++ body_faults (map head_of hs) (measures_of c.heads.declared.items) (map placed_of hs'))) (sym (drop_next hs n h within is)) ∙ i.adds);
     }
 
