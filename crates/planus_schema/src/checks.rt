@@ -43,7 +43,7 @@ fn add_custom(
 {
     if let Item::Attribute(label) = &declaration.item {
         let name = or_return!(Vec::from_slice(alloc, &label.name));
-        or_return!(known.push(name), AllocError);
+        known.push(name)?;
     }
     Ok(())
 }

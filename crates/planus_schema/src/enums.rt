@@ -124,10 +124,7 @@ fn add_value(
     }
     let name = or_return!(Vec::from_slice(alloc, &variant.name), Stop::OutOfMemory);
     let docs = or_return!(copied(alloc, &variant.docs), Stop::OutOfMemory);
-    or_return!(
-        values.push(EnumValue { name, docs, number }),
-        Stop::OutOfMemory
-    );
+    values.push(EnumValue { name, docs, number })?;
     Ok(())
 }
 

@@ -116,7 +116,7 @@ fn add_head<'a>(
             name,
             declaration,
         };
-        or_return!(heads.push(head), AllocError);
+        heads.push(head)?;
     }
     Ok(())
 }

@@ -112,7 +112,7 @@ fn add_body(
         file: head.file,
         body,
     };
-    or_return!(declared.push(added), AllocError);
+    declared.push(added)?;
     Ok(())
 }
 

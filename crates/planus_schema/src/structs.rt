@@ -152,7 +152,7 @@ fn struct_fields(
         }
         end = field.distance + field.size;
         alignment = greater(alignment, field.alignment);
-        or_return!(fields.push(field), Stop::OutOfMemory);
+        fields.push(field)?;
     }
     Ok(Layout {
         fields,

@@ -275,7 +275,7 @@ fn table_fields(
         let field = or_return!(table_field(alloc, heads, space, declaration, ids, next));
         key = or_return!(add_names(alloc, &mut names, key, &field, declaration.left));
         next += width(field.kind);
-        or_return!(fields.push(field), Stop::OutOfMemory);
+        fields.push(field)?;
     }
     Ok(fields)
 }

@@ -137,7 +137,7 @@ fn union_members(
     let mut names = Vec::new(alloc);
     let mut previous = 0;
     let none = or_return!(Vec::from_slice(alloc, b"NONE"), Stop::OutOfMemory);
-    or_return!(names.push(none), Stop::OutOfMemory);
+    names.push(none)?;
     'members: for member in declared {
         let next = or_return!(next_member(alloc, heads, space, member, previous, &members));
         let new = or_return!(take_name(alloc, &mut names, &next.name), Stop::OutOfMemory);
@@ -145,7 +145,7 @@ fn union_members(
             return Err(wrong(Problem::MemberNameTaken, member.path.left));
         }
         previous = next.tag;
-        or_return!(members.push(next), Stop::OutOfMemory);
+        members.push(next)?;
     }
     Ok(members)
 }

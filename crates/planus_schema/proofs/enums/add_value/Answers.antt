@@ -14,7 +14,7 @@ use Rattle.planus_schema.proofs.enums.add_value.Goals as goal
 pub returns-clause-added : goal.returns-clause-added
 returns-clause-added c =
     value_added c.args.scalar (variant_of c.args.variant.now) c.args.number
-    c.args.values.now.items c.push.new.self.items _ c.in-Ok-push.ensures.items
+    c.args.values.now.items c.push.new.self.items _ c.in_ok-push.ensures.items
     (c.in-Ok.ensures.items ∙ c.deref-2.ensures.value)
     (c.in-Ok-copied.ensures ∙ ap names_of c.deref-3.ensures.value) refl
     (sym c.fits.ensures ∙ c.if-not-fits.false)

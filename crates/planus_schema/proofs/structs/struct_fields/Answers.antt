@@ -30,7 +30,7 @@ fields-init c =
 pub fields-preserved : goal.fields-preserved
 fields-preserved c =
     let i = c.fields.invariant in
-    let e = c.in-Ok-push.ensures.items in
+    let e = c.in_ok-push.ensures.items in
     let f = c.in-Ok.value in
     let fs = c.fields.fields.items in
     let t = map_next field_of c.args.declared.now c.fields.declaration-index c.declaration-item.result (omega arith) c.declaration-item.is in

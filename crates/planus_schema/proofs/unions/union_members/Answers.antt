@@ -15,7 +15,7 @@ use Rattle.planus_schema.proofs.unions.union_members.Goals as goal
 pub members-init : goal.members-init
 members-init c =
     let e = c.new-members.ensures.items in
-    let n : names_of c.push.new.self.items ≡ codes "NONE" ∷ [] = ap names_of (c.in-Ok-push.ensures.items ∙ ap (λ ns. ns ++ c.in-Ok.value ∷ []) c.new-names.ensures.items) ∙ ap (λ w. w ∷ []) c.in-Ok.ensures.items in
+    let n : names_of c.push.new.self.items ≡ codes "NONE" ∷ [] = ap names_of (c.in_ok-push.ensures.items ∙ ap (λ ns. ns ++ c.in-Ok.value ∷ []) c.new-names.ensures.items) ∙ ap (λ w. w ∷ []) c.in-Ok.ensures.items in
     record {
       says = rw e tt;
       tags = rw e refl;
@@ -29,7 +29,7 @@ members-init c =
 pub members-preserved : goal.members-preserved
 members-preserved c =
     let i = c.members.invariant in
-    let e = c.in-Ok-push-2.ensures.items in
+    let e = c.in_ok-push-2.ensures.items in
     let m = c.in-Ok-next_member.value in
     let ms = c.members.members.items in
     let ds = c.args.declared.now in
