@@ -1,4 +1,5 @@
 use Rattle.std.proofs.Common.{◌++◌, ap, sym, ◌∙◌, map, append_assoc, arith}
+use Rattle.std.proofs.lemmas.List.{append-nil, drop_all}
 use Rattle.planus_syntax.specs.Values.{schema_of}
 use Rattle.planus_schema.specs.Names.{path_in, head_of, heads_in}
 use Rattle.planus_schema.specs.Faults.{placed_of, placed_in}
@@ -17,3 +18,13 @@ declarations-preserved c =
       placed = rw (c.in-Ok.ensures.placed, c.space_after-space.ensures) (append_assoc placed _ _
           ∙ ap (λ ds. placed ++ placed_in c.args.file (path_in c.declarations.space) ds) (sym r) ∙ i.placed);
     }
+
+pub returns-clause-heads : goal.returns-clause-heads
+returns-clause-heads c =
+    let d = drop_all c.declarations.declaration-index c.args.declarations.now (omega arith) in
+    sym (append-nil (map head_of c.declarations.heads.items)) ∙ rw d at c.declarations.invariant.heads
+
+pub returns-clause-placed : goal.returns-clause-placed
+returns-clause-placed c =
+    let d = drop_all c.declarations.declaration-index c.args.declarations.now (omega arith) in
+    sym (append-nil (map placed_of c.declarations.heads.items)) ∙ rw d at c.declarations.invariant.placed
