@@ -2,7 +2,7 @@
 
 ghost use Rattle.std.specs.Prelude.{◌≡◌, [], ◌∷◌, ◌++◌, ◌≤◌, map, length, Some, IfOk, IfErr, OnOk};
 ghost use Rattle.planus_syntax.specs.Values.{item_of, schema_of};
-ghost use Rattle.planus_schema.specs.Names.{head_of, space_of, index_of};
+ghost use Rattle.planus_schema.specs.Names.{head_of, heads_of, space_of, index_of};
 ghost use Rattle.planus_layout.specs.Distinct.{AreDistinct};
 ghost use Rattle.planus_layout.specs.Layouts.{body_in};
 ghost use Rattle.planus_schema.specs.Schemas.{IsBody, SaysBody, IsDeclared, AreDeclared, Means};
@@ -11,7 +11,8 @@ ghost use Rattle.planus_schema.specs.Sound.{IsSound};
 ghost use Rattle.planus_layout.specs.Layouts.{measure_of_body};
 ghost use Rattle.planus_schema.specs.Wrong.{Tells};
 ghost use Rattle.planus_schema.specs.WrongStructs.{measures_of};
-ghost use Rattle.planus_schema.specs.Faults.{placed_of, Adds, wrong_body, sound_measure};
+ghost use Rattle.planus_schema.specs.Faults.{placed_of, placed_from, Adds, wrong_body};
+ghost use Rattle.planus_schema.specs.Faults.{sound_measure};
 ghost use Rattle.planus_schema.specs.Faults.{byte_measure, measure_placed, body_fault};
 ghost use Rattle.planus_schema.specs.Faults.{body_faults, name_fault, name_faults, AreInOrder};
 ghost use Rattle.planus_schema.specs.Faults.{faults_found, IsExact, AreWithin};
@@ -215,22 +216,23 @@ fn put_in_order(faults: &mut Vec<Fault>) -> Result<(), AllocError>
     Ok(())
 }
 
-fn settle(alloc: Global, files: &[Vec<Declaration>]) -> Result<Schema, Refusal>
+/// Returns the meaning of files whose declarations are these.
+fn meaning_of(alloc: Global, heads: &Heads, files: &[Vec<Declaration>]) -> Result<Schema, Refusal>
+    requires heads { map head_of heads.now ≡ heads_of (map (λ f. schema_of f.items) files.now) }
+    requires placed { map placed_of heads.now ≡ placed_from 0 files.now }
     ensures means { IfOk result (λ s. Means (map (λ f. schema_of f.items) files.now) s) }
     ensures none { OnOk result (faults_found files.now ≡ []) }
     ensures faults { IfErr result (λ e. IsRefusal e) }
     ensures exact { IfErr result (λ e. IsExact files.now e) }
 {
-    let list = or_return!(heads(alloc, files), Refusal::OutOfMemory);
-    let heads = or_return!(Heads::new(alloc, &list), Refusal::OutOfMemory);
     let mut faults = Vec::new(alloc);
-    or_return!(check_names(&heads, &mut faults), Refusal::OutOfMemory);
+    or_return!(check_names(heads, &mut faults), Refusal::OutOfMemory);
     let declarations = or_return!(
-        declarations(alloc, &heads, &mut faults),
+        declarations(alloc, heads, &mut faults),
         Refusal::OutOfMemory
     );
     let statements = or_return!(
-        statements(alloc, &heads, files, &mut faults),
+        statements(alloc, heads, files, &mut faults),
         Refusal::OutOfMemory
     );
     if faults.is_empty() {
@@ -242,6 +244,17 @@ fn settle(alloc: Global, files: &[Vec<Declaration>]) -> Result<Schema, Refusal>
         or_return!(put_in_order(&mut faults), Refusal::OutOfMemory);
         Err(Refusal::Faults(faults))
     }
+}
+
+fn settle(alloc: Global, files: &[Vec<Declaration>]) -> Result<Schema, Refusal>
+    ensures means { IfOk result (λ s. Means (map (λ f. schema_of f.items) files.now) s) }
+    ensures none { OnOk result (faults_found files.now ≡ []) }
+    ensures faults { IfErr result (λ e. IsRefusal e) }
+    ensures exact { IfErr result (λ e. IsExact files.now e) }
+{
+    let list = or_return!(heads(alloc, files), Refusal::OutOfMemory);
+    let heads = or_return!(Heads::new(alloc, &list), Refusal::OutOfMemory);
+    meaning_of(alloc, &heads, files)
 }
 
 /// Returns the meaning of files. An included file has to be before those that include it, since a
