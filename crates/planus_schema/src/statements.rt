@@ -57,7 +57,6 @@ fn state(
     Ok(())
 }
 
-#[tactic(auto, using(crate::proofs::FaultLemmas::adds_none))]
 fn state_or_note(
     alloc: Global,
     heads: &Heads,
@@ -89,7 +88,6 @@ fn state_or_note(
     }
 }
 
-#[tactic(auto, using(crate::proofs::FaultLemmas::adds_next, crate::proofs::FaultLemmas::adds_none))]
 fn state_file(
     alloc: Global,
     heads: &Heads,
@@ -137,7 +135,6 @@ fn nothing_stated() -> Statements
     }
 }
 
-#[tactic(auto, using(crate::proofs::FaultLemmas::adds_next, crate::proofs::FaultLemmas::adds_none))]
 pub(crate) fn statements(
     alloc: Global,
     heads: &Heads,

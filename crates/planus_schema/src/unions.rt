@@ -89,7 +89,6 @@ fn has_tag(members: &[UnionMember], tag: u8) -> bool
     members.iter().any(|member| member.tag == tag)
 }
 
-#[tactic(auto, using(crate::proofs::UnionLemmas::tags_any))]
 fn next_member(
     alloc: Global,
     heads: &Heads,
