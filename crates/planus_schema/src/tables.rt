@@ -177,10 +177,11 @@ fn table_field(
     ensures wrong { Tells (wrong_field (map head_of heads.now) (space_of space.entry) ids next
         field.now) result }
 {
+    let attributes = field.attributes.as_slice();
     let kind = or_return!(type_of(alloc, heads, space, &field.kind));
     let slot = or_return!(field_slot(field, kind, ids, next));
     let default = or_return!(default_of(alloc, heads, kind, &field.default, field.left));
-    let nested = or_return!(nested_of(alloc, heads, space, &field.attributes));
+    let nested = or_return!(nested_of(alloc, heads, space, attributes));
     let name = or_return!(Vec::from_slice(alloc, &field.name), Stop::OutOfMemory);
     let docs = or_return!(copied(alloc, &field.docs), Stop::OutOfMemory);
     let settled = TableField {
@@ -190,8 +191,8 @@ fn table_field(
         slot,
         default,
         required: is_required(kind, field),
-        deprecated: has(&field.attributes, b"deprecated"),
-        key: has(&field.attributes, b"key"),
+        deprecated: has(attributes, b"deprecated"),
+        key: has(attributes, b"key"),
         nested,
     };
     or_return!(check_lawful(&settled, field.left));

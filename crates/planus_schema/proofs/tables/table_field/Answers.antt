@@ -25,33 +25,33 @@ pub returns-in-Err-nested_of-clause-wrong : goal.returns-in-Err-nested_of-clause
 returns-in-Err-nested_of-clause-wrong c =
     let typed = typed_is (map head_of c.args.heads.now) (space_of c.args.space) c.args.ids c.args.next c.args.field.now c.in-Ok.value c.in-Ok.ensures.wrong c.in-Ok.ensures.named in
     subst (λ o. Stops o c.in-Err-nested_of.error) (sym typed) (stops_next _ _ c.in-Err-nested_of.error c.in-Ok-field_slot.ensures.wrong
-    (stops_next _ _ c.in-Err-nested_of.error c.in-Ok-default_of.ensures.wrong (stops_first _ _ c.in-Err-nested_of.error (rw c.deref.ensures.value at c.in-Err-nested_of.ensures.wrong))))
+    (stops_next _ _ c.in-Err-nested_of.error c.in-Ok-default_of.ensures.wrong (stops_first _ _ c.in-Err-nested_of.error (rw c.as_slice-attributes.ensures.value at c.in-Err-nested_of.ensures.wrong))))
 
 pub returns-in-Err-check_lawful-clause-wrong : goal.returns-in-Err-check_lawful-clause-wrong
 returns-in-Err-check_lawful-clause-wrong c =
     let known = typed_is (map head_of c.args.heads.now) (space_of c.args.space) c.args.ids c.args.next c.args.field.now c.in-Ok.value c.in-Ok.ensures.wrong c.in-Ok.ensures.named in
-    let law = law_left (map head_of c.args.heads.now) (space_of c.args.space) c.args.ids c.args.next c.args.field.now c.in-Ok.value c.in-Ok-field_slot.ensures.wrong c.in-Ok-default_of.ensures.wrong (rw c.deref.ensures.value at c.in-Ok-nested_of.ensures.wrong) in
-    let same = law_is c.args.field.now c.in-Ok.value _ _ _ c.deref-5.result.now c.deref.result.now c.is_required.ensures c.has-2.ensures c.deref-5.ensures.value c.in-Ok-nested_of.ensures.set c.deref.ensures.value in
+    let law = law_left (map head_of c.args.heads.now) (space_of c.args.space) c.args.ids c.args.next c.args.field.now c.in-Ok.value c.in-Ok-field_slot.ensures.wrong c.in-Ok-default_of.ensures.wrong (rw c.as_slice-attributes.ensures.value at c.in-Ok-nested_of.ensures.wrong) in
+    let same = law_is c.args.field.now c.in-Ok.value _ _ _ c.as_slice-attributes.result.now c.as_slice-attributes.result.now c.is_required.ensures c.has-2.ensures c.as_slice-attributes.ensures.value c.in-Ok-nested_of.ensures.set c.as_slice-attributes.ensures.value in
     subst (λ o. Stops o c.in-Err-check_lawful.error) (same ∙ sym law ∙ sym known) c.in-Err-check_lawful.ensures.wrong
 
 pub returns-clause-wrong : goal.returns-clause-wrong
 returns-clause-wrong c =
     let typed = typed_is (map head_of c.args.heads.now) (space_of c.args.space) c.args.ids c.args.next c.args.field.now c.in-Ok.value c.in-Ok.ensures.wrong c.in-Ok.ensures.named in
-    let law = law_left (map head_of c.args.heads.now) (space_of c.args.space) c.args.ids c.args.next c.args.field.now c.in-Ok.value c.in-Ok-field_slot.ensures.wrong c.in-Ok-default_of.ensures.wrong (rw c.deref.ensures.value at c.in-Ok-nested_of.ensures.wrong) in
-    let same = law_is c.args.field.now c.in-Ok.value _ _ _ c.deref-5.result.now c.deref.result.now c.is_required.ensures c.has-2.ensures c.deref-5.ensures.value c.in-Ok-nested_of.ensures.set c.deref.ensures.value in
+    let law = law_left (map head_of c.args.heads.now) (space_of c.args.space) c.args.ids c.args.next c.args.field.now c.in-Ok.value c.in-Ok-field_slot.ensures.wrong c.in-Ok-default_of.ensures.wrong (rw c.as_slice-attributes.ensures.value at c.in-Ok-nested_of.ensures.wrong) in
+    let same = law_is c.args.field.now c.in-Ok.value _ _ _ c.as_slice-attributes.result.now c.as_slice-attributes.result.now c.is_required.ensures c.has-2.ensures c.as_slice-attributes.ensures.value c.in-Ok-nested_of.ensures.set c.as_slice-attributes.ensures.value in
     typed ∙ law ∙ sym same ∙ c.in-Ok-check_lawful.ensures.wrong
 
 pub returns-clause-says : goal.returns-clause-says
 returns-clause-says c = record {
-  name = c.in-Ok-from_slice.ensures.items ∙ c.deref-2.ensures.value;
-  docs = c.in-Ok-copied.ensures ∙ ap names_of c.deref-3.ensures.value;
+  name = c.in-Ok-from_slice.ensures.items ∙ c.deref.ensures.value;
+  docs = c.in-Ok-copied.ensures ∙ ap names_of c.deref-2.ensures.value;
   kind = c.in-Ok.ensures.named;
   id = c.in-Ok-field_slot.ensures.id;
   default = c.in-Ok-default_of.ensures.value;
   required = c.is_required.ensures;
-  deprecated = c.has.ensures ∙ ap (λ set. has (codes "deprecated") (map attribute_of set)) c.deref-4.ensures.value;
-  key = c.has-2.ensures ∙ ap (λ set. has (codes "key") (map attribute_of set)) c.deref-5.ensures.value;
-  nested = rw c.deref.ensures.value at c.in-Ok-nested_of.ensures.says;
+  deprecated = c.has.ensures ∙ ap (λ set. has (codes "deprecated") (map attribute_of set)) c.as_slice-attributes.ensures.value;
+  key = c.has-2.ensures ∙ ap (λ set. has (codes "key") (map attribute_of set)) c.as_slice-attributes.ensures.value;
+  nested = rw c.as_slice-attributes.ensures.value at c.in-Ok-nested_of.ensures.says;
 }
 
 pub returns-clause-order : goal.returns-clause-order
