@@ -5,8 +5,8 @@ use Rattle.planus_syntax.specs.Values.{schema_of}
 use Rattle.planus_syntax.specs.declared.value.Declaration.{Declaration}
 use Rattle.planus_layout.specs.Distinct.{AreDistinct}
 use Rattle.planus_schema.specs.Schemas.{AreDeclared, after_files, no_statements}
-use Rattle.planus_schema.specs.Names.{HeadV, head_of}
-use Rattle.planus_schema.specs.Faults.{AreInOrder, placed_of}
+use Rattle.planus_schema.specs.Names.{HeadV}
+use Rattle.planus_schema.specs.Faults.{AreInOrder}
 use Rattle.planus_schema.proofs.FaultLemmas.{all_found}
 use Rattle.planus_schema.proofs.meaning.meaning_of.Goals as goal
 

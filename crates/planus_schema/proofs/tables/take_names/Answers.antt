@@ -1,11 +1,8 @@
-use Rattle.std.proofs.Common.{◌≡◌, true, false, ◌++◌, ◌∷◌, [], not, ap, sym, subst, ◌∙◌}
+use Rattle.std.proofs.Common.{◌≡◌, ◌++◌, ◌∷◌, [], not, ap, sym, subst, ◌∙◌}
 use Rattle.std.specs.Prelude.{Bool, codes, IfOk}
 use Rattle.std.proofs.lemmas.Result.{IfOk-weaker}
 use Rattle.planus_layout.specs.Distinct.{is_in, Takes}
-use Rattle.planus_layout.specs.Slots.{is_union}
 use Rattle.planus_syntax.specs.Values.{names_of}
-use Rattle.planus_schema.specs.Tables.{names_taken, AreNamed}
-use Rattle.planus_schema.specs.WrongTables.{are_among}
 use Rattle.planus_schema.proofs.FaultLemmas.{name_used, name_new}
 use Rattle.planus_schema.proofs.StructLemmas.{taken}
 use Rattle.planus_schema.proofs.TableLemmas.{type_used, one_new, two_new, one_named, two_named}
