@@ -11,6 +11,7 @@ use Rattle.planus_schema.specs.Wrong.{Broken, when, first, Stops, wrong_kind}
 use Rattle.planus_schema.specs.declared.fault.Stop.{Stop}
 use Rattle.planus_schema.specs.declared.fault.Stop.TheVariants as stop
 use Rattle.planus_schema.proofs.FaultLemmas.{skip, passes, stops_first, stops_next, stops_now}
+use Rattle.planus_schema.proofs.StructLemmas.{taken}
 use Rattle.planus_schema.specs.WrongTables.{wrong_slot, wrong_default, wrong_nested, wrong_law, wrong_typed, field_type, field_slot, slots_at, slots_from, wrong_field, wrong_fields, names_in, are_among}
 use Rattle.planus_layout.specs.Slots.{slots_of, slots_taken}
 use Rattle.std.proofs.lemmas.List.{append-nil}
@@ -18,7 +19,9 @@ use Rattle.std.proofs.lemmas.List.Folds.{list_all-append}
 use Rattle.planus_layout.specs.declared.schema.FieldType.{FieldType}
 use Rattle.planus_layout.specs.declared.schema.TableField.{TableField}
 use Rattle.planus_layout.specs.Slots.{Follow, width}
-use Rattle.planus_schema.specs.Tables.{all_names, names_for, names_taken, is_lawful, is_required}
+use Rattle.planus_layout.specs.Slots.{is_union}
+use Rattle.planus_layout.specs.Distinct.{Takes, is_in}
+use Rattle.planus_schema.specs.Tables.{all_names, names_for, names_taken, is_lawful, is_required, AreNamed}
 
 pub follow_push : (at : ℕ) (fs : List TableField) (end : ℕ) (f : TableField) → Follow at fs end → f.slot + 1 ≡ end + width f.kind → Follow at (fs ++ f ∷ []) (end + width f.kind)
 follow_push at [] end f h e = (e ∙ ap (λ n. n + width f.kind) (sym h), ap (λ n. n + width f.kind) h)
@@ -108,3 +111,42 @@ law_left hs space ids next f t a b c = skip (wrong_slot t ids next f) _ a ∙ sk
 
 pub law_is : (f : Field) (t : FieldType) (required key nested : Bool) (ks ns : List Attribute) → required ≡ is_required t (field_of f) → key ≡ has (codes "key") (map attribute_of ks) → ks ≡ f.attributes.items → nested ≡ has (codes "nested_flatbuffer") (map attribute_of ns) → ns ≡ f.attributes.items → wrong_law required key nested t f.left ≡ field_law t f
 law_is f t required key nested ks ns r k a n b = rw (r, k, a, n, b) refl
+
+same_or_no : (b : Bool) → b ≡ (b || false)
+same_or_no true = refl
+same_or_no false = refl
+
+abbrev typed_names : Name → List Name
+typed_names w = (w ++ codes "_type") ∷ w ∷ []
+
+union_names : (t : FieldType) (w : Name) → is_union t ≡ true → typed_names w ≡ names_for t w
+union_names t w u = rw u refl
+
+own_name : (t : FieldType) (w : Name) → is_union t ≡ false → w ∷ [] ≡ names_for t w
+own_name t w u = rw u refl
+
+pub type_used : (t : FieldType) (w : Name) (old : List Name) → is_union t ≡ true → is_in old (w ++ codes "_type") ≡ true → false ≡ not (are_among old (names_for t w))
+type_used t w old u e = rw (u, e) refl
+
+pub one_new : (t : FieldType) (w : Name) (old : List Name) (new : Bool) → is_union t ≡ false → new ≡ not (is_in old w) → new ≡ not (are_among old (names_for t w))
+one_new t w old new u e = e ∙ ap not (same_or_no (is_in old w)) ∙ ap (λ ns. not (are_among old ns)) (own_name t w u)
+
+pub two_new : (t : FieldType) (w : Name) (old : List Name) (new : Bool) → is_union t ≡ true → is_in old (w ++ codes "_type") ≡ false → new ≡ not (is_in (old ++ (w ++ codes "_type") ∷ []) w) → new ≡ not (are_among old (names_for t w))
+two_new t w old new u f e =
+    e ∙ ap not (same_or_no (is_in (old ++ (w ++ codes "_type") ∷ []) w))
+    ∙ ap (λ b. not (b || (is_in (old ++ (w ++ codes "_type") ∷ []) w || false))) (sym f)
+    ∙ ap (λ ns. not (are_among old ns)) (union_names t w u)
+
+pub one_named : (t : FieldType) (w : Name) (old names : List Name) (new : Bool) → is_union t ≡ false → Takes new old w names → new ≡ true → AreNamed old (names_for t w) names
+one_named t w old names new u h e =
+    let a = taken new old w names e h in
+    record { added = a.added ∙ ap (λ ns. old ++ ns) (own_name t w u); distinct = a.distinct }
+
+pub two_named : (t : FieldType) (w : Name) (old mid names : List Name) (typed new : Bool) → is_union t ≡ true → Takes typed old (w ++ codes "_type") mid → typed ≡ true → Takes new mid w names → new ≡ true → AreNamed old (names_for t w) names
+two_named t w old mid names typed new u g f h e =
+    let a = taken typed old (w ++ codes "_type") mid f g in
+    let b = taken new mid w names e h in
+    record {
+      added = b.added ∙ ap (λ ns. ns ++ w ∷ []) a.added ∙ append_assoc old ((w ++ codes "_type") ∷ []) (w ∷ []) ∙ ap (λ ns. old ++ ns) (union_names t w u);
+      distinct = λ d. b.distinct (a.distinct d);
+    }

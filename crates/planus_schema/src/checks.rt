@@ -12,7 +12,7 @@ ghost use Rattle.planus_schema.specs.WrongServices.{wrong_attributes};
 ghost use Rattle.planus_schema.specs.WrongServices.{wrong_in_fields, wrong_in_record};
 ghost use Rattle.planus_schema.specs.WrongServices.{wrong_method, wrong_methods, wrong_item};
 
-use crate::fault::{Problem, Stop, wrong};
+use crate::fault::{Problem, Stop, or_return, wrong};
 use crate::heads::Heads;
 use crate::kind::table_at;
 use crate::words::cut_words;
@@ -42,7 +42,7 @@ fn add_custom(
         ≡ names_of known.old.items ++ customs_at declaration.now.item) }
 {
     if let Item::Attribute(label) = &declaration.item {
-        let name = Vec::from_slice(alloc, &label.name)?;
+        let name = or_return!(Vec::from_slice(alloc, &label.name));
         known.push(name)?;
     }
     Ok(())
@@ -57,7 +57,7 @@ fn add_customs(
         ≡ names_of known.old.items ++ customs_in declarations.now) }
 {
     'declarations: for declaration in declarations {
-        add_custom(alloc, known, declaration)?;
+        or_return!(add_custom(alloc, known, declaration));
     }
     Ok(())
 }
@@ -68,9 +68,9 @@ pub(crate) fn known_attributes(
 ) -> Result<Vec<Vec<u8>>, AllocError>
     ensures { IfOk result (λ v. names_of v.items ≡ known_attributes_lem files.now) }
 {
-    let mut known = built_in(alloc)?;
+    let mut known = or_return!(built_in(alloc));
     'files: for declarations in files {
-        add_customs(alloc, &mut known, declarations)?;
+        or_return!(add_customs(alloc, &mut known, declarations));
     }
     Ok(known)
 }
@@ -98,7 +98,7 @@ fn check_fields(known: &[Vec<u8>], fields: &[Field]) -> Result<(), Stop>
     ensures { Tells (wrong_in_fields (names_of known.now) fields.now) result }
 {
     'fields: for field in fields {
-        check_attributes(known, &field.attributes)?;
+        or_return!(check_attributes(known, &field.attributes));
     }
     Ok(())
 }
@@ -106,7 +106,7 @@ fn check_fields(known: &[Vec<u8>], fields: &[Field]) -> Result<(), Stop>
 fn check_record(known: &[Vec<u8>], body: &Record) -> Result<(), Stop>
     ensures { Tells (wrong_in_record (names_of known.now) body.now) result }
 {
-    check_attributes(known, &body.attributes)?;
+    or_return!(check_attributes(known, &body.attributes));
     check_fields(known, &body.fields)
 }
 
@@ -123,23 +123,13 @@ fn check_method(
     ensures wrong { Tells (wrong_method (map head_of heads.now) (space_of space.entry)
         (names_of known.now) (names_of names.old.items) method.now) result }
 {
-    if !take_name(alloc, names, &method.name)? {
+    let new = or_return!(take_name(alloc, names, &method.name), Stop::OutOfMemory);
+    if !new {
         return Err(wrong(Problem::MethodNameTaken, method.left));
     }
-    table_at(
-        alloc,
-        heads,
-        space,
-        &method.request,
-        Problem::MethodIsNoTable,
-    )?;
-    table_at(
-        alloc,
-        heads,
-        space,
-        &method.response,
-        Problem::MethodIsNoTable,
-    )?;
+    let problem = Problem::MethodIsNoTable;
+    or_return!(table_at(alloc, heads, space, &method.request, problem));
+    or_return!(table_at(alloc, heads, space, &method.response, problem));
     check_attributes(known, &method.attributes)
 }
 
@@ -155,7 +145,7 @@ fn check_methods(
 {
     let mut names = Vec::new(alloc);
     'methods: for method in methods {
-        check_method(alloc, heads, space, known, &mut names, method)?;
+        or_return!(check_method(alloc, heads, space, known, &mut names, method));
     }
     Ok(())
 }

@@ -17,7 +17,7 @@ ghost use Rattle.planus_schema.specs.WrongEnums.{wrong_values, wrong_enum};
 ghost use Rattle.planus_layout.specs.Distinct.{AreDistinct};
 
 use crate::attributes::has;
-use crate::fault::{Problem, Stop, wrong};
+use crate::fault::{Problem, Stop, or_return, wrong};
 use planus_layout::{
     Enum, EnumValue, Number, Scalar, copied, following, integer, scalar_named, take_name,
 };
@@ -122,8 +122,8 @@ fn add_value(
     if has_number(values, number) {
         return Err(wrong(Problem::ValueTaken, variant.left));
     }
-    let name = Vec::from_slice(alloc, &variant.name)?;
-    let docs = copied(alloc, &variant.docs)?;
+    let name = or_return!(Vec::from_slice(alloc, &variant.name), Stop::OutOfMemory);
+    let docs = or_return!(copied(alloc, &variant.docs), Stop::OutOfMemory);
     values.push(EnumValue { name, docs, number })?;
     Ok(())
 }
@@ -135,7 +135,11 @@ fn check_names(alloc: Global, variants: &[Variant]) -> Result<(), Stop>
 {
     let mut names = Vec::new(alloc);
     'variants: for variant in variants {
-        if !take_name(alloc, &mut names, &variant.name)? {
+        let new = or_return!(
+            take_name(alloc, &mut names, &variant.name),
+            Stop::OutOfMemory
+        );
+        if !new {
             return Err(wrong(Problem::ValueNameTaken, variant.left));
         }
     }
@@ -163,7 +167,7 @@ fn enum_values(
             Some(value) => value,
             None => return Err(wrong(Problem::ValueOutOfRange, variant.left)),
         };
-        add_value(alloc, scalar, &mut values, variant, value)?;
+        or_return!(add_value(alloc, scalar, &mut values, variant, value));
         previous = Some(number);
     }
     Ok(values)
@@ -177,9 +181,9 @@ pub(crate) fn enum_of(alloc: Global, declared: &Enumeration) -> Result<Enum, Sto
     ensures wrong { Tells (wrong_enum declared.now) result }
 {
     let flags = has(&declared.attributes, b"bit_flags");
-    let scalar = integer_type(&declared.base)?;
-    check_names(alloc, &declared.variants)?;
-    let values = enum_values(alloc, scalar, flags, &declared.variants)?;
+    let scalar = or_return!(integer_type(&declared.base));
+    or_return!(check_names(alloc, &declared.variants));
+    let values = or_return!(enum_values(alloc, scalar, flags, &declared.variants));
     Ok(Enum {
         scalar,
         flags,

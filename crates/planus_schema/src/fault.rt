@@ -136,6 +136,25 @@ impl<T: Drop> From<AllocFailed<T>> for Stop {
     }
 }
 
+/// The value of a call, or a return of its error or of the error given: `?` without a conversion
+/// of the error, which is cheaper to prove.
+macro_rules! or_return {
+    ($call:expr) => {
+        match $call {
+            Ok(value) => value,
+            Err(error) => return Err(error),
+        }
+    };
+    ($call:expr, $error:expr) => {
+        match $call {
+            Ok(value) => value,
+            Err(_) => return Err($error),
+        }
+    };
+}
+
+pub(crate) use or_return;
+
 pub(crate) fn wrong(problem: Problem, left: usize) -> Stop
     ensures { result ≡ Stop.Wrong problem left }
 {

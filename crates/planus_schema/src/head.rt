@@ -9,6 +9,7 @@ ghost use Rattle.planus_schema.specs.Faults.{placed_of, placed_at, placed_in, pl
 ghost use Rattle.planus_schema.specs.Names.{own_name as own_name_lem, head_of, heads_of, dotted};
 ghost use Rattle.planus_schema.specs.Names.{space_after as space_after_lem};
 
+use crate::fault::or_return;
 use planus_syntax::{Declaration, Item, Path};
 use std::alloc::{AllocError, Global};
 
@@ -34,7 +35,7 @@ pub(crate) fn put_words(out: &mut Vec<u8>, words: &[Vec<u8>]) -> Result<(), Allo
     ensures { OnOk result (out.new.items ≡ fold with_word out.old.items (names_of words.now)) }
 {
     'words: for word in words {
-        put_word(out, word)?;
+        or_return!(put_word(out, word));
     }
     Ok(())
 }
@@ -43,7 +44,7 @@ pub(crate) fn put_path(out: &mut Vec<u8>, path: &Path) -> Result<(), AllocError>
     ensures { OnOk result (out.new.items
         ≡ fold with_word out.old.items (words_of (path_of path.now))) }
 {
-    put_word(out, &path.first)?;
+    or_return!(put_word(out, &path.first));
     put_words(out, &path.more)
 }
 
@@ -67,9 +68,8 @@ pub(crate) fn put_space(
 {
     match space {
         Some(path) if count > 0 => {
-            put_word(out, &path.first)?;
-            put_words(out, &path.more[..count - 1])?;
-            Ok(())
+            or_return!(put_word(out, &path.first));
+            put_words(out, &path.more[..count - 1])
         }
         _ => Ok(()),
     }
@@ -91,8 +91,8 @@ fn full_name(alloc: Global, space: Option<&Path>, word: &[u8]) -> Result<Vec<u8>
         ≡ dotted (space_of space.entry ++ word.now ∷ [])) }
 {
     let mut name = Vec::new(alloc);
-    put_space(&mut name, space, depth(space))?;
-    put_word(&mut name, word)?;
+    or_return!(put_space(&mut name, space, depth(space)));
+    or_return!(put_word(&mut name, word));
     Ok(name)
 }
 
@@ -109,13 +109,14 @@ fn add_head<'a>(
         ++ placed_at file (path_in space.entry) declaration.now) }
 {
     if let Some(word) = own_name(&declaration.item) {
-        let name = full_name(alloc, space, word)?;
-        heads.push(Head {
+        let name = or_return!(full_name(alloc, space, word));
+        let head = Head {
             file,
             space,
             name,
             declaration,
-        })?;
+        };
+        heads.push(head)?;
     }
     Ok(())
 }
@@ -147,7 +148,7 @@ fn add_heads<'a>(
 {
     let mut space = None;
     'declarations: for declaration in declarations {
-        add_head(alloc, heads, file, space, declaration)?;
+        or_return!(add_head(alloc, heads, file, space, declaration));
         space = space_after(space, declaration);
     }
     Ok(())
@@ -161,7 +162,7 @@ pub(crate) fn heads(alloc: Global, files: &[Vec<Declaration>]) -> Result<Vec<Hea
     let mut heads = Vec::new(alloc);
     let mut file = 0;
     'files: for declarations in files {
-        add_heads(alloc, &mut heads, file, declarations)?;
+        or_return!(add_heads(alloc, &mut heads, file, declarations));
         file += 1;
     }
     Ok(heads)

@@ -2,7 +2,7 @@
 
 ghost use Rattle.std.specs.Prelude.{◌≡◌, [], ◌∷◌, ◌++◌, ◌≤◌, map, length, Some, IfOk, IfErr, OnOk};
 ghost use Rattle.planus_syntax.specs.Values.{item_of, schema_of};
-ghost use Rattle.planus_schema.specs.Names.{head_of, space_of, index_of};
+ghost use Rattle.planus_schema.specs.Names.{head_of, heads_of, space_of, index_of};
 ghost use Rattle.planus_layout.specs.Distinct.{AreDistinct};
 ghost use Rattle.planus_layout.specs.Layouts.{body_in};
 ghost use Rattle.planus_schema.specs.Schemas.{IsBody, SaysBody, IsDeclared, AreDeclared, Means};
@@ -11,14 +11,15 @@ ghost use Rattle.planus_schema.specs.Sound.{IsSound};
 ghost use Rattle.planus_layout.specs.Layouts.{measure_of_body};
 ghost use Rattle.planus_schema.specs.Wrong.{Tells};
 ghost use Rattle.planus_schema.specs.WrongStructs.{measures_of};
-ghost use Rattle.planus_schema.specs.Faults.{placed_of, Adds, wrong_body, sound_measure};
+ghost use Rattle.planus_schema.specs.Faults.{placed_of, placed_from, Adds, wrong_body};
+ghost use Rattle.planus_schema.specs.Faults.{sound_measure};
 ghost use Rattle.planus_schema.specs.Faults.{byte_measure, measure_placed, body_fault};
 ghost use Rattle.planus_schema.specs.Faults.{body_faults, name_fault, name_faults, AreInOrder};
 ghost use Rattle.planus_schema.specs.Faults.{faults_found, IsExact, AreWithin};
 ghost use Rattle.planus_schema.specs.Faults.{name_left as name_left_lem};
 
 use crate::enums::enum_of;
-use crate::fault::{Fault, Problem, Refusal, Stop, note, wrong};
+use crate::fault::{Fault, Problem, Refusal, Stop, note, or_return, wrong};
 use crate::head::{Head, heads};
 use crate::heads::Heads;
 use crate::statements::statements;
@@ -49,12 +50,22 @@ fn body_of(alloc: Global, heads: &Heads, declared: &[Declared], head: &Head) -> 
     let left = name_left(head.declaration);
     let space = head.space;
     match &head.declaration.item {
-        Item::Table(record) => Ok(Body::Table(table_of(alloc, heads, space, record, left)?)),
-        Item::Struct(record) => Ok(Body::Struct(struct_of(
-            alloc, heads, declared, space, record, left,
-        )?)),
-        Item::Enum(body) => Ok(Body::Enum(enum_of(alloc, body)?)),
-        Item::Union(body) => Ok(Body::Union(union_of(alloc, heads, space, body)?)),
+        Item::Table(record) => {
+            let table = or_return!(table_of(alloc, heads, space, record, left));
+            Ok(Body::Table(table))
+        }
+        Item::Struct(record) => {
+            let body = or_return!(struct_of(alloc, heads, declared, space, record, left));
+            Ok(Body::Struct(body))
+        }
+        Item::Enum(body) => {
+            let body = or_return!(enum_of(alloc, body));
+            Ok(Body::Enum(body))
+        }
+        Item::Union(body) => {
+            let body = or_return!(union_of(alloc, heads, space, body));
+            Ok(Body::Union(body))
+        }
         _ => Err(wrong(Problem::UnknownType, left)),
     }
 }
@@ -94,14 +105,15 @@ fn add_body(
     ensures measures { OnOk result (measures_of declared.new.items
         ≡ measures_of declared.old.items ++ measure_of_body (Some body) ∷ []) }
 {
-    let name = Vec::from_slice(alloc, &head.name)?;
-    let docs = copied(alloc, &head.declaration.docs)?;
-    declared.push(Declared {
+    let name = or_return!(Vec::from_slice(alloc, &head.name));
+    let docs = or_return!(copied(alloc, &head.declaration.docs));
+    let added = Declared {
         name,
         docs,
         file: head.file,
         body,
-    })?;
+    };
+    declared.push(added)?;
     Ok(())
 }
 
@@ -125,12 +137,9 @@ fn add_declared(
         faults.new.items) }
 {
     match body_of(alloc, heads, declared, head) {
-        Ok(body) => {
-            add_body(alloc, declared, head, body)?;
-            Ok(())
-        }
+        Ok(body) => add_body(alloc, declared, head, body),
         Err(stop) => {
-            note(faults, head.file, stop)?;
+            or_return!(note(faults, head.file, stop));
             let body = stand_in(alloc, &head.declaration.item);
             add_body(alloc, declared, head, body)
         }
@@ -152,7 +161,7 @@ fn declarations(
 {
     let mut declared = Vec::new(alloc);
     'heads: for head in heads.as_slice() {
-        add_declared(alloc, heads, &mut declared, head, faults)?;
+        or_return!(add_declared(alloc, heads, &mut declared, head, faults));
     }
     Ok(declared)
 }
@@ -193,7 +202,7 @@ fn check_names(heads: &Heads, faults: &mut Vec<Fault>) -> Result<(), AllocError>
 {
     let mut index = 0;
     'heads: for head in heads.as_slice() {
-        check_name(heads, index, head, faults)?;
+        or_return!(check_name(heads, index, head, faults));
         index += 1;
     }
     Ok(())
@@ -207,27 +216,45 @@ fn put_in_order(faults: &mut Vec<Fault>) -> Result<(), AllocError>
     Ok(())
 }
 
-fn settle(alloc: Global, files: &[Vec<Declaration>]) -> Result<Schema, Refusal>
+/// Returns the meaning of files whose declarations are these.
+fn meaning_of(alloc: Global, heads: &Heads, files: &[Vec<Declaration>]) -> Result<Schema, Refusal>
+    requires heads { map head_of heads.now ≡ heads_of (map (λ f. schema_of f.items) files.now) }
+    requires placed { map placed_of heads.now ≡ placed_from 0 files.now }
     ensures means { IfOk result (λ s. Means (map (λ f. schema_of f.items) files.now) s) }
     ensures none { OnOk result (faults_found files.now ≡ []) }
     ensures faults { IfErr result (λ e. IsRefusal e) }
     ensures exact { IfErr result (λ e. IsExact files.now e) }
 {
-    let list = heads(alloc, files)?;
-    let heads = Heads::new(alloc, &list)?;
     let mut faults = Vec::new(alloc);
-    check_names(&heads, &mut faults)?;
-    let declarations = declarations(alloc, &heads, &mut faults)?;
-    let statements = statements(alloc, &heads, files, &mut faults)?;
+    or_return!(check_names(heads, &mut faults), Refusal::OutOfMemory);
+    let declarations = or_return!(
+        declarations(alloc, heads, &mut faults),
+        Refusal::OutOfMemory
+    );
+    let statements = or_return!(
+        statements(alloc, heads, files, &mut faults),
+        Refusal::OutOfMemory
+    );
     if faults.is_empty() {
         Ok(Schema {
             declarations,
             statements,
         })
     } else {
-        put_in_order(&mut faults)?;
+        or_return!(put_in_order(&mut faults), Refusal::OutOfMemory);
         Err(Refusal::Faults(faults))
     }
+}
+
+fn settle(alloc: Global, files: &[Vec<Declaration>]) -> Result<Schema, Refusal>
+    ensures means { IfOk result (λ s. Means (map (λ f. schema_of f.items) files.now) s) }
+    ensures none { OnOk result (faults_found files.now ≡ []) }
+    ensures faults { IfErr result (λ e. IsRefusal e) }
+    ensures exact { IfErr result (λ e. IsExact files.now e) }
+{
+    let list = or_return!(heads(alloc, files), Refusal::OutOfMemory);
+    let heads = or_return!(Heads::new(alloc, &list), Refusal::OutOfMemory);
+    meaning_of(alloc, &heads, files)
 }
 
 /// Returns the meaning of files. An included file has to be before those that include it, since a

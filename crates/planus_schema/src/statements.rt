@@ -12,7 +12,7 @@ ghost use Rattle.planus_schema.specs.Faults.{Adds, fault_in, wrong_said, stateme
 ghost use Rattle.planus_schema.specs.Faults.{file_faults};
 
 use crate::checks::{check_item, known_attributes};
-use crate::fault::{Fault, Problem, Stop, note, wrong};
+use crate::fault::{Fault, Problem, Stop, note, or_return, wrong};
 use crate::head::space_after;
 use crate::heads::Heads;
 use crate::kind::table_at;
@@ -35,26 +35,28 @@ fn state(
     ensures wrong { Tells (wrong_said (map head_of heads.now) (space_of space.entry)
         (names_of known.now) declaration.now) result }
 {
-    check_item(alloc, heads, space, known, &declaration.item)?;
+    or_return!(check_item(alloc, heads, space, known, &declaration.item));
     match &declaration.item {
         Item::RootType(path) => {
-            statements.root = Some(table_at(alloc, heads, space, path, Problem::RootIsNoTable)?);
+            let table = or_return!(table_at(alloc, heads, space, path, Problem::RootIsNoTable));
+            statements.root = Some(table);
         }
         Item::FileIdentifier(word) => {
             if word.len() != 4 {
                 return Err(wrong(Problem::WrongIdentifier, declaration.left));
             }
-            statements.identifier = Some(Vec::from_slice(alloc, word)?);
+            let identifier = or_return!(Vec::from_slice(alloc, word), Stop::OutOfMemory);
+            statements.identifier = Some(identifier);
         }
         Item::FileExtension(word) => {
-            statements.extension = Some(Vec::from_slice(alloc, word)?);
+            let extension = or_return!(Vec::from_slice(alloc, word), Stop::OutOfMemory);
+            statements.extension = Some(extension);
         }
         _ => {}
     }
     Ok(())
 }
 
-#[tactic(auto, using(crate::proofs::FaultLemmas::adds_none))]
 fn state_or_note(
     alloc: Global,
     heads: &Heads,
@@ -80,13 +82,12 @@ fn state_or_note(
     match state(alloc, heads, space, known, declaration, statements) {
         Ok(()) => Ok(()),
         Err(stop) => {
-            note(faults, file, stop)?;
+            or_return!(note(faults, file, stop));
             Ok(())
         }
     }
 }
 
-#[tactic(auto, using(crate::proofs::FaultLemmas::adds_next, crate::proofs::FaultLemmas::adds_none))]
 fn state_file(
     alloc: Global,
     heads: &Heads,
@@ -109,7 +110,7 @@ fn state_file(
 {
     let mut space = None;
     'declarations: for declaration in declarations {
-        state_or_note(
+        or_return!(state_or_note(
             alloc,
             heads,
             space,
@@ -118,7 +119,7 @@ fn state_file(
             file,
             statements,
             faults,
-        )?;
+        ));
         space = space_after(space, declaration);
     }
     Ok(())
@@ -134,7 +135,6 @@ fn nothing_stated() -> Statements
     }
 }
 
-#[tactic(auto, using(crate::proofs::FaultLemmas::adds_next, crate::proofs::FaultLemmas::adds_none))]
 pub(crate) fn statements(
     alloc: Global,
     heads: &Heads,
@@ -152,11 +152,11 @@ pub(crate) fn statements(
         (known_attributes_lem files.now) 0 files.now) faults.old.items faults.new.items) }
 {
     let mut statements = nothing_stated();
-    let known = known_attributes(alloc, files)?;
+    let known = or_return!(known_attributes(alloc, files));
     let mut file = 0;
     'files: for declarations in files {
         statements = nothing_stated();
-        state_file(
+        or_return!(state_file(
             alloc,
             heads,
             &known,
@@ -164,7 +164,7 @@ pub(crate) fn statements(
             declarations,
             &mut statements,
             faults,
-        )?;
+        ));
         file += 1;
     }
     Ok(statements)

@@ -23,7 +23,7 @@ ghost use Rattle.planus_layout.specs.Layouts.{greatest_alignment, body_in};
 ghost use Rattle.planus_layout.specs.Distinct.{AreDistinct, Each2};
 
 use crate::attributes::{has, setting};
-use crate::fault::{Problem, Stop, wrong};
+use crate::fault::{Problem, Stop, or_return, wrong};
 use crate::heads::Heads;
 use crate::kind::type_of;
 use planus_layout::{
@@ -51,7 +51,7 @@ fn base_in_struct(
     if has(&field.attributes, b"required") || has(&field.attributes, b"deprecated") {
         return Err(wrong(Problem::AttributeInStruct, field.left));
     }
-    let kind = type_of(alloc, heads, space, &field.kind)?;
+    let kind = or_return!(type_of(alloc, heads, space, &field.kind));
     if kind.vector {
         return Err(wrong(Problem::NoStructField, field.left));
     }
@@ -101,14 +101,14 @@ fn struct_field(
     ensures wrong { Tells (wrong_struct_field (map head_of heads.now) (space_of space.entry)
         (measures_of bodies.now) at field.now) result }
 {
-    let base = base_in_struct(alloc, heads, space, field)?;
-    let measure = measure_in_struct(bodies, base, field.left)?;
+    let base = or_return!(base_in_struct(alloc, heads, space, field));
+    let measure = or_return!(measure_in_struct(bodies, base, field.left));
     let distance = next_multiple(at, measure.alignment);
     if distance + measure.size > 65535 {
         return Err(wrong(Problem::StructTooLarge, field.left));
     }
-    let name = Vec::from_slice(alloc, &field.name)?;
-    let docs = copied(alloc, &field.docs)?;
+    let name = or_return!(Vec::from_slice(alloc, &field.name), Stop::OutOfMemory);
+    let docs = or_return!(copied(alloc, &field.docs), Stop::OutOfMemory);
     Ok(StructField {
         name,
         docs,
@@ -145,8 +145,9 @@ fn struct_fields(
     let mut end = 0;
     let mut alignment = 1;
     'fields: for declaration in declared {
-        let field = struct_field(alloc, heads, bodies, space, declaration, end)?;
-        if !take_name(alloc, &mut names, &field.name)? {
+        let field = or_return!(struct_field(alloc, heads, bodies, space, declaration, end));
+        let new = or_return!(take_name(alloc, &mut names, &field.name), Stop::OutOfMemory);
+        if !new {
             return Err(wrong(Problem::FieldNameTaken, declaration.left));
         }
         end = field.distance + field.size;
@@ -215,7 +216,7 @@ pub(crate) fn struct_of(
     if declared.fields.is_empty() {
         return Err(wrong(Problem::EmptyStruct, left));
     }
-    let layout = struct_fields(alloc, heads, bodies, space, &declared.fields)?;
-    let alignment = alignment_of(&declared.attributes, layout.alignment, left)?;
+    let layout = or_return!(struct_fields(alloc, heads, bodies, space, &declared.fields));
+    let alignment = or_return!(alignment_of(&declared.attributes, layout.alignment, left));
     Ok(layout.finished(alignment))
 }

@@ -27,7 +27,7 @@ ghost use Rattle.planus_schema.specs.WrongTables.{field_slot as field_slot_lem};
 
 use crate::attributes::{has, setting};
 use crate::defaults::default_of;
-use crate::fault::{Problem, Stop, wrong};
+use crate::fault::{Problem, Stop, or_return, wrong};
 use crate::heads::Heads;
 use crate::kind::{head_base, type_of};
 use crate::lookup::found;
@@ -116,8 +116,9 @@ fn table_named(
     ensures wrong { Tells (when (not (is_set (table_in (table_found (map head_of heads.now)
         (space_of space.entry) (Some text.now))))) Problem.NestedIsNoTable left) result }
 {
-    let path = path_of_text(alloc, text, left)?;
-    match found(alloc, heads, space, &path)? {
+    let path = or_return!(path_of_text(alloc, text, left), Stop::OutOfMemory);
+    let index = or_return!(found(alloc, heads, space, &path), Stop::OutOfMemory);
+    match index {
         Some(index) => match head_base(heads, index) {
             Some(Base::Table(table)) => Ok(table),
             _ => Err(wrong(Problem::NestedIsNoTable, left)),
@@ -142,7 +143,13 @@ fn nested_of(
     match setting(attributes, b"nested_flatbuffer") {
         Some(attribute) => match &attribute.value {
             Some(Literal::Text(text)) => {
-                let table = table_named(alloc, heads, space, text, attribute.label.left)?;
+                let table = or_return!(table_named(
+                    alloc,
+                    heads,
+                    space,
+                    text,
+                    attribute.label.left
+                ));
                 Ok(Some(table))
             }
             _ => Err(wrong(Problem::NestedIsNoTable, attribute.label.left)),
@@ -170,12 +177,13 @@ fn table_field(
     ensures wrong { Tells (wrong_field (map head_of heads.now) (space_of space.entry) ids next
         field.now) result }
 {
-    let kind = type_of(alloc, heads, space, &field.kind)?;
-    let slot = field_slot(field, kind, ids, next)?;
-    let default = default_of(alloc, heads, kind, &field.default, field.left)?;
-    let nested = nested_of(alloc, heads, space, &field.attributes)?;
-    let name = Vec::from_slice(alloc, &field.name)?;
-    let docs = copied(alloc, &field.docs)?;
+    let attributes = field.attributes.as_slice();
+    let kind = or_return!(type_of(alloc, heads, space, &field.kind));
+    let slot = or_return!(field_slot(field, kind, ids, next));
+    let default = or_return!(default_of(alloc, heads, kind, &field.default, field.left));
+    let nested = or_return!(nested_of(alloc, heads, space, attributes));
+    let name = or_return!(Vec::from_slice(alloc, &field.name), Stop::OutOfMemory);
+    let docs = or_return!(copied(alloc, &field.docs), Stop::OutOfMemory);
     let settled = TableField {
         name,
         docs,
@@ -183,11 +191,11 @@ fn table_field(
         slot,
         default,
         required: is_required(kind, field),
-        deprecated: has(&field.attributes, b"deprecated"),
-        key: has(&field.attributes, b"key"),
+        deprecated: has(attributes, b"deprecated"),
+        key: has(attributes, b"key"),
         nested,
     };
-    check_lawful(&settled, field.left)?;
+    or_return!(check_lawful(&settled, field.left));
     Ok(settled)
 }
 
@@ -203,9 +211,10 @@ fn take_names(
         ≡ not (are_among (names_of names.old.items) (names_taken field.now))) }
 {
     if is_union(field.kind) {
-        let mut name = Vec::from_slice(alloc, &field.name)?;
-        name.extend_from_slice(b"_type")?;
-        if !take_name(alloc, names, &name)? {
+        let mut name = or_return!(Vec::from_slice(alloc, &field.name));
+        or_return!(name.extend_from_slice(b"_type"));
+        let new = or_return!(take_name(alloc, names, &name));
+        if !new {
             return Ok(false);
         }
     }
@@ -229,7 +238,8 @@ fn add_names(
         (when (are_among (names_of names.old.items) (names_taken field.now))
         Problem.FieldNameTaken left) (when (field.now.key && key) Problem.SecondKey left)) result }
 {
-    if !take_names(alloc, names, field)? {
+    let new = or_return!(take_names(alloc, names, field), Stop::OutOfMemory);
+    if !new {
         return Err(wrong(Problem::FieldNameTaken, left));
     }
     if field.key && key {
@@ -263,8 +273,8 @@ fn table_fields(
         if next > 65535 {
             return Err(wrong(Problem::TooManySlots, declaration.left));
         }
-        let field = table_field(alloc, heads, space, declaration, ids, next)?;
-        key = add_names(alloc, &mut names, key, &field, declaration.left)?;
+        let field = or_return!(table_field(alloc, heads, space, declaration, ids, next));
+        key = or_return!(add_names(alloc, &mut names, key, &field, declaration.left));
         next += width(field.kind);
         fields.push(field)?;
     }
@@ -285,7 +295,7 @@ pub(crate) fn table_of(
         declared.now left) result }
 {
     let ids = has_ids(&declared.fields);
-    let fields = table_fields(alloc, heads, space, &declared.fields, ids)?;
-    check_slots(alloc, &fields, left)?;
+    let fields = or_return!(table_fields(alloc, heads, space, &declared.fields, ids));
+    or_return!(check_slots(alloc, &fields, left));
     Ok(Table { fields })
 }

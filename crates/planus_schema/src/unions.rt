@@ -13,7 +13,7 @@ ghost use Rattle.planus_schema.specs.WrongUnions.{target_path, wrong_member, wro
 ghost use Rattle.planus_schema.specs.WrongUnions.{wrong_union};
 ghost use Rattle.planus_layout.specs.Distinct.{AreDistinct, Each2};
 
-use crate::fault::{Problem, Stop, wrong};
+use crate::fault::{Problem, Stop, or_return, wrong};
 use crate::head::put_path;
 use crate::heads::Heads;
 use crate::kind::table_at;
@@ -71,15 +71,10 @@ fn member(
     ensures wrong { Tells (wrong_table Problem.MemberIsNoTable (map head_of heads.now)
         (space_of space.entry) (target_path declared.now)) result }
 {
-    let table = table_at(
-        alloc,
-        heads,
-        space,
-        target_of(declared),
-        Problem::MemberIsNoTable,
-    )?;
-    let name = name_of(alloc, &declared.path)?;
-    let docs = copied(alloc, &declared.docs)?;
+    let path = target_of(declared);
+    let table = or_return!(table_at(alloc, heads, space, path, Problem::MemberIsNoTable));
+    let name = or_return!(name_of(alloc, &declared.path), Stop::OutOfMemory);
+    let docs = or_return!(copied(alloc, &declared.docs), Stop::OutOfMemory);
     Ok(UnionMember {
         name,
         docs,
@@ -94,7 +89,6 @@ fn has_tag(members: &[UnionMember], tag: u8) -> bool
     members.iter().any(|member| member.tag == tag)
 }
 
-#[tactic(auto, using(crate::proofs::UnionLemmas::tags_any))]
 fn next_member(
     alloc: Global,
     heads: &Heads,
@@ -141,11 +135,12 @@ fn union_members(
     let mut members = Vec::new(alloc);
     let mut names = Vec::new(alloc);
     let mut previous = 0;
-    let none = Vec::from_slice(alloc, b"NONE")?;
+    let none = or_return!(Vec::from_slice(alloc, b"NONE"), Stop::OutOfMemory);
     names.push(none)?;
     'members: for member in declared {
-        let next = next_member(alloc, heads, space, member, previous, &members)?;
-        if !take_name(alloc, &mut names, &next.name)? {
+        let next = or_return!(next_member(alloc, heads, space, member, previous, &members));
+        let new = or_return!(take_name(alloc, &mut names, &next.name), Stop::OutOfMemory);
+        if !new {
             return Err(wrong(Problem::MemberNameTaken, member.path.left));
         }
         previous = next.tag;
@@ -166,6 +161,6 @@ pub(crate) fn union_of(
     ensures wrong { Tells (wrong_union (map head_of heads.now) (space_of space.entry) declared.now)
         result }
 {
-    let members = union_members(alloc, heads, space, &declared.members)?;
+    let members = or_return!(union_members(alloc, heads, space, &declared.members));
     Ok(Union { members })
 }

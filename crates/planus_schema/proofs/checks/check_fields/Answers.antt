@@ -1,6 +1,5 @@
 use Rattle.std.proofs.Common.{refl, sym, arith}
 use Rattle.std.proofs.lemmas.List.{drop_all}
-use Rattle.std.proofs.lemmas.Result.{err_from_is_err_and}
 use Rattle.planus_syntax.specs.Values.{names_of}
 use Rattle.planus_schema.specs.WrongServices.{wrong_in_fields}
 use Rattle.planus_schema.proofs.StructLemmas.{drop_next}
@@ -11,14 +10,13 @@ pub fields-preserved : goal.fields-preserved
 fields-preserved c =
     let r = drop_next c.args.fields.now c.fields.field-index c.field-item.result (omega arith) c.field-item.is in
     next_is (wrong_in_fields (names_of c.args.known.now)) _ _ _ c.field-item.result _ _ r refl c.fields.invariant
-    (rw c.deref.ensures.value at c.in_ok-check_attributes.ensures)
+    (rw c.deref.ensures.value at c.in-Ok.ensures)
 
-pub returns-in_err-check_attributes : goal.returns-in_err-check_attributes
-returns-in_err-check_attributes c =
+pub returns-in-Err : goal.returns-in-Err
+returns-in-Err c =
     let r = drop_next c.args.fields.now c.fields.field-index c.field-item.result (omega arith) c.field-item.is in
-    let p = err_from_is_err_and c.from_residual.result c.from_residual.ensures.1 in
-    rw (p.1, p.2) (first_stops (wrong_in_fields (names_of c.args.known.now)) _ _ _ c.field-item.result _ _ _ r refl c.fields.invariant
-    (rw c.deref.ensures.value at c.in_err-check_attributes.ensures))
+    first_stops (wrong_in_fields (names_of c.args.known.now)) _ _ _ c.field-item.result _ _ _ r refl c.fields.invariant
+    (rw c.deref.ensures.value at c.in-Err.ensures)
 
 pub returns : goal.returns
 returns c =

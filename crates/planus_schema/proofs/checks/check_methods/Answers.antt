@@ -1,6 +1,5 @@
 use Rattle.std.proofs.Common.{◌+◌, refl, ap, sym, ◌∙◌, map, drop, arith}
 use Rattle.std.proofs.lemmas.List.{drop_all}
-use Rattle.std.proofs.lemmas.Result.{err_from_is_err_and}
 use Rattle.planus_syntax.specs.Values.{names_of}
 use Rattle.planus_schema.specs.Names.{head_of, space_of}
 use Rattle.planus_schema.specs.WrongServices.{wrong_methods}
@@ -11,14 +10,13 @@ use Rattle.planus_schema.proofs.checks.check_methods.Goals as goal
 pub methods-preserved : goal.methods-preserved
 methods-preserved c =
     let r = drop_next c.args.methods.now c.methods.method-index c.method-item.result (omega arith) c.method-item.is in
-    ap (λ ns. wrong_methods (map head_of c.args.heads.now) (space_of c.args.space) (names_of c.args.known.now) ns (drop (c.methods.method-index + 1) c.args.methods.now)) c.in_ok-check_method.ensures.added
-    ∙ next_is (wrong_methods (map head_of c.args.heads.now) (space_of c.args.space) (names_of c.args.known.now) (names_of c.methods.names.items)) _ _ _ c.method-item.result _ _ r refl c.methods.invariant c.in_ok-check_method.ensures.wrong
+    ap (λ ns. wrong_methods (map head_of c.args.heads.now) (space_of c.args.space) (names_of c.args.known.now) ns (drop (c.methods.method-index + 1) c.args.methods.now)) c.in-Ok.ensures.added
+    ∙ next_is (wrong_methods (map head_of c.args.heads.now) (space_of c.args.space) (names_of c.args.known.now) (names_of c.methods.names.items)) _ _ _ c.method-item.result _ _ r refl c.methods.invariant c.in-Ok.ensures.wrong
 
-pub returns-in_err-check_method : goal.returns-in_err-check_method
-returns-in_err-check_method c =
+pub returns-in-Err : goal.returns-in-Err
+returns-in-Err c =
     let r = drop_next c.args.methods.now c.methods.method-index c.method-item.result (omega arith) c.method-item.is in
-    let p = err_from_is_err_and c.from_residual.result c.from_residual.ensures.1 in
-    rw (p.1, p.2) (first_stops (wrong_methods (map head_of c.args.heads.now) (space_of c.args.space) (names_of c.args.known.now) (names_of c.methods.names.items)) _ _ _ c.method-item.result _ _ _ r refl c.methods.invariant c.in_err-check_method.ensures.wrong)
+    first_stops (wrong_methods (map head_of c.args.heads.now) (space_of c.args.space) (names_of c.args.known.now) (names_of c.methods.names.items)) _ _ _ c.method-item.result _ _ _ r refl c.methods.invariant c.in-Err.ensures.wrong
 
 pub returns : goal.returns
 returns c =

@@ -1,4 +1,5 @@
 use Rattle.std.proofs.Common.{◌++◌, ap, sym, ◌∙◌, append_assoc, arith}
+use Rattle.std.proofs.lemmas.List.{append-nil, drop_all}
 use Rattle.planus_syntax.specs.Values.{names_of}
 use Rattle.planus_schema.specs.WrongServices.{customs_of}
 use Rattle.planus_schema.proofs.StructLemmas.{drop_next}
@@ -8,4 +9,12 @@ pub files-preserved : goal.files-preserved
 files-preserved c =
     let known = names_of c.files.known.items in
     let r = drop_next c.args.files.now c.files.declarations-index c.declarations-item.result (omega arith) c.declarations-item.is in
-    rw (c.in_ok-add_customs.ensures, c.deref.ensures.value) (append_assoc known _ _ ∙ ap (λ fs. known ++ customs_of fs) (sym r) ∙ c.files.invariant)
+    rw (c.in-Ok-add_customs.ensures, c.deref.ensures.value) (append_assoc known _ _ ∙ ap (λ fs. known ++ customs_of fs) (sym r) ∙ c.files.invariant)
+
+pub files-init : goal.files-init
+files-init c = ap (λ names. names ++ customs_of c.args.files.now) c.in-Ok.ensures
+
+pub returns : goal.returns
+returns c =
+    let d = drop_all c.files.declarations-index c.args.files.now (omega arith) in
+    sym (append-nil (names_of c.files.known.items)) ∙ rw d at c.files.invariant

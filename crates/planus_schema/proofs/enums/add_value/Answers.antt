@@ -15,8 +15,8 @@ pub returns-clause-added : goal.returns-clause-added
 returns-clause-added c =
     value_added c.args.scalar (variant_of c.args.variant.now) c.args.number
     c.args.values.now.items c.push.new.self.items _ c.in_ok-push.ensures.items
-    (c.in_ok-name.ensures.items ∙ c.deref-2.ensures.value)
-    (c.in_ok-docs.ensures ∙ ap names_of c.deref-3.ensures.value) refl
+    (c.in-Ok.ensures.items ∙ c.deref-2.ensures.value)
+    (c.in-Ok-copied.ensures ∙ ap names_of c.deref-3.ensures.value) refl
     (sym c.fits.ensures ∙ c.if-not-fits.false)
     (ap (list_any (λ (v : EnumValue). same_number v.number c.args.number)) (sym c.deref.ensures.value)
     ∙ sym c.has_number.ensures ∙ c.if-has_number.false)

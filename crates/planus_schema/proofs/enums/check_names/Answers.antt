@@ -25,20 +25,20 @@ variants-preserved c =
     let before = map variant_of (take c.variants.variant-index c.args.variants.now) in
     let t = map_next variant_of c.args.variants.now c.variants.variant-index v (omega arith) c.variant-item.is in
     let r = drop_next c.args.variants.now c.variants.variant-index c.variant-item.result (omega arith) c.variant-item.is in
-    let a = taken c.in_ok-take_name.field-0 names c.deref.result.now (names_of c.take_name.new.names.items) c.if-not-branch.false c.in_ok-take_name.ensures.taken in
+    let a = taken c.in-Ok.value names c.deref.result.now (names_of c.take_name.new.names.items) c.if-not-new.false c.in-Ok.ensures.taken in
     let added = a.added ∙ ap (λ w. names ++ w ∷ []) name in
     record {
       names = rw t (added ∙ ap (λ ns. ns ++ v.name.items ∷ []) i.names ∙ sym (map_push (λ (w : VariantV). w.name) before (variant_of v)));
-      wrong = value_names_next names _ v _ _ _ r i.wrong (ap (is_in names) (sym name) ∙ name_new _ _ c.if-not-branch.false c.in_ok-take_name.ensures.new) added;
+      wrong = value_names_next names _ v _ _ _ r i.wrong (ap (is_in names) (sym name) ∙ name_new _ _ c.if-not-new.false c.in-Ok.ensures.new) added;
       distinct = a.distinct i.distinct;
     }
 
-pub returns-then-not-branch-clause-wrong : goal.returns-then-not-branch-clause-wrong
-returns-then-not-branch-clause-wrong c =
+pub returns-then-not-new-clause-wrong : goal.returns-then-not-new-clause-wrong
+returns-then-not-new-clause-wrong c =
     let names = names_of c.variants.names.items in
     let r = drop_next c.args.variants.now c.variants.variant-index c.variant-item.result (omega arith) c.variant-item.is in
     rw c.wrong.ensures (value_name_stops names _ c.variant-item.result _ _ r c.variants.invariant.wrong
-    (ap (is_in names) (sym c.deref.ensures.value) ∙ name_used _ _ c.if-not-branch.true c.in_ok-take_name.ensures.new))
+    (ap (is_in names) (sym c.deref.ensures.value) ∙ name_used _ _ c.if-not-new.true c.in-Ok.ensures.new))
 
 pub returns-clause-distinct : goal.returns-clause-distinct
 returns-clause-distinct c =

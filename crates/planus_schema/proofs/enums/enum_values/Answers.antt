@@ -1,7 +1,6 @@
 use Rattle.std.proofs.Common.{◌++◌, ◌∷◌, [], refl, ap, sym, ◌∙◌, take, map, arith}
 use Rattle.std.specs.Prelude.{Some}
 use Rattle.std.proofs.lemmas.List.{append-nil, map_push, take_all, drop_all}
-use Rattle.std.proofs.lemmas.Result.{err_from_is_err_and}
 use Rattle.planus_syntax.specs.Values.{VariantV, variant_of, names_of}
 use Rattle.planus_schema.specs.Enums.{number_of_value}
 use Rattle.planus_schema.specs.WrongEnums.{value_said}
@@ -37,7 +36,7 @@ returns-clause-says c =
 pub variants-preserved : goal.variants-preserved
 variants-preserved c =
     let i = c.variants.invariant in
-    let a = c.in_ok-add_value.ensures.added in
+    let a = c.in-Ok.ensures.added in
     let v = c.variant-item.result in
     let before = map variant_of (take c.variants.variant-index c.args.variants.now) in
     let t = map_next variant_of c.args.variants.now c.variants.variant-index v (omega arith) c.variant-item.is in
@@ -50,7 +49,7 @@ variants-preserved c =
       numbers = rw a.numbers (numbers_next c.args.flags c.variants.previous (map number_of_value c.variants.values.items) _ (variant_of v) _ _ c.in-Some.number c.in-Some-value_of.value m i.numbers c.in-Some.ensures.number c.in-Some-value_of.ensures.value);
       wrong = values_next c.args.scalar c.args.flags c.variants.previous (map number_of_value c.variants.values.items) _ v _ _ c.in-Some.number c.in-Some-value_of.value _ r i.wrong
           (value_is c.args.flags c.variants.previous (variant_of v).value c.in-Some.number c.in-Some-value_of.value c.in-Some.ensures.said c.in-Some-value_of.ensures.said)
-          c.in_ok-add_value.ensures.wrong c.in-Some.ensures.number c.in-Some-value_of.ensures.value a.numbers;
+          c.in-Ok.ensures.wrong c.in-Some.ensures.number c.in-Some-value_of.ensures.value a.numbers;
       within = a.within i.within;
       distinct = a.distinct i.distinct;
     }
@@ -66,13 +65,12 @@ returns-in-None-value_of-clause-wrong c =
     rw c.wrong-in-None-value_of.ensures (no_value_stops c.args.scalar c.args.flags c.variants.previous (map number_of_value c.variants.values.items) _ c.variant-item.result _ _ r c.variants.invariant.wrong
     (ap (value_said c.args.flags) (sym c.in-Some.ensures.said) ∙ sym c.in-None-value_of.ensures.said))
 
-pub returns-in_err-add_value-clause-wrong : goal.returns-in_err-add_value-clause-wrong
-returns-in_err-add_value-clause-wrong c =
+pub returns-in-Err-clause-wrong : goal.returns-in-Err-clause-wrong
+returns-in-Err-clause-wrong c =
     let r = drop_next c.args.variants.now c.variants.variant-index c.variant-item.result (omega arith) c.variant-item.is in
-    let p = err_from_is_err_and c.from_residual.result c.from_residual.ensures.1 in
-    rw (p.1, p.2) (value_stops c.args.scalar c.args.flags c.variants.previous (map number_of_value c.variants.values.items) _ c.variant-item.result _ _ (Some c.in-Some-value_of.value) _ r c.variants.invariant.wrong
+    value_stops c.args.scalar c.args.flags c.variants.previous (map number_of_value c.variants.values.items) _ c.variant-item.result _ _ (Some c.in-Some-value_of.value) _ r c.variants.invariant.wrong
     (value_is c.args.flags c.variants.previous (variant_of c.variant-item.result).value c.in-Some.number c.in-Some-value_of.value c.in-Some.ensures.said c.in-Some-value_of.ensures.said)
-    c.in_err-add_value.ensures.wrong)
+    c.in-Err.ensures.wrong
 
 pub returns-clause-wrong : goal.returns-clause-wrong
 returns-clause-wrong c =

@@ -16,9 +16,9 @@ files-preserved c =
     let r = drop_next c.args.files.now c.files.declarations-index c.declarations-item.result (omega arith) c.declarations-item.is in
     record {
       index = ap (λ n. n + 1) i.index;
-      all = rw (c.in_ok-add_heads.ensures.heads, c.deref.ensures.value) (append_assoc heads _ _
+      all = rw (c.in-Ok.ensures.heads, c.deref.ensures.value) (append_assoc heads _ _
           ∙ ap (λ fs. heads ++ heads_from c.files.file (map (λ (f : Vec Declaration). schema_of f.items) fs)) (sym r) ∙ i.all);
-      placed = rw (c.in_ok-add_heads.ensures.placed, c.deref.ensures.value) (append_assoc placed _ _
+      placed = rw (c.in-Ok.ensures.placed, c.deref.ensures.value) (append_assoc placed _ _
           ∙ ap (λ fs. placed ++ placed_from c.files.file fs) (sym r) ∙ i.placed);
     }
 

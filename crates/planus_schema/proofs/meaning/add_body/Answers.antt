@@ -7,5 +7,5 @@ use Rattle.planus_schema.proofs.meaning.add_body.Goals as goal
 pub returns-clause-appended : goal.returns-clause-appended
 returns-clause-appended c =
     appended (head_of c.args.head.now) c.args.body c.args.declared.now.items c.push.new.self.items _
-    c.in_ok-push.ensures.items (c.in_ok-name.ensures.items ∙ c.deref.ensures.value)
-    (c.in_ok-docs.ensures ∙ ap names_of c.deref-2.ensures.value) refl refl
+    c.in_ok-push.ensures.items (c.in-Ok.ensures.items ∙ c.deref.ensures.value)
+    (c.in-Ok-copied.ensures ∙ ap names_of c.deref-2.ensures.value) refl refl

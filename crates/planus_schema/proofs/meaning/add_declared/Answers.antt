@@ -12,37 +12,38 @@ use Rattle.planus_schema.specs.Schemas.{SaysBody}
 use Rattle.planus_schema.proofs.SchemaLemmas.{declared_by}
 use Rattle.planus_schema.proofs.meaning.add_declared.Goals as goal
 
-pub returns-in_ok-add_body-in-Ok-clause-says : goal.returns-in_ok-add_body-in-Ok-clause-says
-returns-in_ok-add_body-in-Ok-clause-says c = λ _.
+pub returns-in-Ok-clause-says : goal.returns-in-Ok-clause-says
+returns-in-Ok-clause-says c =
     let hs = map head_of c.args.heads.now in
     let h = c.args.head.now in
-    declared_by hs (head_of h) c.in-Ok.body c.args.declared.now.items c.add_body.new.declared.items
-    c.in_ok-add_body-in-Ok.ensures.appended c.in-Ok.ensures.sound
-    (subst (λ ds. SaysBody hs (space_of h.space) (map body_in ds) (item_of h.declaration.now.item) c.in-Ok.body) c.deref.ensures.value c.in-Ok.ensures.says)
+    let said = subst (λ ds. SaysBody hs (space_of h.space) (map body_in ds) (item_of h.declaration.now.item) c.in-Ok.body) c.deref.ensures.value c.in-Ok.ensures.says in
+    on_ok_weaker c.add_body.result
+    (λ added _. declared_by hs (head_of h) c.in-Ok.body c.args.declared.now.items c.add_body.new.declared.items added c.in-Ok.ensures.sound said)
+    c.add_body.ensures.appended
 
-pub returns-in_ok-add_body-in-Ok-clause-adds : goal.returns-in_ok-add_body-in-Ok-clause-adds
-returns-in_ok-add_body-in-Ok-clause-adds c =
+pub returns-in-Ok-clause-adds : goal.returns-in-Ok-clause-adds
+returns-in-Ok-clause-adds c =
     let hs = map head_of c.args.heads.now in
     let h = c.args.head.now in
     let n = subst (λ ds. wrong_body hs (space_of h.space) (measures_of ds) (name_left h.declaration.now) h.declaration.now.item ≡ None) c.deref.ensures.value c.in-Ok.ensures.wrong in
-    adds_nothing c.args.faults.now.items _ c.requires (no_fault h.file _ n)
+    ok_anyway c.add_body.result _ (adds_nothing c.args.faults.now.items _ c.requires (no_fault h.file _ n))
 
-pub returns-in_ok-note-in-Err-clause-measures : goal.returns-in_ok-note-in-Err-clause-measures
-returns-in_ok-note-in-Err-clause-measures c =
+pub returns-in-Ok-note-clause-measures : goal.returns-in-Ok-note-clause-measures
+returns-in-Ok-note-clause-measures c =
     let hs = map head_of c.args.heads.now in
     let h = c.args.head.now in
     let old = measures_of c.args.declared.now.items in
     let item = h.declaration.now.item in
     let s = subst (λ ds. Stops (wrong_body hs (space_of h.space) (measures_of ds) (name_left h.declaration.now) item) c.in-Err.stop) c.deref.ensures.value c.in-Err.ensures.wrong in
     on_ok_weaker c.add_body-in-Err.result
-    (λ e. e ∙ ap (λ m. old ++ m ∷ []) (c.stand_in-body.ensures ∙ sym (byte_told (wrong_body hs (space_of h.space) old (name_left h.declaration.now) item) c.in-Err.stop (sound_measure hs (space_of h.space) old item) (byte_measure item) s c.in_ok-note-in-Err.ensures.told)))
+    (λ e. e ∙ ap (λ m. old ++ m ∷ []) (c.stand_in-body.ensures ∙ sym (byte_told (wrong_body hs (space_of h.space) old (name_left h.declaration.now) item) c.in-Err.stop (sound_measure hs (space_of h.space) old item) (byte_measure item) s c.in-Ok-note.ensures.told)))
     c.add_body-in-Err.ensures.measures
 
-pub returns-in_ok-note-in-Err-clause-adds : goal.returns-in_ok-note-in-Err-clause-adds
-returns-in_ok-note-in-Err-clause-adds c =
+pub returns-in-Ok-note-clause-adds : goal.returns-in-Ok-note-clause-adds
+returns-in-Ok-note-clause-adds c =
     let hs = map head_of c.args.heads.now in
     let h = c.args.head.now in
     let s = subst (λ ds. Stops (wrong_body hs (space_of h.space) (measures_of ds) (name_left h.declaration.now) h.declaration.now.item) c.in-Err.stop) c.deref.ensures.value c.in-Err.ensures.wrong in
     ok_anyway c.add_body-in-Err.result _
     (adds_told h.file _ c.in-Err.stop c.args.faults.now.items c.note.new.faults.items s
-    c.in_ok-note-in-Err.ensures.told c.in_ok-note-in-Err.ensures.adds)
+    c.in-Ok-note.ensures.told c.in-Ok-note.ensures.adds)

@@ -1,42 +1,10 @@
-use Rattle.std.proofs.Common.{◌≡◌, [], map, ap, sym, subst, ◌∙◌, arith}
-use Rattle.std.proofs.lemmas.Grind.{common_steps}
-use Rattle.std.specs.Global.{Vec}
-use Rattle.planus_syntax.specs.Values.{schema_of}
-use Rattle.planus_syntax.specs.declared.value.Declaration.{Declaration}
-use Rattle.planus_layout.specs.Distinct.{AreDistinct}
-use Rattle.planus_schema.specs.Schemas.{AreDeclared, after_files, no_statements}
-use Rattle.planus_schema.specs.Names.{HeadV, head_of}
-use Rattle.planus_schema.specs.Faults.{AreInOrder, placed_of}
-use Rattle.planus_schema.proofs.FaultLemmas.{all_found}
+use Rattle.std.proofs.Common.{ap, ◌∙◌, map}
+use Rattle.planus_schema.specs.Names.{head_of}
+use Rattle.planus_schema.specs.Faults.{placed_of}
 use Rattle.planus_schema.proofs.meaning.settle.Goals as goal
 
-pub returns-then-is_empty-clause-none : goal.returns-then-is_empty-clause-none
-returns-then-is_empty-clause-none c =
-    let list = c.in_ok-heads.ensures ∙ c.deref.ensures.value in
-    let found = all_found c.args.files.now c.in_ok-heads.heads c.new-faults.result.items _ _ c.statements.new.faults.items
-    c.new-faults.ensures.items (ap (map head_of) list ∙ c.in_ok-list.ensures.heads)
-    (ap (map placed_of) list ∙ c.in_ok-list.ensures.placed) c.in_ok-check_names.ensures.adds
-    c.in_ok-declarations.ensures.adds c.in_ok-statements.ensures.adds in
-    let none : c.statements.new.faults.items ≡ [] = grind (arith, common_steps) in
-    sym found ∙ none
+pub meaning_of-requires-clause-heads : goal.meaning_of-requires-clause-heads
+meaning_of-requires-clause-heads c = ap (map head_of) (c.in-Ok-new.ensures ∙ c.deref.ensures.value) ∙ c.in-Ok.ensures.heads
 
-pub returns-clause-exact : goal.returns-clause-exact
-returns-clause-exact c =
-    let list = c.in_ok-heads.ensures ∙ c.deref.ensures.value in
-    let found = all_found c.args.files.now c.in_ok-heads.heads c.new-faults.result.items _ _ c.statements.new.faults.items
-    c.new-faults.ensures.items (ap (map head_of) list ∙ c.in_ok-list.ensures.heads)
-    (ap (map placed_of) list ∙ c.in_ok-list.ensures.placed) c.in_ok-check_names.ensures.adds
-    c.in_ok-declarations.ensures.adds c.in_ok-statements.ensures.adds in
-    subst (λ fs. AreInOrder fs c.put_in_order.new.faults.items) found c.in_ok-put_in_order.ensures.order
-
-pub returns-then-is_empty-clause-means : goal.returns-then-is_empty-clause-means
-returns-then-is_empty-clause-means c =
-    let h = ap (map head_of) (c.in_ok-heads.ensures ∙ c.deref.ensures.value) ∙ c.in_ok-list.ensures.heads in
-    let none : c.statements.new.faults.items ≡ [] = grind (arith, common_steps) in
-    let before = c.in_ok-statements.ensures.kept none in
-    record {
-      declared = subst (λ hs. AreDeclared hs hs c.in_ok-declarations.declarations.items) h (c.in_ok-declarations.ensures.says before);
-      names = subst (λ hs. AreDistinct (map (λ (x : HeadV). x.name) hs)) h (c.in_ok-check_names.ensures.distinct (c.in_ok-declarations.ensures.kept before));
-      statements = c.in_ok-statements.ensures.said none ∙ ap (λ hs. after_files hs no_statements (map (λ (f : Vec Declaration). schema_of f.items) c.args.files.now)) h;
-      four = c.in_ok-statements.ensures.four none;
-    }
+pub meaning_of-requires-clause-placed : goal.meaning_of-requires-clause-placed
+meaning_of-requires-clause-placed c = ap (map placed_of) (c.in-Ok-new.ensures ∙ c.deref.ensures.value) ∙ c.in-Ok.ensures.placed

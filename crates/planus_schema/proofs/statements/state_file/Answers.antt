@@ -18,13 +18,13 @@ declarations-preserved c =
     let r = drop_next c.args.declarations.now c.declarations.declaration-index c.declaration-item.result (omega arith) c.declaration-item.is in
     record {
       said = λ e. ap (λ sp. after_file hs sp (said_of c.state_or_note.new.statements) (schema_of (drop (n + 1) ds))) c.space_after-space.ensures
-          ∙ ap (λ s. after_file hs (space_after (path_in c.declarations.space) (item_of c.declaration-item.result.item)) s (schema_of (drop (n + 1) ds))) (c.in_ok-state_or_note.ensures.said e)
-          ∙ ap (λ ds'. after_file hs (path_in c.declarations.space) (said_of c.declarations.statements) (schema_of ds')) (sym r) ∙ i.said (c.in_ok-state_or_note.ensures.kept e);
-      four = λ e f. c.in_ok-state_or_note.ensures.four e (i.four (c.in_ok-state_or_note.ensures.kept e) f);
-      kept = λ e. i.kept (c.in_ok-state_or_note.ensures.kept e);
-      most = c.in_ok-state_or_note.ensures.most;
+          ∙ ap (λ s. after_file hs (space_after (path_in c.declarations.space) (item_of c.declaration-item.result.item)) s (schema_of (drop (n + 1) ds))) (c.in-Ok.ensures.said e)
+          ∙ ap (λ ds'. after_file hs (path_in c.declarations.space) (said_of c.declarations.statements) (schema_of ds')) (sym r) ∙ i.said (c.in-Ok.ensures.kept e);
+      four = λ e f. c.in-Ok.ensures.four e (i.four (c.in-Ok.ensures.kept e) f);
+      kept = λ e. i.kept (c.in-Ok.ensures.kept e);
+      most = c.in-Ok.ensures.most;
       adds = ap (λ sp. first_twenty (c.state_or_note.new.faults.items ++ statement_faults hs known c.args.file sp (drop (n + 1) ds))) c.space_after-space.ensures
-          ∙ adds_next c.declarations.faults.items _ c.state_or_note.new.faults.items _ _ c.in_ok-state_or_note.ensures.adds
+          ∙ adds_next c.declarations.faults.items _ c.state_or_note.new.faults.items _ _ c.in-Ok.ensures.adds
           (ap (λ ds'. first_twenty (c.declarations.faults.items ++ statement_faults hs known c.args.file (path_in c.declarations.space) ds')) (sym r) ∙ c.declarations.invariant.adds);
     }
 

@@ -23,16 +23,16 @@ files-preserved c =
     let file = c.files.file in
     let d = c.declarations-item.result in
     let a = subst (λ cs. Adds (statement_faults hs cs file None d.items) old new) (ap names_of c.deref.ensures.value ∙ c.files.invariant.known)
-    (subst (λ ds. Adds (statement_faults hs (names_of c.deref.result.now) file None ds) old new) c.deref-in-files.ensures.value c.in_ok-state_file.ensures.adds) in
+    (subst (λ ds. Adds (statement_faults hs (names_of c.deref.result.now) file None ds) old new) c.deref-in-files.ensures.value c.in-Ok-state_file.ensures.adds) in
     record {
       index = ap (λ n. n + 1) i.index;
       said = λ e. ap (λ s. after_files hs s (map (λ (f : Vec Declaration). schema_of f.items) (drop (c.files.declarations-index + 1) c.args.files.now)))
-          (c.in_ok-state_file.ensures.said e ∙ ap (λ s. after_file hs None s (schema_of c.deref-in-files.result.now)) none
+          (c.in-Ok-state_file.ensures.said e ∙ ap (λ s. after_file hs None s (schema_of c.deref-in-files.result.now)) none
           ∙ ap (λ ds. after_file hs None no_statements (schema_of ds)) c.deref-in-files.ensures.value)
-          ∙ ap (λ fs. after_files hs (said_of c.files.statements) (map (λ (f : Vec Declaration). schema_of f.items) fs)) (sym r) ∙ i.said (c.in_ok-state_file.ensures.kept e);
-      four = λ e. c.in_ok-state_file.ensures.four e (subst (λ (s : StatementsV). IsFour s.identifier) (sym none) tt);
-      kept = λ e. i.kept (c.in_ok-state_file.ensures.kept e);
-      most = c.in_ok-state_file.ensures.most;
+          ∙ ap (λ fs. after_files hs (said_of c.files.statements) (map (λ (f : Vec Declaration). schema_of f.items) fs)) (sym r) ∙ i.said (c.in-Ok-state_file.ensures.kept e);
+      four = λ e. c.in-Ok-state_file.ensures.four e (subst (λ (s : StatementsV). IsFour s.identifier) (sym none) tt);
+      kept = λ e. i.kept (c.in-Ok-state_file.ensures.kept e);
+      most = c.in-Ok-state_file.ensures.most;
       adds = adds_next old (statement_faults hs (known_attributes c.args.files.now) file None d.items) new _ _ a
           (ap (λ fs. first_twenty (old ++ file_faults hs (known_attributes c.args.files.now) file fs)) (sym r) ∙ c.files.invariant.adds);
       known = c.files.invariant.known;

@@ -1,6 +1,5 @@
 use Rattle.std.proofs.Common.{◌++◌, ◌∷◌, [], refl, ap, sym, subst, ◌∙◌, take, map, max, arith}
 use Rattle.std.proofs.lemmas.List.{map_push, take_all, drop_all}
-use Rattle.std.proofs.lemmas.Result.{err_from_is_err_and}
 use Rattle.planus_layout.specs.Distinct.{AreDistinct, is_in}
 use Rattle.planus_schema.specs.Names.{head_of, space_of}
 use Rattle.planus_schema.specs.WrongStructs.{measures_of}
@@ -32,21 +31,21 @@ pub fields-preserved : goal.fields-preserved
 fields-preserved c =
     let i = c.fields.invariant in
     let e = c.in_ok-push.ensures.items in
-    let f = c.in_ok-field.field in
+    let f = c.in-Ok.value in
     let fs = c.fields.fields.items in
     let t = map_next field_of c.args.declared.now c.fields.declaration-index c.declaration-item.result (omega arith) c.declaration-item.is in
     let r = drop_next c.args.declared.now c.fields.declaration-index c.declaration-item.result (omega arith) c.declaration-item.is in
-    let name = c.deref.ensures.value ∙ c.in_ok-field.ensures.says.name in
-    let a = taken c.in_ok-take_name.field-0 (names_of c.fields.names.items) c.deref.result.now (names_of c.take_name.new.names.items) c.if-not-branch.false c.in_ok-take_name.ensures.taken in
+    let name = c.deref.ensures.value ∙ c.in-Ok.ensures.says.name in
+    let a = taken c.in-Ok-take_name.value (names_of c.fields.names.items) c.deref.result.now (names_of c.take_name.new.names.items) c.if-not-new.false c.in-Ok-take_name.ensures.taken in
     record {
-      says = rw (t, e) (each2_push _ (map field_of (take c.fields.declaration-index c.args.declared.now)) fs (field_of c.declaration-item.result) f i.says c.in_ok-field.ensures.says);
-      laid = rw e (laid_push 0 fs c.fields.end f i.laid c.in_ok-field.ensures.placed);
-      within = c.in_ok-field.ensures.within;
+      says = rw (t, e) (each2_push _ (map field_of (take c.fields.declaration-index c.args.declared.now)) fs (field_of c.declaration-item.result) f i.says c.in-Ok.ensures.says);
+      laid = rw e (laid_push 0 fs c.fields.end f i.laid c.in-Ok.ensures.placed);
+      within = c.in-Ok.ensures.within;
       greatest = c.greater-alignment.ensures ∙ ap (λ n. max n f.alignment) i.greatest ∙ sym (greatest_push fs f) ∙ ap greatest_alignment (sym e);
-      ends = end_next (map head_of c.args.heads.now) (space_of c.args.space) (measures_of c.args.bodies.now) c.fields.end _ c.declaration-item.result _ _ _ r i.ends c.in_ok-field.ensures.next;
-      aligns = greatest_next (map head_of c.args.heads.now) (space_of c.args.space) (measures_of c.args.bodies.now) c.fields.alignment _ c.declaration-item.result _ _ f.alignment _ r i.aligns c.greater-alignment.ensures c.in_ok-field.ensures.alignment;
-      wrong = struct_fields_next (map head_of c.args.heads.now) (space_of c.args.space) (measures_of c.args.bodies.now) c.fields.end (names_of c.fields.names.items) _ c.declaration-item.result _ _ _ _ r i.wrong c.in_ok-field.ensures.wrong
-          (ap (is_in (names_of c.fields.names.items)) (sym name) ∙ name_new _ _ c.if-not-branch.false c.in_ok-take_name.ensures.new) c.in_ok-field.ensures.next
+      ends = end_next (map head_of c.args.heads.now) (space_of c.args.space) (measures_of c.args.bodies.now) c.fields.end _ c.declaration-item.result _ _ _ r i.ends c.in-Ok.ensures.next;
+      aligns = greatest_next (map head_of c.args.heads.now) (space_of c.args.space) (measures_of c.args.bodies.now) c.fields.alignment _ c.declaration-item.result _ _ f.alignment _ r i.aligns c.greater-alignment.ensures c.in-Ok.ensures.alignment;
+      wrong = struct_fields_next (map head_of c.args.heads.now) (space_of c.args.space) (measures_of c.args.bodies.now) c.fields.end (names_of c.fields.names.items) _ c.declaration-item.result _ _ _ _ r i.wrong c.in-Ok.ensures.wrong
+          (ap (is_in (names_of c.fields.names.items)) (sym name) ∙ name_new _ _ c.if-not-new.false c.in-Ok-take_name.ensures.new) c.in-Ok.ensures.next
           (a.added ∙ ap (λ w. names_of c.fields.names.items ++ w ∷ []) name);
       names = a.added ∙ ap (λ w. names_of c.fields.names.items ++ w ∷ []) c.deref.ensures.value
           ∙ ap (λ ns. ns ++ f.name.items ∷ []) i.names
@@ -54,17 +53,16 @@ fields-preserved c =
       distinct = a.distinct i.distinct;
     }
 
-pub returns-in_err-field-clause-wrong : goal.returns-in_err-field-clause-wrong
-returns-in_err-field-clause-wrong c =
+pub returns-in-Err-clause-wrong : goal.returns-in-Err-clause-wrong
+returns-in-Err-clause-wrong c =
     let r = drop_next c.args.declared.now c.fields.declaration-index c.declaration-item.result (omega arith) c.declaration-item.is in
-    let p = err_from_is_err_and c.from_residual.result c.from_residual.ensures.1 in
-    rw (p.1, p.2) (struct_field_stops (map head_of c.args.heads.now) (space_of c.args.space) (measures_of c.args.bodies.now) c.fields.end (names_of c.fields.names.items) _ c.declaration-item.result _ _ _ r c.fields.invariant.wrong c.in_err-field.ensures.wrong)
+    struct_field_stops (map head_of c.args.heads.now) (space_of c.args.space) (measures_of c.args.bodies.now) c.fields.end (names_of c.fields.names.items) _ c.declaration-item.result _ _ _ r c.fields.invariant.wrong c.in-Err.ensures.wrong
 
-pub returns-then-not-branch-clause-wrong : goal.returns-then-not-branch-clause-wrong
-returns-then-not-branch-clause-wrong c =
+pub returns-then-not-new-clause-wrong : goal.returns-then-not-new-clause-wrong
+returns-then-not-new-clause-wrong c =
     let r = drop_next c.args.declared.now c.fields.declaration-index c.declaration-item.result (omega arith) c.declaration-item.is in
-    rw c.wrong.ensures (struct_name_stops (map head_of c.args.heads.now) (space_of c.args.space) (measures_of c.args.bodies.now) c.fields.end (names_of c.fields.names.items) _ c.declaration-item.result _ _ r c.fields.invariant.wrong c.in_ok-field.ensures.wrong
-    (ap (is_in (names_of c.fields.names.items)) (sym (c.deref.ensures.value ∙ c.in_ok-field.ensures.says.name)) ∙ name_used _ _ c.if-not-branch.true c.in_ok-take_name.ensures.new))
+    rw c.wrong.ensures (struct_name_stops (map head_of c.args.heads.now) (space_of c.args.space) (measures_of c.args.bodies.now) c.fields.end (names_of c.fields.names.items) _ c.declaration-item.result _ _ r c.fields.invariant.wrong c.in-Ok.ensures.wrong
+    (ap (is_in (names_of c.fields.names.items)) (sym (c.deref.ensures.value ∙ c.in-Ok.ensures.says.name)) ∙ name_used _ _ c.if-not-new.true c.in-Ok-take_name.ensures.new))
 
 pub returns-clause-says : goal.returns-clause-says
 returns-clause-says c =

@@ -1,6 +1,5 @@
 use Rattle.std.proofs.Common.{◌≡◌, false, length, map, ap, sym, subst, ◌∙◌, arith}
 use Rattle.std.specs.Prelude.{codes, vec_len, ◌==◌}
-use Rattle.std.proofs.lemmas.Result.{err_from_is_err_and}
 use Rattle.planus_syntax.specs.Values.{attribute_of}
 use Rattle.planus_layout.specs.Layouts.{greatest_alignment}
 use Rattle.planus_schema.specs.declared.fault.Problem.TheVariants as problem
@@ -17,32 +16,30 @@ returns-then-is_empty-clause-wrong c =
     let same : length c.args.declared.now.fields.items ≡ vec_len c.args.declared.now.fields = omega (arith, c.args.declared.now.fields.ok.0) in
     rw c.wrong.ensures (stops_now _ problem.EmptyStruct c.args.left _ (empty_is c.args.declared.now.fields.items ∙ ap (λ n. n == 0) same ∙ sym c.is_empty.ensures ∙ c.if-is_empty.true))
 
-pub returns-in_err-layout-clause-wrong : goal.returns-in_err-layout-clause-wrong
-returns-in_err-layout-clause-wrong c =
-    let p = err_from_is_err_and c.from_residual.result c.from_residual.ensures.1 in
-    let e = c.in_err-layout.field-0.0 in
+pub returns-in-Err-clause-wrong : goal.returns-in-Err-clause-wrong
+returns-in-Err-clause-wrong c =
+    let e = c.in-Err.error in
     let same : length c.args.declared.now.fields.items ≡ vec_len c.args.declared.now.fields = omega (arith, c.args.declared.now.fields.ok.0) in
     let some : is_empty c.args.declared.now.fields.items ≡ false = empty_is c.args.declared.now.fields.items ∙ ap (λ n. n == 0) same ∙ sym c.is_empty.ensures ∙ c.if-is_empty.false in
-    rw (p.1, p.2) (stops_next _ _ e (passes _ problem.EmptyStruct c.args.left some)
-    (stops_first _ _ e (rw c.deref.ensures.value at c.in_err-layout.ensures.wrong)))
+    stops_next _ _ e (passes _ problem.EmptyStruct c.args.left some)
+    (stops_first _ _ e (rw c.deref.ensures.value at c.in-Err.ensures.wrong))
 
-pub returns-in_err-alignment-clause-wrong : goal.returns-in_err-alignment-clause-wrong
-returns-in_err-alignment-clause-wrong c =
-    let p = err_from_is_err_and c.from_residual-in_err-alignment.result c.from_residual-in_err-alignment.ensures.1 in
-    let e = c.in_err-alignment.field-0.0 in
+pub returns-in-Err-alignment_of-clause-wrong : goal.returns-in-Err-alignment_of-clause-wrong
+returns-in-Err-alignment_of-clause-wrong c =
+    let e = c.in-Err-alignment_of.error in
     let same : length c.args.declared.now.fields.items ≡ vec_len c.args.declared.now.fields = omega (arith, c.args.declared.now.fields.ok.0) in
     let some : is_empty c.args.declared.now.fields.items ≡ false = empty_is c.args.declared.now.fields.items ∙ ap (λ n. n == 0) same ∙ sym c.is_empty.ensures ∙ c.if-is_empty.false in
-    rw (p.1, p.2) (stops_next _ _ e (passes _ problem.EmptyStruct c.args.left some)
-    (stops_next _ _ e (rw c.deref.ensures.value at c.in_ok-layout.ensures.wrong)
+    stops_next _ _ e (passes _ problem.EmptyStruct c.args.left some)
+    (stops_next _ _ e (rw c.deref.ensures.value at c.in-Ok.ensures.wrong)
     (subst (λ n. Stops (wrong_alignment n c.args.left (attribute_named (codes "force_align") c.args.declared.now.attributes.items)) e)
-    (rw c.deref.ensures.value at c.in_ok-layout.ensures.alignment) (rw c.deref-2.ensures.value at c.in_err-alignment.ensures.wrong))))
+    (rw c.deref.ensures.value at c.in-Ok.ensures.alignment) (rw c.deref-2.ensures.value at c.in-Err-alignment_of.ensures.wrong)))
 
 pub returns-clause-says : goal.returns-clause-says
 returns-clause-says c = record {
-  fields = rw c.finished.ensures.fields (rw c.deref.ensures.value at c.in_ok-layout.ensures.says);
-  alignment = c.finished.ensures.alignment ∙ (rw c.deref-2.ensures.value at c.in_ok-alignment.ensures.said)
+  fields = rw c.finished.ensures.fields (rw c.deref.ensures.value at c.in-Ok.ensures.says);
+  alignment = c.finished.ensures.alignment ∙ (rw c.deref-2.ensures.value at c.in-Ok-alignment_of.ensures.said)
       ∙ ap (alignment_said (setting (codes "force_align") (map attribute_of c.args.declared.now.attributes.items)))
-      (c.in_ok-layout.ensures.greatest ∙ ap greatest_alignment (sym c.finished.ensures.fields));
+      (c.in-Ok.ensures.greatest ∙ ap greatest_alignment (sym c.finished.ensures.fields));
 }
 
 pub returns-clause-wrong : goal.returns-clause-wrong
@@ -50,7 +47,7 @@ returns-clause-wrong c =
     let same : length c.args.declared.now.fields.items ≡ vec_len c.args.declared.now.fields = omega (arith, c.args.declared.now.fields.ok.0) in
     let some : is_empty c.args.declared.now.fields.items ≡ false = empty_is c.args.declared.now.fields.items ∙ ap (λ n. n == 0) same ∙ sym c.is_empty.ensures ∙ c.if-is_empty.false in
     skip _ _ (passes _ problem.EmptyStruct c.args.left some)
-    ∙ skip _ _ (rw c.deref.ensures.value at c.in_ok-layout.ensures.wrong)
+    ∙ skip _ _ (rw c.deref.ensures.value at c.in-Ok.ensures.wrong)
     ∙ ap (λ n. wrong_alignment n c.args.left (attribute_named (codes "force_align") c.args.declared.now.attributes.items))
-    (sym (rw c.deref.ensures.value at c.in_ok-layout.ensures.alignment))
-    ∙ (rw c.deref-2.ensures.value at c.in_ok-alignment.ensures.wrong)
+    (sym (rw c.deref.ensures.value at c.in-Ok.ensures.alignment))
+    ∙ (rw c.deref-2.ensures.value at c.in-Ok-alignment_of.ensures.wrong)

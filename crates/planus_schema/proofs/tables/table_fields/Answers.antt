@@ -1,6 +1,5 @@
 use Rattle.std.proofs.Common.{◌≡◌, false, ◌+◌, ◌++◌, drop, refl, ap, sym, subst, ◌∙◌, take, map, arith}
 use Rattle.std.specs.Prelude.{nat_le}
-use Rattle.std.proofs.lemmas.Result.{err_from_is_err_and}
 use Rattle.std.proofs.lemmas.List.{append-nil, take_all, drop_all}
 use Rattle.planus_layout.specs.Distinct.{AreDistinct}
 use Rattle.planus_layout.specs.Slots.{slots_taken}
@@ -32,21 +31,21 @@ pub fields-preserved : goal.fields-preserved
 fields-preserved c =
     let i = c.fields.invariant in
     let e = c.in_ok-push.ensures.items in
-    let f = c.in_ok-field.field in
+    let f = c.in-Ok.value in
     let fs = c.fields.fields.items in
     let t = map_next field_of c.args.declared.now c.fields.declaration-index c.declaration-item.result (omega arith) c.declaration-item.is in
     let r = drop_next c.args.declared.now c.fields.declaration-index c.declaration-item.result (omega arith) c.declaration-item.is in
-    let a = c.in_ok-key.ensures.named in
+    let a = c.in-Ok-add_names.ensures.named in
     let after = after_is (map head_of c.args.heads.now) (space_of c.args.space) c.args.ids c.fields.next c.fields.key (names_of c.fields.names.items) (drop c.fields.declaration-index c.args.declared.now) c.declaration-item.result (drop (c.fields.declaration-index + 1) c.args.declared.now) _ f
-    (record { here = r; low = le-leb c.fields.next 65535 c.if-next-gt65535.false; field = c.in_ok-field.ensures.wrong; same = i.wrong })
-    c.in_ok-field.ensures.kind c.in_ok-field.ensures.says.key (names_are f c.declaration-item.result (field_type (map head_of c.args.heads.now) (space_of c.args.space) c.declaration-item.result) c.in_ok-field.ensures.kind c.in_ok-field.ensures.says.name) in
+    (record { here = r; low = le-leb c.fields.next 65535 c.if-next-gt65535.false; field = c.in-Ok.ensures.wrong; same = i.wrong })
+    c.in-Ok.ensures.kind c.in-Ok.ensures.says.key (names_are f c.declaration-item.result (field_type (map head_of c.args.heads.now) (space_of c.args.space) c.declaration-item.result) c.in-Ok.ensures.kind c.in-Ok.ensures.says.name) in
     record {
-      says = rw (t, e) (each2_push _ (map field_of (take c.fields.declaration-index c.args.declared.now)) fs (field_of c.declaration-item.result) f i.says c.in_ok-field.ensures.says);
-      order = λ no. rw (e, c.width-next.ensures) (follow_push 0 fs c.fields.next f (i.order no) (c.in_ok-field.ensures.order no));
-      lawful = rw e (lawful_push fs f i.lawful c.in_ok-field.ensures.lawful);
-      slots = rw (e, c.width-next.ensures) (slots_next (map head_of c.args.heads.now) (space_of c.args.space) c.args.ids c.fields.next fs f c.declaration-item.result (drop c.fields.declaration-index c.args.declared.now) (drop (c.fields.declaration-index + 1) c.args.declared.now) _ r c.in_ok-field.ensures.kind c.in_ok-field.ensures.slot i.slots);
+      says = rw (t, e) (each2_push _ (map field_of (take c.fields.declaration-index c.args.declared.now)) fs (field_of c.declaration-item.result) f i.says c.in-Ok.ensures.says);
+      order = λ no. rw (e, c.width-next.ensures) (follow_push 0 fs c.fields.next f (i.order no) (c.in-Ok.ensures.order no));
+      lawful = rw e (lawful_push fs f i.lawful c.in-Ok.ensures.lawful);
+      slots = rw (e, c.width-next.ensures) (slots_next (map head_of c.args.heads.now) (space_of c.args.space) c.args.ids c.fields.next fs f c.declaration-item.result (drop c.fields.declaration-index c.args.declared.now) (drop (c.fields.declaration-index + 1) c.args.declared.now) _ r c.in-Ok.ensures.kind c.in-Ok.ensures.slot i.slots);
       wrong = nothing_wrong (map head_of c.args.heads.now) (space_of c.args.space) c.args.ids c.fields.next c.fields.key (names_of c.fields.names.items) c.declaration-item.result (drop (c.fields.declaration-index + 1) c.args.declared.now) _ f _ _ _
-          after c.in_ok-key.ensures.new c.in_ok-key.ensures.first a.added c.in_ok-key.ensures.key (ap (λ n. c.fields.next + n) c.width-next.ensures);
+          after c.in-Ok-add_names.ensures.new c.in-Ok-add_names.ensures.first a.added c.in-Ok-add_names.ensures.key (ap (λ n. c.fields.next + n) c.width-next.ensures);
       names = a.added ∙ ap (λ ns. ns ++ names_taken f) i.names ∙ sym (names_push fs f) ∙ ap all_names (sym e);
       distinct = a.distinct i.distinct;
     }
@@ -57,20 +56,18 @@ returns-then-next-gt65535-clause-wrong c =
     let high : nat_le c.fields.next 65535 ≡ false = lt-leb c.fields.next 65535 c.if-next-gt65535.true in
     rw c.wrong.ensures (slot_stops (map head_of c.args.heads.now) (space_of c.args.space) c.args.ids c.fields.next c.fields.key (names_of c.fields.names.items) _ c.declaration-item.result _ _ r high c.fields.invariant.wrong)
 
-pub returns-in_err-field-clause-wrong : goal.returns-in_err-field-clause-wrong
-returns-in_err-field-clause-wrong c =
+pub returns-in-Err-clause-wrong : goal.returns-in-Err-clause-wrong
+returns-in-Err-clause-wrong c =
     let r = drop_next c.args.declared.now c.fields.declaration-index c.declaration-item.result (omega arith) c.declaration-item.is in
-    let p = err_from_is_err_and c.from_residual.result c.from_residual.ensures.1 in
-    rw (p.1, p.2) (field_stops (map head_of c.args.heads.now) (space_of c.args.space) c.args.ids c.fields.next c.fields.key (names_of c.fields.names.items) _ c.declaration-item.result _ _ _ r (le-leb c.fields.next 65535 c.if-next-gt65535.false) c.fields.invariant.wrong c.in_err-field.ensures.wrong)
+    field_stops (map head_of c.args.heads.now) (space_of c.args.space) c.args.ids c.fields.next c.fields.key (names_of c.fields.names.items) _ c.declaration-item.result _ _ _ r (le-leb c.fields.next 65535 c.if-next-gt65535.false) c.fields.invariant.wrong c.in-Err.ensures.wrong
 
-pub returns-in_err-key-clause-wrong : goal.returns-in_err-key-clause-wrong
-returns-in_err-key-clause-wrong c =
+pub returns-in-Err-add_names-clause-wrong : goal.returns-in-Err-add_names-clause-wrong
+returns-in-Err-add_names-clause-wrong c =
     let r = drop_next c.args.declared.now c.fields.declaration-index c.declaration-item.result (omega arith) c.declaration-item.is in
-    let after = after_is (map head_of c.args.heads.now) (space_of c.args.space) c.args.ids c.fields.next c.fields.key (names_of c.fields.names.items) (drop c.fields.declaration-index c.args.declared.now) c.declaration-item.result (drop (c.fields.declaration-index + 1) c.args.declared.now) _ c.in_ok-field.field
-    (record { here = r; low = le-leb c.fields.next 65535 c.if-next-gt65535.false; field = c.in_ok-field.ensures.wrong; same = c.fields.invariant.wrong })
-    c.in_ok-field.ensures.kind c.in_ok-field.ensures.says.key (names_are c.in_ok-field.field c.declaration-item.result (field_type (map head_of c.args.heads.now) (space_of c.args.space) c.declaration-item.result) c.in_ok-field.ensures.kind c.in_ok-field.ensures.says.name) in
-    let p = err_from_is_err_and c.from_residual-in_err-key.result c.from_residual-in_err-key.ensures.1 in
-    rw (p.1, p.2) (names_stop (map head_of c.args.heads.now) (space_of c.args.space) c.args.ids c.fields.next c.fields.key (names_of c.fields.names.items) c.in_ok-field.field c.declaration-item.result _ _ _ after c.in_err-key.ensures.wrong)
+    let after = after_is (map head_of c.args.heads.now) (space_of c.args.space) c.args.ids c.fields.next c.fields.key (names_of c.fields.names.items) (drop c.fields.declaration-index c.args.declared.now) c.declaration-item.result (drop (c.fields.declaration-index + 1) c.args.declared.now) _ c.in-Ok.value
+    (record { here = r; low = le-leb c.fields.next 65535 c.if-next-gt65535.false; field = c.in-Ok.ensures.wrong; same = c.fields.invariant.wrong })
+    c.in-Ok.ensures.kind c.in-Ok.ensures.says.key (names_are c.in-Ok.value c.declaration-item.result (field_type (map head_of c.args.heads.now) (space_of c.args.space) c.declaration-item.result) c.in-Ok.ensures.kind c.in-Ok.ensures.says.name) in
+    names_stop (map head_of c.args.heads.now) (space_of c.args.space) c.args.ids c.fields.next c.fields.key (names_of c.fields.names.items) c.in-Ok.value c.declaration-item.result _ _ _ after c.in-Err-add_names.ensures.wrong
 
 pub returns-clause-says : goal.returns-clause-says
 returns-clause-says c =

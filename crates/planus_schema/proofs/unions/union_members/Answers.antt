@@ -1,5 +1,4 @@
 use Rattle.std.proofs.Common.{◌≡◌, ◌+◌, ◌++◌, ◌∷◌, [], refl, ap, sym, subst, ◌∙◌, take, drop, map, arith}
-use Rattle.std.proofs.lemmas.Result.{err_from_is_err_and}
 use Rattle.std.specs.Prelude.{codes, nat_eq}
 use Rattle.std.specs.List.{list_any}
 use Rattle.std.proofs.lemmas.List.{map_push, append-nil, take_all, drop_all}
@@ -16,7 +15,7 @@ use Rattle.planus_schema.proofs.unions.union_members.Goals as goal
 pub members-init : goal.members-init
 members-init c =
     let e = c.new-members.ensures.items in
-    let n : names_of c.push.new.self.items ≡ codes "NONE" ∷ [] = ap names_of (c.in_ok-push.ensures.items ∙ ap (λ ns. ns ++ c.in_ok-none.none ∷ []) c.new-names.ensures.items) ∙ ap (λ w. w ∷ []) c.in_ok-none.ensures.items in
+    let n : names_of c.push.new.self.items ≡ codes "NONE" ∷ [] = ap names_of (c.in_ok-push.ensures.items ∙ ap (λ ns. ns ++ c.in-Ok.value ∷ []) c.new-names.ensures.items) ∙ ap (λ w. w ∷ []) c.in-Ok.ensures.items in
     record {
       says = rw e tt;
       tags = rw e refl;
@@ -31,41 +30,40 @@ pub members-preserved : goal.members-preserved
 members-preserved c =
     let i = c.members.invariant in
     let e = c.in_ok-push-2.ensures.items in
-    let m = c.in_ok-next.next in
+    let m = c.in-Ok-next_member.value in
     let ms = c.members.members.items in
     let ds = c.args.declared.now in
     let n = c.members.member-index in
     let t = map_next member_of ds n c.member-item.result (omega arith) c.member-item.is in
     let r = map_rest member_of ds n c.member-item.result (omega arith) c.member-item.is in
     let d = drop_next c.args.declared.now c.members.member-index c.member-item.result (omega arith) c.member-item.is in
-    let name = c.deref-in-members.ensures.value ∙ c.in_ok-next.ensures.says.name in
-    let a = taken c.in_ok-take_name.field-0 (names_of c.members.names.items) c.deref-in-members.result.now (names_of c.take_name.new.names.items) c.if-not-branch.false c.in_ok-take_name.ensures.taken in
+    let name = c.deref-in-members.ensures.value ∙ c.in-Ok-next_member.ensures.says.name in
+    let a = taken c.in-Ok-take_name.value (names_of c.members.names.items) c.deref-in-members.result.now (names_of c.take_name.new.names.items) c.if-not-new.false c.in-Ok-take_name.ensures.taken in
     let p : map tag_in c.push-in-members.new.self.items ≡ map tag_in ms ++ m.tag ∷ [] = ap (map tag_in) e ∙ map_push tag_in ms m in
     record {
-      says = rw (t, e) (each2_push _ (map member_of (take n ds)) ms (member_of c.member-item.result) m i.says c.in_ok-next.ensures.says);
-      tags = rw p (tags_next (map tag_in ms) m.tag c.members.previous (member_of c.member-item.result) (map member_of (drop n ds)) (map member_of (drop (n + 1) ds)) _ r c.in_ok-next.ensures.tag i.tags);
-      within = rw p (tags_within (map tag_in ms) m.tag i.within c.in_ok-next.ensures.within);
-      distinct = rw p (tags_apart ms m.tag (ap (list_any (λ (x : UnionMember). nat_eq x.tag m.tag)) (sym c.deref.ensures.value) ∙ c.in_ok-next.ensures.new) i.distinct);
+      says = rw (t, e) (each2_push _ (map member_of (take n ds)) ms (member_of c.member-item.result) m i.says c.in-Ok-next_member.ensures.says);
+      tags = rw p (tags_next (map tag_in ms) m.tag c.members.previous (member_of c.member-item.result) (map member_of (drop n ds)) (map member_of (drop (n + 1) ds)) _ r c.in-Ok-next_member.ensures.tag i.tags);
+      within = rw p (tags_within (map tag_in ms) m.tag i.within c.in-Ok-next_member.ensures.within);
+      distinct = rw p (tags_apart ms m.tag (ap (list_any (λ (x : UnionMember). nat_eq x.tag m.tag)) (sym c.deref.ensures.value) ∙ c.in-Ok-next_member.ensures.new) i.distinct);
       names = a.added ∙ ap (λ w. names_of c.members.names.items ++ w ∷ []) c.deref-in-members.ensures.value
           ∙ ap (λ ns. ns ++ m.name.items ∷ []) i.names
           ∙ ap (λ ns. codes "NONE" ∷ ns) (sym (map_push (λ (x : UnionMember). x.name.items) ms m) ∙ ap (map (λ (x : UnionMember). x.name.items)) (sym e));
-      wrong = members_next (map head_of c.args.heads.now) (space_of c.args.space) c.members.previous (map tag_in c.members.members.items) (names_of c.members.names.items) _ c.member-item.result _ _ m.tag _ _ d i.wrong (rw c.deref.ensures.value at c.in_ok-next.ensures.wrong)
-          (ap (is_in (names_of c.members.names.items)) (sym name) ∙ name_new _ _ c.if-not-branch.false c.in_ok-take_name.ensures.new) c.in_ok-next.ensures.tag p
+      wrong = members_next (map head_of c.args.heads.now) (space_of c.args.space) c.members.previous (map tag_in c.members.members.items) (names_of c.members.names.items) _ c.member-item.result _ _ m.tag _ _ d i.wrong (rw c.deref.ensures.value at c.in-Ok-next_member.ensures.wrong)
+          (ap (is_in (names_of c.members.names.items)) (sym name) ∙ name_new _ _ c.if-not-new.false c.in-Ok-take_name.ensures.new) c.in-Ok-next_member.ensures.tag p
           (a.added ∙ ap (λ w. names_of c.members.names.items ++ w ∷ []) name);
       apart = a.distinct i.apart;
     }
 
-pub returns-in_err-next-clause-wrong : goal.returns-in_err-next-clause-wrong
-returns-in_err-next-clause-wrong c =
+pub returns-in-Err-next_member-clause-wrong : goal.returns-in-Err-next_member-clause-wrong
+returns-in-Err-next_member-clause-wrong c =
     let d = drop_next c.args.declared.now c.members.member-index c.member-item.result (omega arith) c.member-item.is in
-    let p = err_from_is_err_and c.from_residual-in_err-next.result c.from_residual-in_err-next.ensures.1 in
-    rw (p.1, p.2) (member_stops (map head_of c.args.heads.now) (space_of c.args.space) c.members.previous (map tag_in c.members.members.items) (names_of c.members.names.items) _ c.member-item.result _ _ _ d c.members.invariant.wrong (rw c.deref.ensures.value at c.in_err-next.ensures.wrong))
+    member_stops (map head_of c.args.heads.now) (space_of c.args.space) c.members.previous (map tag_in c.members.members.items) (names_of c.members.names.items) _ c.member-item.result _ _ _ d c.members.invariant.wrong (rw c.deref.ensures.value at c.in-Err-next_member.ensures.wrong)
 
-pub returns-then-not-branch-clause-wrong : goal.returns-then-not-branch-clause-wrong
-returns-then-not-branch-clause-wrong c =
+pub returns-then-not-new-clause-wrong : goal.returns-then-not-new-clause-wrong
+returns-then-not-new-clause-wrong c =
     let d = drop_next c.args.declared.now c.members.member-index c.member-item.result (omega arith) c.member-item.is in
-    rw c.wrong.ensures (member_name_stops (map head_of c.args.heads.now) (space_of c.args.space) c.members.previous (map tag_in c.members.members.items) (names_of c.members.names.items) _ c.member-item.result _ _ d c.members.invariant.wrong (rw c.deref.ensures.value at c.in_ok-next.ensures.wrong)
-    (ap (is_in (names_of c.members.names.items)) (sym (c.deref-in-members.ensures.value ∙ c.in_ok-next.ensures.says.name)) ∙ name_used _ _ c.if-not-branch.true c.in_ok-take_name.ensures.new))
+    rw c.wrong.ensures (member_name_stops (map head_of c.args.heads.now) (space_of c.args.space) c.members.previous (map tag_in c.members.members.items) (names_of c.members.names.items) _ c.member-item.result _ _ d c.members.invariant.wrong (rw c.deref.ensures.value at c.in-Ok-next_member.ensures.wrong)
+    (ap (is_in (names_of c.members.names.items)) (sym (c.deref-in-members.ensures.value ∙ c.in-Ok-next_member.ensures.says.name)) ∙ name_used _ _ c.if-not-new.true c.in-Ok-take_name.ensures.new))
 
 pub returns-clause-says : goal.returns-clause-says
 returns-clause-says c =

@@ -1,7 +1,7 @@
 use Rattle.std.proofs.Common.{◌≡◌, ◌++◌, ◌∷◌, [], false, get_or, ap, ◌∙◌, arith}
 use Rattle.std.specs.Prelude.{◌==◌, ℕ}
 use Rattle.std.specs.Global.{Vec}
-use Rattle.std.proofs.lemmas.List.{map_push}
+use Rattle.std.proofs.lemmas.List.{map_push, drop_all}
 use Rattle.std.proofs.lemmas.Bool.Decides.{nat_tests}
 use Rattle.planus_syntax.specs.Values.{names_of}
 use Rattle.planus_schema.proofs.Lists.{byte_next, word_cut, word_goes_on}
@@ -25,3 +25,8 @@ bytes-preserved c =
           let other : (b == 32) ≡ false = grind (arith, nat_tests, w.if-b-eq32.false) in
           rw (n, e) (word_goes_on words c.bytes.word.items b _ _ _ r other c.bytes.invariant)
     ]
+
+pub returns : goal.returns
+returns c =
+    let d = drop_all c.bytes.b-index c.args.text.now (omega arith) in
+    ap names_of c.in_ok-push-3.ensures.items ∙ map_push (λ (v : Vec ℕ). v.items) c.bytes.words.items c.bytes.word ∙ rw d at c.bytes.invariant
