@@ -142,7 +142,7 @@ fn put_variants_from(printer: &mut Printer<'_>, at: At) {
     }
     printer.put(
         if end < count {
-            "~from_$p\n\n"
+            "~from_$p_on\n\n"
         } else {
             "~[]\n\n"
         },
