@@ -8,6 +8,9 @@ use std::alloc::{AllocError, Global};
 
 const TOO_MANY_FIELDS: &str = "a table with more fields than the checker takes";
 
+/// The most values of an enum.
+const MOST_VALUES: usize = 256;
+
 /// The greatest number of a variant in code.
 const GREATEST_NUMBER: u64 = 9_223_372_036_854_775_807;
 
@@ -53,6 +56,9 @@ fn unsupported_enum(one: &Enum) -> Option<&'static str> {
     }
     if one.flags {
         return None;
+    }
+    if one.values.len() > MOST_VALUES {
+        return Some("an enum of more than 256 values");
     }
     for value in &one.values {
         if value.number.magnitude > GREATEST_NUMBER && !value.number.negative {

@@ -11,7 +11,7 @@ ghost use Rattle.planus_syntax.specs.Reading.{schema_at as schema_at_lem};
 
 /// The value that was read, or a return of the error: `?` without a conversion of the error, which
 /// is cheaper to prove.
-macro_rules! read {
+macro_rules! or_return {
     ($read:expr) => {
         match $read {
             Ok(value) => value,
@@ -43,9 +43,9 @@ fn declaration_at(alloc: Global, tokens: &[Token]) -> Result<(Declaration, &[Tok
     ensures { Gives (λ x. (declaration_of x.0, pieces_of x.1.now)) result
         (declaration_at_lem (pieces_of tokens.now)) }
 {
-    let (docs, start) = read!(docs_at(alloc, tokens));
-    let (key, rest) = read!(word_at(alloc, start));
-    let (item, rest) = read!(item_at(alloc, &key, start.len(), rest));
+    let (docs, start) = or_return!(docs_at(alloc, tokens));
+    let (key, rest) = or_return!(word_at(alloc, start));
+    let (item, rest) = or_return!(item_at(alloc, &key, start.len(), rest));
     Ok((
         Declaration {
             docs,
@@ -63,7 +63,7 @@ fn schema_at(alloc: Global, tokens: &[Token]) -> Result<Vec<Declaration>, ReadEr
     let mut items = Vec::new(alloc);
     let mut rest = tokens;
     'items: while is_some(rest) {
-        let (item, after) = read!(declaration_at(alloc, rest));
+        let (item, after) = or_return!(declaration_at(alloc, rest));
         items.push(item)?;
         rest = after;
     }

@@ -31,7 +31,7 @@ pub(crate) fn value_at(
 {
     match after_mark(tokens, b'=') {
         Some(rest) => {
-            let (value, rest) = read!(number_at(alloc, rest));
+            let (value, rest) = or_return!(number_at(alloc, rest));
             Ok((Some(value), rest))
         }
         None => Ok((None, tokens)),
@@ -47,7 +47,7 @@ pub(crate) fn target_at(
 {
     match after_mark(tokens, b':') {
         Some(rest) => {
-            let (value, rest) = read!(path_at(alloc, rest));
+            let (value, rest) = or_return!(path_at(alloc, rest));
             Ok((Some(value), rest))
         }
         None => Ok((None, tokens)),
@@ -58,8 +58,8 @@ fn attribute_at(alloc: Global, tokens: &[Token]) -> Result<(Attribute, &[Token])
     ensures { Gives (λ x. (attribute_of x.0, pieces_of x.1.now)) result
         (attribute_at_lem (pieces_of tokens.now)) }
 {
-    let (label, rest) = read!(label_at(alloc, tokens));
-    let (value, rest) = read!(literal_after(alloc, b':', rest));
+    let (label, rest) = or_return!(label_at(alloc, tokens));
+    let (value, rest) = or_return!(literal_after(alloc, b':', rest));
     Ok((Attribute { label, value }, rest))
 }
 
@@ -67,7 +67,7 @@ fn next_attribute_at(alloc: Global, tokens: &[Token]) -> Result<(Attribute, &[To
     ensures { Gives (λ x. (attribute_of x.0, pieces_of x.1.now)) result
         (next_attribute_at_lem (pieces_of tokens.now)) }
 {
-    let rest = read!(mark_at(tokens, b','));
+    let rest = or_return!(mark_at(tokens, b','));
     attribute_at(alloc, rest)
 }
 
@@ -84,7 +84,7 @@ fn more_attributes(
     items.push(first)?;
     let mut rest = tokens;
     'items: while begins_mark(rest, b',') {
-        let (item, after) = read!(next_attribute_at(alloc, rest));
+        let (item, after) = or_return!(next_attribute_at(alloc, rest));
         items.push(item)?;
         rest = after;
     }
@@ -101,9 +101,9 @@ pub(crate) fn attributes_at(
 {
     match after_mark(tokens, b'(') {
         Some(rest) => {
-            let (first, rest) = read!(attribute_at(alloc, rest));
-            let (items, rest) = read!(more_attributes(alloc, first, rest));
-            let rest = read!(mark_at(rest, b')'));
+            let (first, rest) = or_return!(attribute_at(alloc, rest));
+            let (items, rest) = or_return!(more_attributes(alloc, first, rest));
+            let rest = or_return!(mark_at(rest, b')'));
             Ok((items, rest))
         }
         None => Ok((Vec::new(alloc), tokens)),
@@ -120,7 +120,7 @@ pub(crate) fn docs_at(
     let mut items = Vec::new(alloc);
     let mut rest = tokens;
     'items: while begins_doc(rest) {
-        let (item, after) = read!(doc_at(alloc, rest));
+        let (item, after) = or_return!(doc_at(alloc, rest));
         items.push(item)?;
         rest = after;
     }

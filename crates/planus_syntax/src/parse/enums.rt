@@ -33,9 +33,9 @@ fn variant_at(alloc: Global, tokens: &[Token]) -> Result<(Variant, &[Token]), Re
     ensures { Gives (λ x. (variant_of x.0, pieces_of x.1.now)) result
         (variant_at_lem (pieces_of tokens.now)) }
 {
-    let (docs, start) = read!(docs_at(alloc, tokens));
-    let (name, rest) = read!(word_at(alloc, start));
-    let (value, rest) = read!(value_at(alloc, rest));
+    let (docs, start) = or_return!(docs_at(alloc, tokens));
+    let (name, rest) = or_return!(word_at(alloc, start));
+    let (value, rest) = or_return!(value_at(alloc, rest));
     Ok((
         Variant {
             docs,
@@ -51,7 +51,7 @@ fn next_variant_at(alloc: Global, tokens: &[Token]) -> Result<(Variant, &[Token]
     ensures { Gives (λ x. (variant_of x.0, pieces_of x.1.now)) result
         (next_variant_at_lem (pieces_of tokens.now)) }
 {
-    let rest = read!(mark_at(tokens, b','));
+    let rest = or_return!(mark_at(tokens, b','));
     variant_at(alloc, rest)
 }
 
@@ -68,7 +68,7 @@ fn more_variants(
     items.push(first)?;
     let mut rest = tokens;
     'items: while begins_next(rest) {
-        let (item, after) = read!(next_variant_at(alloc, rest));
+        let (item, after) = or_return!(next_variant_at(alloc, rest));
         items.push(item)?;
         rest = after;
     }
@@ -79,7 +79,7 @@ fn variants_at(alloc: Global, tokens: &[Token]) -> Result<(Vec<Variant>, &[Token
     ensures { Gives (λ x. (map variant_of x.0.items, pieces_of x.1.now)) result
         (variants_at_lem (pieces_of tokens.now)) }
 {
-    let (first, rest) = read!(variant_at(alloc, tokens));
+    let (first, rest) = or_return!(variant_at(alloc, tokens));
     more_variants(alloc, first, rest)
 }
 
@@ -87,14 +87,14 @@ pub(crate) fn enumeration_at(alloc: Global, tokens: &[Token]) -> Result<(Item, &
     ensures { Gives (λ x. (item_of x.0, pieces_of x.1.now)) result
         (as_item enumeration_item (enumeration_at_lem (pieces_of tokens.now))) }
 {
-    let (name, rest) = read!(word_at(alloc, tokens));
-    let rest = read!(mark_at(rest, b':'));
-    let (base, rest) = read!(path_at(alloc, rest));
-    let (attributes, rest) = read!(attributes_at(alloc, rest));
-    let rest = read!(mark_at(rest, b'{'));
-    let (variants, rest) = read!(variants_at(alloc, rest));
-    let (comma, rest) = read!(comma_at(rest));
-    let rest = read!(mark_at(rest, b'}'));
+    let (name, rest) = or_return!(word_at(alloc, tokens));
+    let rest = or_return!(mark_at(rest, b':'));
+    let (base, rest) = or_return!(path_at(alloc, rest));
+    let (attributes, rest) = or_return!(attributes_at(alloc, rest));
+    let rest = or_return!(mark_at(rest, b'{'));
+    let (variants, rest) = or_return!(variants_at(alloc, rest));
+    let (comma, rest) = or_return!(comma_at(rest));
+    let rest = or_return!(mark_at(rest, b'}'));
     Ok((
         Item::Enum(Enumeration {
             name,

@@ -19,8 +19,8 @@ fn brackets_at(tokens: &[Token]) -> Result<(Literal, &[Token]), ReadError>
     ensures { Gives (λ x. (literal_of x.0, pieces_of x.1.now)) result
         (brackets_at_lem (pieces_of tokens.now)) }
 {
-    let rest = read!(mark_at(tokens, b'['));
-    let rest = read!(mark_at(rest, b']'));
+    let rest = or_return!(mark_at(tokens, b'['));
+    let rest = or_return!(mark_at(rest, b']'));
     Ok((Literal::EmptyVector, rest))
 }
 
@@ -28,7 +28,7 @@ fn name_at(alloc: Global, tokens: &[Token]) -> Result<(Literal, &[Token]), ReadE
     ensures { Gives (λ x. (literal_of x.0, pieces_of x.1.now)) result
         (name_at_lem (pieces_of tokens.now)) }
 {
-    let (path, rest) = read!(path_at(alloc, tokens));
+    let (path, rest) = or_return!(path_at(alloc, tokens));
     Ok((Literal::Name(path), rest))
 }
 
@@ -62,7 +62,7 @@ pub(crate) fn literal_after(
 {
     match after_mark(tokens, mark) {
         Some(rest) => {
-            let (value, rest) = read!(literal_at(alloc, rest));
+            let (value, rest) = or_return!(literal_at(alloc, rest));
             Ok((Some(value), rest))
         }
         None => Ok((None, tokens)),

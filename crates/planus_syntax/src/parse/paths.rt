@@ -16,7 +16,7 @@ fn dotted_at(alloc: Global, tokens: &[Token]) -> Result<(Vec<u8>, &[Token]), Rea
     ensures { Gives (λ x. (x.0.items, pieces_of x.1.now)) result
         (dotted_at_lem (pieces_of tokens.now)) }
 {
-    let rest = read!(mark_at(tokens, b'.'));
+    let rest = or_return!(mark_at(tokens, b'.'));
     word_at(alloc, rest)
 }
 
@@ -27,7 +27,7 @@ fn dotted(alloc: Global, tokens: &[Token]) -> Result<(Vec<Vec<u8>>, &[Token]), R
     let mut items = Vec::new(alloc);
     let mut rest = tokens;
     'items: while begins_mark(rest, b'.') {
-        let (item, after) = read!(dotted_at(alloc, rest));
+        let (item, after) = or_return!(dotted_at(alloc, rest));
         items.push(item)?;
         rest = after;
     }
@@ -38,8 +38,8 @@ pub(crate) fn path_at(alloc: Global, tokens: &[Token]) -> Result<(Path, &[Token]
     ensures { Gives (λ x. (path_of x.0, pieces_of x.1.now)) result
         (path_at_lem (pieces_of tokens.now)) }
 {
-    let (first, rest) = read!(word_at(alloc, tokens));
-    let (more, rest) = read!(dotted(alloc, rest));
+    let (first, rest) = or_return!(word_at(alloc, tokens));
+    let (more, rest) = or_return!(dotted(alloc, rest));
     Ok((
         Path {
             left: tokens.len(),
@@ -56,12 +56,12 @@ pub(crate) fn kind_at(alloc: Global, tokens: &[Token]) -> Result<(Kind, &[Token]
 {
     match after_mark(tokens, b'[') {
         Some(rest) => {
-            let (path, rest) = read!(path_at(alloc, rest));
-            let rest = read!(mark_at(rest, b']'));
+            let (path, rest) = or_return!(path_at(alloc, rest));
+            let rest = or_return!(mark_at(rest, b']'));
             Ok((Kind::Vector(path), rest))
         }
         None => {
-            let (path, rest) = read!(path_at(alloc, tokens));
+            let (path, rest) = or_return!(path_at(alloc, tokens));
             Ok((Kind::Single(path), rest))
         }
     }

@@ -19,15 +19,15 @@ fn method_at(alloc: Global, tokens: &[Token]) -> Result<(Method, &[Token]), Read
     ensures { Gives (λ x. (method_of x.0, pieces_of x.1.now)) result
         (method_at_lem (pieces_of tokens.now)) }
 {
-    let (docs, start) = read!(docs_at(alloc, tokens));
-    let (name, rest) = read!(word_at(alloc, start));
-    let rest = read!(mark_at(rest, b'('));
-    let (request, rest) = read!(path_at(alloc, rest));
-    let rest = read!(mark_at(rest, b')'));
-    let rest = read!(mark_at(rest, b':'));
-    let (response, rest) = read!(path_at(alloc, rest));
-    let (attributes, rest) = read!(attributes_at(alloc, rest));
-    let rest = read!(mark_at(rest, b';'));
+    let (docs, start) = or_return!(docs_at(alloc, tokens));
+    let (name, rest) = or_return!(word_at(alloc, start));
+    let rest = or_return!(mark_at(rest, b'('));
+    let (request, rest) = or_return!(path_at(alloc, rest));
+    let rest = or_return!(mark_at(rest, b')'));
+    let rest = or_return!(mark_at(rest, b':'));
+    let (response, rest) = or_return!(path_at(alloc, rest));
+    let (attributes, rest) = or_return!(attributes_at(alloc, rest));
+    let rest = or_return!(mark_at(rest, b';'));
     Ok((
         Method {
             docs,
@@ -48,7 +48,7 @@ fn methods(alloc: Global, tokens: &[Token]) -> Result<(Vec<Method>, &[Token]), R
     let mut items = Vec::new(alloc);
     let mut rest = tokens;
     'items: while inside(rest) {
-        let (item, after) = read!(method_at(alloc, rest));
+        let (item, after) = or_return!(method_at(alloc, rest));
         items.push(item)?;
         rest = after;
     }
@@ -59,9 +59,9 @@ pub(crate) fn service_at(alloc: Global, tokens: &[Token]) -> Result<(Item, &[Tok
     ensures { Gives (λ x. (item_of x.0, pieces_of x.1.now)) result
         (as_item service_item (service_at_lem (pieces_of tokens.now))) }
 {
-    let (name, rest) = read!(word_at(alloc, tokens));
-    let rest = read!(mark_at(rest, b'{'));
-    let (methods, rest) = read!(methods(alloc, rest));
-    let rest = read!(mark_at(rest, b'}'));
+    let (name, rest) = or_return!(word_at(alloc, tokens));
+    let rest = or_return!(mark_at(rest, b'{'));
+    let (methods, rest) = or_return!(methods(alloc, rest));
+    let rest = or_return!(mark_at(rest, b'}'));
     Ok((Item::Service(Service { name, methods }), rest))
 }

@@ -28,8 +28,8 @@ fn quoted_at(alloc: Global, tokens: &[Token]) -> Result<(Vec<u8>, &[Token]), Rea
     ensures { Gives (λ x. (x.0.items, pieces_of x.1.now)) result
         (quoted_at_lem (pieces_of tokens.now)) }
 {
-    let (text, rest) = read!(text_at(alloc, tokens));
-    let rest = read!(mark_at(rest, b';'));
+    let (text, rest) = or_return!(text_at(alloc, tokens));
+    let rest = or_return!(mark_at(rest, b';'));
     Ok((text, rest))
 }
 
@@ -37,8 +37,8 @@ fn rooted_at(alloc: Global, tokens: &[Token]) -> Result<(Path, &[Token]), ReadEr
     ensures { Gives (λ x. (path_of x.0, pieces_of x.1.now)) result
         (rooted_at_lem (pieces_of tokens.now)) }
 {
-    let (path, rest) = read!(path_at(alloc, tokens));
-    let rest = read!(mark_at(rest, b';'));
+    let (path, rest) = or_return!(path_at(alloc, tokens));
+    let rest = or_return!(mark_at(rest, b';'));
     Ok((path, rest))
 }
 
@@ -49,7 +49,7 @@ fn namespace_at(alloc: Global, tokens: &[Token]) -> Result<(Item, &[Token]), Rea
     match after_mark(tokens, b';') {
         Some(rest) => Ok((Item::Namespace(None), rest)),
         None => {
-            let (path, rest) = read!(rooted_at(alloc, tokens));
+            let (path, rest) = or_return!(rooted_at(alloc, tokens));
             Ok((Item::Namespace(Some(path)), rest))
         }
     }
@@ -59,8 +59,8 @@ fn declared_at(alloc: Global, tokens: &[Token]) -> Result<(Item, &[Token]), Read
     ensures { Gives (λ x. (item_of x.0, pieces_of x.1.now)) result
         (as_item attribute_item (declared_at_lem (pieces_of tokens.now))) }
 {
-    let (label, rest) = read!(label_at(alloc, tokens));
-    let rest = read!(mark_at(rest, b';'));
+    let (label, rest) = or_return!(label_at(alloc, tokens));
+    let rest = or_return!(mark_at(rest, b';'));
     Ok((Item::Attribute(label), rest))
 }
 
@@ -81,20 +81,20 @@ fn statement_at<'a>(
         (statement_at_lem key.now left (pieces_of tokens.now)) }
 {
     if is_word(key, b"include") {
-        let (held, rest) = read!(quoted_at(alloc, tokens));
+        let (held, rest) = or_return!(quoted_at(alloc, tokens));
         Ok((Item::Include(held), rest))
     } else if is_word(key, b"namespace") {
         namespace_at(alloc, tokens)
     } else if is_word(key, b"attribute") {
         declared_at(alloc, tokens)
     } else if is_word(key, b"root_type") {
-        let (held, rest) = read!(rooted_at(alloc, tokens));
+        let (held, rest) = or_return!(rooted_at(alloc, tokens));
         Ok((Item::RootType(held), rest))
     } else if is_word(key, b"file_identifier") {
-        let (held, rest) = read!(quoted_at(alloc, tokens));
+        let (held, rest) = or_return!(quoted_at(alloc, tokens));
         Ok((Item::FileIdentifier(held), rest))
     } else if is_word(key, b"file_extension") {
-        let (held, rest) = read!(quoted_at(alloc, tokens));
+        let (held, rest) = or_return!(quoted_at(alloc, tokens));
         Ok((Item::FileExtension(held), rest))
     } else {
         Err(ReadError::Fault {
@@ -114,10 +114,10 @@ pub(crate) fn item_at<'a>(
         (item_at_lem key.now left (pieces_of tokens.now)) }
 {
     if is_word(key, b"table") {
-        let (held, rest) = read!(record_at(alloc, tokens));
+        let (held, rest) = or_return!(record_at(alloc, tokens));
         Ok((Item::Table(held), rest))
     } else if is_word(key, b"struct") {
-        let (held, rest) = read!(record_at(alloc, tokens));
+        let (held, rest) = or_return!(record_at(alloc, tokens));
         Ok((Item::Struct(held), rest))
     } else if is_word(key, b"enum") {
         enumeration_at(alloc, tokens)

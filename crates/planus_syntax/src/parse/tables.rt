@@ -20,13 +20,13 @@ fn field_at(alloc: Global, tokens: &[Token]) -> Result<(Field, &[Token]), ReadEr
     ensures { Gives (λ x. (field_of x.0, pieces_of x.1.now)) result
         (field_at_lem (pieces_of tokens.now)) }
 {
-    let (docs, start) = read!(docs_at(alloc, tokens));
-    let (name, rest) = read!(word_at(alloc, start));
-    let rest = read!(mark_at(rest, b':'));
-    let (kind, rest) = read!(kind_at(alloc, rest));
-    let (default, rest) = read!(literal_after(alloc, b'=', rest));
-    let (attributes, rest) = read!(attributes_at(alloc, rest));
-    let rest = read!(mark_at(rest, b';'));
+    let (docs, start) = or_return!(docs_at(alloc, tokens));
+    let (name, rest) = or_return!(word_at(alloc, start));
+    let rest = or_return!(mark_at(rest, b':'));
+    let (kind, rest) = or_return!(kind_at(alloc, rest));
+    let (default, rest) = or_return!(literal_after(alloc, b'=', rest));
+    let (attributes, rest) = or_return!(attributes_at(alloc, rest));
+    let rest = or_return!(mark_at(rest, b';'));
     Ok((
         Field {
             docs,
@@ -47,7 +47,7 @@ fn fields(alloc: Global, tokens: &[Token]) -> Result<(Vec<Field>, &[Token]), Rea
     let mut items = Vec::new(alloc);
     let mut rest = tokens;
     'items: while inside(rest) {
-        let (item, after) = read!(field_at(alloc, rest));
+        let (item, after) = or_return!(field_at(alloc, rest));
         items.push(item)?;
         rest = after;
     }
@@ -58,11 +58,11 @@ pub(crate) fn record_at(alloc: Global, tokens: &[Token]) -> Result<(Record, &[To
     ensures { Gives (λ x. (record_of x.0, pieces_of x.1.now)) result
         (record_at_lem (pieces_of tokens.now)) }
 {
-    let (name, rest) = read!(word_at(alloc, tokens));
-    let (attributes, rest) = read!(attributes_at(alloc, rest));
-    let rest = read!(mark_at(rest, b'{'));
-    let (fields, rest) = read!(fields(alloc, rest));
-    let rest = read!(mark_at(rest, b'}'));
+    let (name, rest) = or_return!(word_at(alloc, tokens));
+    let (attributes, rest) = or_return!(attributes_at(alloc, rest));
+    let rest = or_return!(mark_at(rest, b'{'));
+    let (fields, rest) = or_return!(fields(alloc, rest));
+    let rest = or_return!(mark_at(rest, b'}'));
     Ok((
         Record {
             name,

@@ -23,10 +23,10 @@ fn member_at(alloc: Global, tokens: &[Token]) -> Result<(Member, &[Token]), Read
     ensures { Gives (λ x. (member_of x.0, pieces_of x.1.now)) result
         (member_at_lem (pieces_of tokens.now)) }
 {
-    let (docs, rest) = read!(docs_at(alloc, tokens));
-    let (path, rest) = read!(path_at(alloc, rest));
-    let (target, rest) = read!(target_at(alloc, rest));
-    let (value, rest) = read!(value_at(alloc, rest));
+    let (docs, rest) = or_return!(docs_at(alloc, tokens));
+    let (path, rest) = or_return!(path_at(alloc, rest));
+    let (target, rest) = or_return!(target_at(alloc, rest));
+    let (value, rest) = or_return!(value_at(alloc, rest));
     Ok((
         Member {
             docs,
@@ -42,7 +42,7 @@ fn next_member_at(alloc: Global, tokens: &[Token]) -> Result<(Member, &[Token]),
     ensures { Gives (λ x. (member_of x.0, pieces_of x.1.now)) result
         (next_member_at_lem (pieces_of tokens.now)) }
 {
-    let rest = read!(mark_at(tokens, b','));
+    let rest = or_return!(mark_at(tokens, b','));
     member_at(alloc, rest)
 }
 
@@ -59,7 +59,7 @@ fn more_members(
     items.push(first)?;
     let mut rest = tokens;
     'items: while begins_next(rest) {
-        let (item, after) = read!(next_member_at(alloc, rest));
+        let (item, after) = or_return!(next_member_at(alloc, rest));
         items.push(item)?;
         rest = after;
     }
@@ -70,7 +70,7 @@ fn members_at(alloc: Global, tokens: &[Token]) -> Result<(Vec<Member>, &[Token])
     ensures { Gives (λ x. (map member_of x.0.items, pieces_of x.1.now)) result
         (members_at_lem (pieces_of tokens.now)) }
 {
-    let (first, rest) = read!(member_at(alloc, tokens));
+    let (first, rest) = or_return!(member_at(alloc, tokens));
     more_members(alloc, first, rest)
 }
 
@@ -78,12 +78,12 @@ pub(crate) fn union_at(alloc: Global, tokens: &[Token]) -> Result<(Item, &[Token
     ensures { Gives (λ x. (item_of x.0, pieces_of x.1.now)) result
         (as_item union_item (union_at_lem (pieces_of tokens.now))) }
 {
-    let (name, rest) = read!(word_at(alloc, tokens));
-    let (attributes, rest) = read!(attributes_at(alloc, rest));
-    let rest = read!(mark_at(rest, b'{'));
-    let (members, rest) = read!(members_at(alloc, rest));
-    let (comma, rest) = read!(comma_at(rest));
-    let rest = read!(mark_at(rest, b'}'));
+    let (name, rest) = or_return!(word_at(alloc, tokens));
+    let (attributes, rest) = or_return!(attributes_at(alloc, rest));
+    let rest = or_return!(mark_at(rest, b'{'));
+    let (members, rest) = or_return!(members_at(alloc, rest));
+    let (comma, rest) = or_return!(comma_at(rest));
+    let rest = or_return!(mark_at(rest, b'}'));
     Ok((
         Item::Union(UnionBody {
             name,
