@@ -36,9 +36,9 @@ const MAY: &str = "    ghost may = { λ fields builder.";
 
 const AND: &str = " ×";
 
-const CREATES_BORROWED: &str = "impl<'a> Create<$TFields<'a>> for $T {\n";
+const CREATES_BORROWED: &str = "impl<'a> Create<$TFields<'a>>~for $T {\n";
 
-const CREATES_OWNED: &str = "impl Create<$TFields> for $T {\n";
+const CREATES_OWNED: &str = "impl Create<$TFields>~for $T {\n";
 
 const CREATE_BORROWED: &str = "    \
     fn create(^builder: &mut Builder,^fields: $TFields<'a>^) -> Built<$T> {

@@ -5,6 +5,9 @@ use crate::context::Context;
 use crate::printer::Printer;
 use planus_layout::{Declared, Union};
 
+/// The most letters of the names in an arm on one line: the union's and the member's.
+const ARM_LETTERS: usize = 42;
+
 /// The most members of a union that one function reads.
 const MOST_TOGETHER: usize = 20;
 
@@ -15,7 +18,7 @@ impl $T {
 ";
 
 const OF_TABLE: &str = "    /// Returns the variant `$n` with the table at this offset.
-    pub fn from_$V(table: Offset<$m>) -> UnionOffset<$T>
+    pub fn from_$V(^table: Offset<$m>^) -> UnionOffset<$T>
         ensures tag { result.tag ≡ $g }
         ensures offset { result.offset.distance ≡ table.distance }
     {
@@ -46,6 +49,12 @@ impl<'a> TableReadUnion<'a> for $TRef<'a> {
 
 const ARM: &str = "            $g => Ok($TRef::$n(read_view(buffer, offset)?)),\n";
 
+const WIDE_ARM: &str = "            $g => {
+                let view = read_view(buffer, offset)?;
+                Ok($TRef::$n(view))
+            }
+";
+
 const UNKNOWN: &str = "            _ => Err(ErrorKind::UnknownUnionTag { tag }),
         }
 ";
@@ -64,6 +73,12 @@ fn from_$p<'a>(
 ";
 
 const ARM_FROM: &str = "        $g => Ok($TRef::$n(read_view(buffer, offset)?)),\n";
+
+const WIDE_ARM_FROM: &str = "        $g => {
+            let view = read_view(buffer, offset)?;
+            Ok($TRef::$n(view))
+        }
+";
 
 const NEXT: &str = "        _ => from_$p(buffer, tag, offset),
     }
@@ -116,6 +131,17 @@ abbrev pub $M_variants : List (UnionVariant $TRef)
 $M_variants = from_0_on
 ";
 
+fn has_wide_arms(context: &Context<'_>, at: At) -> bool {
+    let names = &context.names;
+    let letters = names.type_name(at.index).len();
+    for place in 0..names.count(at.index) {
+        if letters.saturating_add(names.member(at.index, place).len()) > ARM_LETTERS {
+            return true;
+        }
+    }
+    false
+}
+
 pub(crate) fn print_union<'a>(
     context: &'a Context<'a>,
     at: At,
@@ -123,6 +149,7 @@ pub(crate) fn print_union<'a>(
     one: &Union,
 ) -> Printer<'a> {
     let mut printer = Printer::new(context);
+    let wide = has_wide_arms(context, at);
     printer.put_docs(
         "",
         &declared.docs,
@@ -138,12 +165,13 @@ pub(crate) fn print_union<'a>(
         printer.put("        from_0(buffer, tag, offset)\n", at);
     } else {
         printer.put("        match tag {\n", at);
-        printer.put_each(ARM, "", at);
+        printer.put_each(if wide { WIDE_ARM } else { ARM }, "", at);
         printer.put(UNKNOWN, at);
     }
     printer.put(VECTOR, at);
     if one.members.len() > MOST_TOGETHER {
-        printer.put_functions(READ_FROM, ARM_FROM, NEXT, at);
+        let arm = if wide { WIDE_ARM_FROM } else { ARM_FROM };
+        printer.put_functions(READ_FROM, arm, NEXT, at);
         printer.put(UNKNOWN_FROM, at);
     }
     printer
