@@ -16,7 +16,7 @@ use crate::structs::{has_padding, print_padded, print_struct, print_struct_layou
 use crate::supported::refuse_unsupported;
 use crate::tables::print_table;
 use crate::unions::{print_union, print_variants};
-use planus_layout::{Body, Declared, Schema};
+use planus_layout::{Body, Declared, Enum, Schema, Struct, Table, Union};
 use planus_plan::Plan;
 use std::alloc::{AllocError, Global};
 
@@ -50,17 +50,25 @@ struct Files<'a> {
     /// The indices of all modules by their names.
     modules: &'a [usize],
     files: Vec<PrintedFile>,
+    /// Whether memory was refused, after which files are left out.
+    failed: bool,
 }
 
 impl<'a> Files<'a> {
     // The path is a template.
-    fn put(&mut self, path: &str, at: At, text: &Printer<'a>) -> Result<(), AllocError> {
+    fn add(&mut self, path: &str, at: At, text: &Printer<'a>) -> Result<(), AllocError> {
         let text = arranged(text).finish()?;
         let mut name = Printer::new(self.context);
         name.put(path, at);
         let path = name.finish()?;
         self.files.push(PrintedFile { path, text })?;
         Ok(())
+    }
+
+    fn put(&mut self, path: &str, at: At, text: &Printer<'a>) {
+        if self.add(path, at, text).is_err() {
+            self.failed = true;
+        }
     }
 
     // `own` is the declaration whose types the file has.
@@ -76,78 +84,87 @@ impl<'a> Files<'a> {
         file
     }
 
-    fn put_code(&mut self, head: &str, at: At, code: &Printer<'_>) -> Result<(), AllocError> {
+    fn put_code(&mut self, head: &str, at: At, code: &Printer<'_>) {
         let file = self.code_file(head, at, at.index, code);
-        self.put("src/$M.rt", at, &file)
+        self.put("src/$M.rt", at, &file);
     }
 
-    fn put_root(&mut self, root: usize) -> Result<(), AllocError> {
+    fn put_root(&mut self, root: usize) {
         let at = At::declaration(root);
         let code = print_root(self.context, at);
         let none = self.context.declared.len();
         let file = self.code_file("//! The root of a buffer.\n", at, none, &code);
-        self.put("src/root.rt", at, &file)
+        self.put("src/root.rt", at, &file);
     }
 
-    fn put_definitions(
-        &mut self,
-        head: &str,
-        at: At,
-        text: &Printer<'_>,
-    ) -> Result<(), AllocError> {
+    fn put_definitions(&mut self, head: &str, at: At, text: &Printer<'_>) {
         let mut file = Printer::new(self.context);
         file.put(head, at);
         file.put_definition_uses(text.as_str(), self.order, at.index);
         file.put_str("\n");
         file.join(text);
-        self.put("specs/$T.antt", at, &file)
+        self.put("specs/$T.antt", at, &file);
     }
 
-    fn put_declared(&mut self, at: At, declared: &Declared) -> Result<(), AllocError> {
+    fn add_table(&mut self, at: At, declared: &Declared, one: &Table) -> Result<(), AllocError> {
         let context = self.context;
+        let plan = Plan::of(context.alloc, context.declared, at.index, one)?;
+        let code = print_table(context, &plan, declared)?;
+        self.put_code("//! Tables `$T`.\n", at, &code);
+        Ok(())
+    }
+
+    fn put_struct(&mut self, at: At, declared: &Declared, one: &Struct) {
+        let context = self.context;
+        let code = print_struct(context, at, declared);
+        self.put_code("//! Structs `$T`.\n", at, &code);
+        if has_padding(one) {
+            let proof = print_padded(context, at);
+            self.put("proofs/$M/$TPlain/put/Answers.antt", at, &proof);
+        }
+        let layout = print_struct_layout(context, at);
+        self.put_definitions("-- The layout of `$T`.\n", at, &layout);
+    }
+
+    fn put_flags(&mut self, at: At, declared: &Declared) {
+        let context = self.context;
+        let code = print_flags(context, at, declared);
+        self.put_code("//! Flags `$T`.\n", at, &code);
+        let layout = print_flags_layout(context, at);
+        self.put_definitions("-- The layout of `$T`.\n", at, &layout);
+    }
+
+    fn put_enum(&mut self, at: At, declared: &Declared, one: &Enum) {
+        let context = self.context;
+        let code = print_enum(context, at, declared, one);
+        self.put_code("//! Enum `$T`.\n", at, &code);
+        if has_many_values(one) {
+            let proofs = print_number_proofs(context, at);
+            self.put("proofs/$M/$T/number/Answers.antt", at, &proofs);
+        }
+        let numbers = print_numbers(context, at, one);
+        self.put_definitions("-- The numbers of `$T`.\n", at, &numbers);
+    }
+
+    fn put_union(&mut self, at: At, declared: &Declared, one: &Union) {
+        let context = self.context;
+        let code = print_union(context, at, declared, one);
+        self.put_code("//! Unions `$T`.\n", at, &code);
+        let variants = print_variants(context, at, one);
+        self.put_definitions("-- The variants of `$T`.\n", at, &variants);
+    }
+
+    fn put_declared(&mut self, at: At, declared: &Declared) {
         match &declared.body {
             Body::Table(one) => {
-                let plan = Plan::of(context.alloc, context.declared, at.index, one)?;
-                let code = print_table(context, &plan, declared)?;
-                self.put_code("//! Tables `$T`.\n", at, &code)
-            }
-            Body::Struct(one) => {
-                self.put_code(
-                    "//! Structs `$T`.\n",
-                    at,
-                    &print_struct(context, at, declared),
-                )?;
-                if has_padding(one) {
-                    let proof = print_padded(context, at);
-                    self.put("proofs/$M/$TPlain/put/Answers.antt", at, &proof)?;
+                if self.add_table(at, declared, one).is_err() {
+                    self.failed = true;
                 }
-                let layout = print_struct_layout(context, at);
-                self.put_definitions("-- The layout of `$T`.\n", at, &layout)
             }
-            Body::Enum(one) if one.flags => {
-                self.put_code("//! Flags `$T`.\n", at, &print_flags(context, at, declared))?;
-                let layout = print_flags_layout(context, at);
-                self.put_definitions("-- The layout of `$T`.\n", at, &layout)
-            }
-            Body::Enum(one) => {
-                let code = print_enum(context, at, declared, one);
-                self.put_code("//! Enum `$T`.\n", at, &code)?;
-                if has_many_values(one) {
-                    let proofs = print_number_proofs(context, at);
-                    self.put("proofs/$M/$T/number/Answers.antt", at, &proofs)?;
-                }
-                let numbers = print_numbers(context, at, one);
-                self.put_definitions("-- The numbers of `$T`.\n", at, &numbers)
-            }
-            Body::Union(one) => {
-                self.put_code(
-                    "//! Unions `$T`.\n",
-                    at,
-                    &print_union(context, at, declared, one),
-                )?;
-                let variants = print_variants(context, at, one);
-                self.put_definitions("-- The variants of `$T`.\n", at, &variants)
-            }
+            Body::Struct(one) => self.put_struct(at, declared, one),
+            Body::Enum(one) if one.flags => self.put_flags(at, declared),
+            Body::Enum(one) => self.put_enum(at, declared, one),
+            Body::Union(one) => self.put_union(at, declared, one),
         }
     }
 
@@ -192,7 +209,7 @@ impl<'a> Files<'a> {
         text.join_apart(&uses);
     }
 
-    fn put_namespaces(&mut self) -> Result<(), AllocError> {
+    fn put_namespaces(&mut self) {
         let context = self.context;
         for index in context.declared.len()..context.names.places.len() {
             let at = At::declaration(index);
@@ -200,12 +217,11 @@ impl<'a> Files<'a> {
             text.put("//! Namespace `$O`.\n", at);
             let namespace = context.names.namespace(index);
             self.put_namespace(&mut text, namespace, "pub use crate::$M::");
-            self.put("src$W.rt", at, &text)?;
+            self.put("src$W.rt", at, &text);
         }
-        Ok(())
     }
 
-    fn put_library(&mut self) -> Result<(), AllocError> {
+    fn put_library(&mut self) {
         let context = self.context;
         let mut text = Printer::new(context);
         text.put_str("//! Code of a schema.\n#![tactic(auto)]\n");
@@ -221,29 +237,29 @@ impl<'a> Files<'a> {
         if let Some(identifier) = context.identifier {
             text.put_identifier(identifier);
         }
-        self.put("src/lib.rt", At::declaration(0), &text)
+        self.put("src/lib.rt", At::declaration(0), &text);
     }
 
-    fn put_definition_list(&mut self) -> Result<(), AllocError> {
+    fn put_definition_list(&mut self) {
         let mut text = Printer::new(self.context);
         for (index, one) in self.context.declared.iter().enumerate() {
             if !matches!(one.body, Body::Table(_)) {
                 text.put("pub mod $T\n", At::declaration(index));
             }
         }
-        self.put("specs/Lib.antt", At::declaration(0), &text)
+        self.put("specs/Lib.antt", At::declaration(0), &text);
     }
 
-    fn put_all(&mut self) -> Result<(), AllocError> {
+    fn put_all(&mut self) {
         for (index, declared) in self.context.declared.iter().enumerate() {
-            self.put_declared(At::declaration(index), declared)?;
+            self.put_declared(At::declaration(index), declared);
         }
         if let Some(root) = self.context.root {
-            self.put_root(root)?;
+            self.put_root(root);
         }
-        self.put_namespaces()?;
-        self.put_library()?;
-        self.put_definition_list()
+        self.put_namespaces();
+        self.put_library();
+        self.put_definition_list();
     }
 }
 
@@ -273,8 +289,12 @@ fn files_of(context: &Context<'_>) -> Result<Vec<PrintedFile>, AllocError> {
         order: &order,
         modules: &modules,
         files: Vec::new(context.alloc),
+        failed: false,
     };
-    files.put_all()?;
+    files.put_all();
+    if files.failed {
+        return Err(AllocError);
+    }
     Ok(files.files)
 }
 
