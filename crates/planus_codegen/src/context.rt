@@ -53,8 +53,18 @@ fn totals_of(alloc: Global, declared: &[Declared]) -> Result<Vec<bool>, AllocErr
     Ok(totals)
 }
 
+/// How many members a declaration has.
+pub(crate) fn count_in(body: &Body) -> usize {
+    match body {
+        Body::Table(one) => one.fields.len(),
+        Body::Struct(one) => one.fields.len(),
+        Body::Enum(one) => one.values.len(),
+        Body::Union(one) => one.members.len(),
+    }
+}
+
 /// The name of a member in the schema, and its documentation.
-fn member_in(body: &Body, place: usize) -> Option<(&Vec<u8>, &Vec<Vec<u8>>)> {
+pub(crate) fn member_in(body: &Body, place: usize) -> Option<(&Vec<u8>, &Vec<Vec<u8>>)> {
     match body {
         Body::Table(one) => {
             let field = one.fields.get(place)?;

@@ -2,7 +2,8 @@
 
 use crate::at::At;
 use crate::context::Context;
-use crate::printer::Printer;
+use crate::printer::Piece::{Documented, Each, Once};
+use crate::printer::{Piece, Printer};
 use crate::structs::{LAYOUT, READ, STRIDE, TOTAL};
 use planus_layout::{Declared, Enum, Scalar};
 
@@ -134,6 +135,24 @@ pub(crate) fn has_many_values(one: &Enum) -> bool {
     one.values.len() > most_values(one.scalar)
 }
 
+const ENUM_CODE: [Piece; 8] = [
+    Once(ENUM),
+    Documented("", "    $n = $i,\n"),
+    Once(NUMBER),
+    Each("            $T::$n => $i,\n", ""),
+    Once("        }\n    }\n"),
+    Once(LAYOUT),
+    Once("        self.number().put(bytes);\n"),
+    Once(READ),
+];
+
+const LISTED_VALUES: [Piece; 4] = [
+    Once("        read_variant!($b, buffer, offset;~"),
+    Each("$T::$n", ",~"),
+    Once(")\n"),
+    Once(STRIDE),
+];
+
 pub(crate) fn print_enum<'a>(
     context: &'a Context<'a>,
     at: At,
@@ -142,72 +161,82 @@ pub(crate) fn print_enum<'a>(
 ) -> Printer<'a> {
     let mut printer = Printer::new(context);
     printer.put_docs("", &declared.docs, "/// One of some values.\n", at);
-    printer.put(ENUM, at);
-    printer.put_members("", "    $n = $i,\n", at);
-    printer.put(NUMBER, at);
-    printer.put_each("            $T::$n => $i,\n", "", at);
-    printer.put("        }\n    }\n", at);
-    printer.put(LAYOUT, at);
-    printer.put("        self.number().put(bytes);\n", at);
-    printer.put(READ, at);
+    printer.put_pieces(&ENUM_CODE, at);
     if has_many_values(one) {
-        printer.put(READ_FOUND, at);
-    } else {
-        printer.put("        read_variant!($b, buffer, offset;~", at);
-        printer.put_each("$T::$n", ",~", at);
-        printer.put(")\n", at);
-    }
-    printer.put(STRIDE, at);
-    if has_many_values(one) {
+        printer.put_pieces(&[Once(READ_FOUND), Once(STRIDE)], at);
         printer.put_functions(FINDER, "        $i => Some($T::$n),\n", NEXT, at);
         printer.put("        _ => None,\n    }\n}\n", at);
+    } else {
+        printer.put_pieces(&LISTED_VALUES, at);
     }
     printer
 }
+
+const NUMBERS_HEAD: [Piece; 3] = [
+    Once("abbrev pub $M_number : $T → $j\n"),
+    Each("$M_number $M_value.$n = $k\n", ""),
+    Once(FOUND),
+];
+
+const NUMBERS_END: [Piece; 4] = [
+    Once("\n"),
+    Each("$M_found $M_value.$n = refl\n", ""),
+    Once(FOUND_IS),
+    Once(ENUM_SHAPE),
+];
 
 fn print_many_numbers<'a>(context: &'a Context<'a>, at: At) -> Printer<'a> {
     let mut printer = Printer::new(context);
     printer.put("-- its variants by their numbers, from some on\n", at);
     printer.put_lists(NUMBERS_FROM, "~($k, $M_value.$n) ∷", at);
-    printer.put("abbrev pub $M_number : $T → $j\n", at);
-    printer.put_each("$M_number $M_value.$n = $k\n", "", at);
-    printer.put(FOUND, at);
+    printer.put_pieces(&NUMBERS_HEAD, at);
     printer.put_list_names(at);
-    printer.put("\n", at);
-    printer.put_each("$M_found $M_value.$n = refl\n", "", at);
-    printer.put(FOUND_IS, at);
-    printer.put(ENUM_SHAPE, at);
+    printer.put_pieces(&NUMBERS_END, at);
     printer
 }
 
 /// Returns the proofs of `number`, where there are many values.
 pub(crate) fn print_number_proofs<'a>(context: &'a Context<'a>, at: At) -> Printer<'a> {
     let mut printer = Printer::new(context);
-    printer.put(PROOF_HEAD, at);
-    printer.put_each(ARM_PROOF, "", at);
+    printer.put_pieces(&[Once(PROOF_HEAD), Each(ARM_PROOF, "")], at);
     printer
 }
+
+const NUMBERS_CODE: [Piece; 6] = [
+    Once("-- its variants by their numbers\nabbrev pub $M_values : List ($j × $T)\n"),
+    Once("$M_values ="),
+    Each("~($k, $M_value.$n) ∷", ""),
+    Once(NUMBERS),
+    Each(
+        "$M_is $M_value.$n = record { number = $k; found = refl }\n",
+        "",
+    ),
+    Once(ENUM_SHAPE),
+];
 
 pub(crate) fn print_numbers<'a>(context: &'a Context<'a>, at: At, one: &Enum) -> Printer<'a> {
     if has_many_values(one) {
         return print_many_numbers(context, at);
     }
     let mut printer = Printer::new(context);
-    printer.put(
-        "-- its variants by their numbers\nabbrev pub $M_values : List ($j × $T)\n",
-        at,
-    );
-    printer.put("$M_values =", at);
-    printer.put_each("~($k, $M_value.$n) ∷", "", at);
-    printer.put(NUMBERS, at);
-    printer.put_each(
-        "$M_is $M_value.$n = record { number = $k; found = refl }\n",
-        "",
-        at,
-    );
-    printer.put(ENUM_SHAPE, at);
+    printer.put_pieces(&NUMBERS_CODE, at);
     printer
 }
+
+const FLAGS_CODE: [Piece; 9] = [
+    Once(FLAGS),
+    Documented(
+        "    /// `$s`.\n",
+        "    pub const $n: $T = $T {^bits: $i^};\n",
+    ),
+    Once(METHODS),
+    Once(LAYOUT),
+    Once("        put_fields!(self, bytes; bits: $S);\n"),
+    Once(READ),
+    Once("        read_fields!($T, buffer, offset; bits)\n"),
+    Once(STRIDE),
+    Once(TOTAL),
+];
 
 pub(crate) fn print_flags<'a>(
     context: &'a Context<'a>,
@@ -216,19 +245,7 @@ pub(crate) fn print_flags<'a>(
 ) -> Printer<'a> {
     let mut printer = Printer::new(context);
     printer.put_docs("", &declared.docs, "/// A set of flags.\n", at);
-    printer.put(FLAGS, at);
-    printer.put_members(
-        "    /// `$s`.\n",
-        "    pub const $n: $T = $T {^bits: $i^};\n",
-        at,
-    );
-    printer.put(METHODS, at);
-    printer.put(LAYOUT, at);
-    printer.put("        put_fields!(self, bytes; bits: $S);\n", at);
-    printer.put(READ, at);
-    printer.put("        read_fields!($T, buffer, offset; bits)\n", at);
-    printer.put(STRIDE, at);
-    printer.put(TOTAL, at);
+    printer.put_pieces(&FLAGS_CODE, at);
     printer
 }
 

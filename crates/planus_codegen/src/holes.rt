@@ -81,6 +81,19 @@ fn tag(context: &Context<'_>, at: At) -> usize {
     }
 }
 
+/// A name of a declaration, or that of a member in the schema.
+fn word<'a>(context: &'a Context<'_>, letter: char, at: At) -> &'a [u8] {
+    let names = &context.names;
+    match letter {
+        'c' => context.crate_name.as_bytes(),
+        'T' => names.type_name(at.index),
+        'U' => names.type_in_namespace(at.index),
+        'M' => names.module(at.index),
+        'O' => names.namespace(at.index),
+        _ => context.said(at),
+    }
+}
+
 fn number(context: &Context<'_>, letter: char, at: At) -> usize {
     let (size, alignment) = layout(context, at.index);
     match letter {
@@ -281,11 +294,7 @@ impl<'a> Printer<'a> {
         let context = self.context;
         let names = &context.names;
         match letter {
-            'c' => self.put_str(context.crate_name),
-            'T' => self.put_name(names.type_name(at.index)),
-            'U' => self.put_name(names.type_in_namespace(at.index)),
-            'M' => self.put_name(names.module(at.index)),
-            'O' => self.put_name(names.namespace(at.index)),
+            'c' | 'T' | 'U' | 'M' | 'O' | 's' => self.put_name(word(context, letter, at)),
             'W' => self.put_module_path(names.namespace(at.index)),
             'n' => {
                 self.put_char(OWN);
@@ -294,7 +303,6 @@ impl<'a> Printer<'a> {
             'f' => self.put_record_name(names.member(at.index, at.place)),
             'N' => self.put_capitals(names.member(at.index, at.place)),
             'V' => self.put_small(names.member(at.index, at.place)),
-            's' => self.put_name(context.said(at)),
             'i' | 'l' => self.put_integer(integer(context, at)),
             'k' => self.put_counted(integer(context, at), context.is_signed_enum(at.index)),
             'L' => self.put_counted(integer(context, at), true),

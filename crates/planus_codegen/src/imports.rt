@@ -40,13 +40,17 @@ const PROOF_WORDS: &str = "refl lit≤ lit<";
 /// The columns of names in one import.
 const NAME_COLUMNS: usize = 80;
 
-/// What follows a module's name in the name of a definition, and its import.
-const OWN_DEFINITIONS: [(&str, &str); 7] = [
+/// What follows a module's name in the names of definitions, and their imports.
+const OWN_DEFINITIONS: [(&str, &str); 5] = [
     ("_variants", " Rattle.$c.specs.$T.{$M_variants}"),
     ("_tags", " Rattle.$c.specs.$T as $M_tags"),
     ("_is", " Rattle.$c.specs.$T.{$M_is}"),
     ("_numbers", " Rattle.$c.specs.$T as $M_numbers"),
     ("_shape", " Rattle.$c.specs.$T.{$M_shape}"),
+];
+
+/// The same of the variants of a type.
+const OWN_VARIANTS: [(&str, &str); 2] = [
     (
         "_value",
         " Rattle.$c.specs.declared.$M.$T.TheVariants as $M_value",
@@ -57,7 +61,7 @@ const OWN_DEFINITIONS: [(&str, &str); 7] = [
     ),
 ];
 
-/// What follows a type's name in the name of a type, and its import.
+/// What follows a type's name in the names of types, and their imports.
 const OWN_TYPES: [(&str, &str); 2] = [
     ("", " Rattle.$c.specs.declared.$M.$T.{$T}"),
     ("Ref", " Rattle.$c.specs.declared.$M.$TRef.{$TRef}"),
@@ -110,16 +114,19 @@ impl<'a> Printer<'a> {
     }
 
     fn put_words(&mut self, imports: Imports<'_>) {
-        for (path, names) in WORDS {
-            self.put_row(imports, path, names);
+        for (path, names) in &WORDS {
+            self.put_row(imports, *path, *names);
         }
     }
 
-    fn put_own(&mut self, imports: Imports<'_>, template: &str, at: At, wanted: bool) {
-        if wanted {
-            self.put_str(imports.start);
-            self.put(template, at);
-            self.put_str(imports.end);
+    // Adds the imports of those names, of one and what follows it, that are among the words.
+    fn put_own(&mut self, imports: Imports<'_>, rows: &[(&str, &str)], name: &[u8], at: At) {
+        for (end, template) in rows {
+            if imports.words.has(name, *end) {
+                self.put_str(imports.start);
+                self.put(*template, at);
+                self.put_str(imports.end);
+            }
         }
     }
 
@@ -127,16 +134,11 @@ impl<'a> Printer<'a> {
     fn put_owns(&mut self, imports: Imports<'_>, index: usize) {
         let at = At::declaration(index);
         let names = &self.context.names;
-        let own = imports.own == Some(index);
-        for (end, template) in OWN_DEFINITIONS {
-            let alias = end == "_value" || end == "_ref";
-            let wanted = (alias || !own) && imports.words.has(names.module(index), end);
-            self.put_own(imports, template, at, wanted);
+        if imports.own != Some(index) {
+            self.put_own(imports, &OWN_DEFINITIONS, names.module(index), at);
         }
-        for (end, template) in OWN_TYPES {
-            let wanted = imports.words.has(names.type_name(index), end);
-            self.put_own(imports, template, at, wanted);
-        }
+        self.put_own(imports, &OWN_VARIANTS, names.module(index), at);
+        self.put_own(imports, &OWN_TYPES, names.type_name(index), at);
     }
 
     fn put_clause_words(&mut self, words: &Words<'_>, order: &[usize]) {

@@ -6,9 +6,10 @@ ghost use Rattle.planus_plan.specs.Names.{are_scopes as are_scopes_lem};
 ghost use Rattle.planus_plan.specs.Names.{are_apart as are_apart_lem};
 ghost use Rattle.planus_plan.specs.Names.{are_apart_from as are_apart_from_lem};
 
+use crate::context::{count_in, member_in};
 use crate::known::{is_known_module, is_known_type, is_reserved};
 use crate::refusal::Refusal;
-use planus_layout::{Body, Declared, Enum, is_among as is_in};
+use planus_layout::{Body, Declared, is_among as is_in};
 use planus_plan::{
     are_apart, are_apart_from, are_names, are_scopes, is_among, is_reserved as is_reserved_word,
 };
@@ -169,46 +170,23 @@ fn module_names(
     Ok(names)
 }
 
-// The values of flags are constants.
-fn value_spelling(one: &Enum) -> Spelling {
-    if one.flags {
-        Spelling::Capitals
-    } else {
-        Spelling::Kept
+// The values of flags are constants, and fields are in small letters.
+fn spelling_of(body: &Body) -> Spelling {
+    match body {
+        Body::Table(_) | Body::Struct(_) => Spelling::Snake,
+        Body::Enum(one) if one.flags => Spelling::Capitals,
+        Body::Enum(_) | Body::Union(_) => Spelling::Kept,
     }
-}
-
-fn add_member(
-    alloc: Global,
-    names: &mut Vec<Vec<u8>>,
-    name: &[u8],
-    spelling: Spelling,
-) -> Result<(), AllocError> {
-    add_allowed(names, spelled(alloc, last_word(name), spelling)?)
 }
 
 fn members_of(alloc: Global, body: &Body) -> Result<Vec<Vec<u8>>, AllocError> {
     let mut names = Vec::new(alloc);
-    match body {
-        Body::Table(one) => {
-            for field in &one.fields {
-                add_member(alloc, &mut names, &field.name, Spelling::Snake)?;
-            }
-        }
-        Body::Struct(one) => {
-            for field in &one.fields {
-                add_member(alloc, &mut names, &field.name, Spelling::Snake)?;
-            }
-        }
-        Body::Enum(one) => {
-            for value in &one.values {
-                add_member(alloc, &mut names, &value.name, value_spelling(one))?;
-            }
-        }
-        Body::Union(one) => {
-            for member in &one.members {
-                add_member(alloc, &mut names, &member.name, Spelling::Kept)?;
-            }
+    for place in 0..count_in(body) {
+        if let Some((name, _)) = member_in(body, place) {
+            add_allowed(
+                &mut names,
+                spelled(alloc, last_word(name), spelling_of(body))?,
+            )?;
         }
     }
     Ok(names)

@@ -16,6 +16,17 @@ pub(crate) const OWN: char = '\u{3}';
 /// Where a line ends and goes on.
 pub(crate) const END: char = '\u{4}';
 
+/// A piece of the code of a declaration.
+#[derive(Clone, Copy)]
+pub(crate) enum Piece {
+    /// A template.
+    Once(&'static str),
+    /// A template for each member, and another one between them.
+    Each(&'static str, &'static str),
+    /// A template for each member, after its documentation or else these words.
+    Documented(&'static str, &'static str),
+}
+
 /// A text to which more is added until memory is refused, and which then says so.
 ///
 /// Templates are added: in one `$` and a letter stand for what `holes.rt` says, `~` for a blank
@@ -85,8 +96,18 @@ impl<'a> Printer<'a> {
         }
     }
 
+    pub(crate) fn put_pieces(&mut self, pieces: &[Piece], at: At) {
+        for piece in pieces {
+            match *piece {
+                Piece::Once(template) => self.put(template, at),
+                Piece::Each(template, between) => self.put_each(template, between, at),
+                Piece::Documented(words, template) => self.put_members(words, template, at),
+            }
+        }
+    }
+
     /// Adds a template for each member, after its documentation or else these words.
-    pub(crate) fn put_members(&mut self, words: &str, template: &str, at: At) {
+    fn put_members(&mut self, words: &str, template: &str, at: At) {
         for place in 0..self.context.names.count(at.index) {
             let at = at.member(place);
             self.put_docs("    ", self.context.docs(at), words, at);

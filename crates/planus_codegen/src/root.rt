@@ -2,6 +2,7 @@
 
 use crate::at::At;
 use crate::context::Context;
+use crate::printer::Piece::Once;
 use crate::printer::Printer;
 
 const READ: &str = "\
@@ -62,12 +63,9 @@ pub fn has_identifier(bytes: &[u8]) -> bool
 /// Prints the functions that read and finish a buffer by its root.
 pub(crate) fn print_root<'a>(context: &'a Context<'a>, at: At) -> Printer<'a> {
     let mut printer = Printer::new(context);
-    printer.put(READ, at);
-    printer.put(READ_SIZED, at);
+    printer.put_pieces(&[Once(READ), Once(READ_SIZED)], at);
     if context.identifier.is_some() {
-        printer.put(FINISH, at);
-        printer.put(FINISH_SIZED, at);
-        printer.put(CHECK, at);
+        printer.put_pieces(&[Once(FINISH), Once(FINISH_SIZED), Once(CHECK)], at);
     }
     printer
 }

@@ -3,7 +3,8 @@
 use crate::at::At;
 use crate::context::Context;
 use crate::holes::has_forced_alignment;
-use crate::printer::Printer;
+use crate::printer::Piece::{Documented, Each, Once};
+use crate::printer::{Piece, Printer};
 use planus_layout::{Declared, Struct};
 
 /// The layout of a type, up to the body of `put`.
@@ -76,6 +77,20 @@ pub(crate) fn has_padding(one: &Struct) -> bool {
     bytes < one.size
 }
 
+const STRUCT_CODE: [Piece; 11] = [
+    Once(HEAD),
+    Documented("", "    pub $n: $t,\n"),
+    Once(LAYOUT),
+    Once("        put_fields!(self, bytes;~"),
+    Each("$x$n: $z", ",~"),
+    Once("$y);\n"),
+    Once(READ),
+    Once("        read_fields!($T, buffer, offset;~"),
+    Each("$n$w", ",~"),
+    Once(")\n"),
+    Once(STRIDE),
+];
+
 pub(crate) fn print_struct<'a>(
     context: &'a Context<'a>,
     at: At,
@@ -83,38 +98,33 @@ pub(crate) fn print_struct<'a>(
 ) -> Printer<'a> {
     let mut printer = Printer::new(context);
     printer.put_docs("", &declared.docs, "/// A struct of $S bytes.\n", at);
-    printer.put(HEAD, at);
-    printer.put_members("", "    pub $n: $t,\n", at);
-    printer.put(LAYOUT, at);
-    printer.put("        put_fields!(self, bytes;~", at);
-    printer.put_each("$x$n: $z", ",~", at);
-    printer.put("$y);\n", at);
-    printer.put(READ, at);
-    printer.put("        read_fields!($T, buffer, offset;~", at);
-    printer.put_each("$n$w", ",~", at);
-    printer.put(")\n", at);
-    printer.put(STRIDE, at);
+    printer.put_pieces(&STRUCT_CODE, at);
     if context.is_total_declaration(at.index) {
         printer.put(TOTAL, at);
     }
     printer
 }
 
+const SHAPE_FIELDS: [Piece; 3] = [
+    Each("(field (λ x. x.$n) $h_shape~", ""),
+    Once("no_more"),
+    Each(")", ""),
+];
+
+const SHAPE_END: [Piece; 3] = [
+    Once("    (struct_layout $P $Q (lit≤ tt) (lit< tt))\n    (λ v. record {^"),
+    Each("$f = $v", ";^"),
+    Once("^})\n    (λ x. refl)\n"),
+];
+
 pub(crate) fn print_struct_layout<'a>(context: &'a Context<'a>, at: At) -> Printer<'a> {
     let mut printer = Printer::new(context);
     let forced = has_forced_alignment(context, at);
     printer.put(SHAPE, at);
     printer.put(if forced { "(force_align $A~" } else { "" }, at);
-    printer.put_each("(field (λ x. x.$n) $h_shape~", "", at);
-    printer.put("no_more", at);
-    printer.put_each(")", "", at);
+    printer.put_pieces(&SHAPE_FIELDS, at);
     printer.put(if forced { ")\n" } else { "\n" }, at);
-    printer.put(
-        "    (struct_layout $P $Q (lit≤ tt) (lit< tt))\n    (λ v. record {^",
-        at,
-    );
-    printer.put_each("$f = $v", ";^", at);
-    printer.put("^})\n    (λ x. refl)\n", at);
+    printer.put_pieces(&SHAPE_END, at);
     printer
 }
 

@@ -168,36 +168,26 @@ impl<'a> Printer<'a> {
     // The fields where nothing is said of them.
     fn put_default_fields(&mut self, plan: &Plan<'_>) {
         let at = At::declaration(plan.table);
-        let borrows = plan.borrows();
-        self.put(
-            if borrows {
-                "impl<'a> Default for $TFields<'a> {\n"
-            } else {
-                "impl Default for $TFields {\n"
-            },
-            at,
-        );
+        let (head, function) = if plan.borrows() {
+            ("impl<'a> Default for $TFields<'a> {\n", BORROWED_FIELDS)
+        } else {
+            ("impl Default for $TFields {\n", OWNED_FIELDS)
+        };
+        self.put(head, at);
         self.put_constant_uses(plan);
         self.put("    ghost is_default = {~λ x.", at);
-        let mut first = true;
+        let mut between = "";
         for line in &plan.lines {
-            self.put(if first { "" } else { "~×" }, at);
-            first = false;
+            self.put(between, at);
             self.put(default_is(line.field), At::line(line));
+            between = "~×";
         }
-        self.put(
-            if borrows {
-                BORROWED_FIELDS
-            } else {
-                OWNED_FIELDS
-            },
-            at,
-        );
-        first = true;
+        self.put(function, at);
+        between = "^";
         for line in &plan.lines {
-            self.put(if first { "^" } else { ",^" }, at);
-            first = false;
+            self.put(between, at);
             self.put(default_of(line.field), At::line(line));
+            between = ",^";
         }
         self.put("^}\n    }\n}\n\n", at);
     }

@@ -2,7 +2,8 @@
 
 use crate::at::At;
 use crate::context::Context;
-use crate::printer::Printer;
+use crate::printer::Piece::{Documented, Each, Once};
+use crate::printer::{Piece, Printer};
 use planus_layout::{Declared, Union};
 
 /// The most letters of the names in an arm on one line: the union's and the member's.
@@ -142,6 +143,31 @@ fn has_wide_arms(context: &Context<'_>, at: At) -> bool {
     false
 }
 
+const UNION_CODE: [Piece; 5] = [
+    Once(KIND),
+    Each(OF_TABLE, "\n"),
+    Once(VIEW),
+    Documented("", "    $n($mRef<'a>),\n"),
+    Once(READ),
+];
+
+/// Where one function reads all members.
+const READ_TOGETHER: [Piece; 4] = [
+    Once("        match tag {\n"),
+    Each(ARM, ""),
+    Once(UNKNOWN),
+    Once(VECTOR),
+];
+
+const READ_TOGETHER_WIDE: [Piece; 4] = [
+    Once("        match tag {\n"),
+    Each(WIDE_ARM, ""),
+    Once(UNKNOWN),
+    Once(VECTOR),
+];
+
+const READ_FROM_FIRST: [Piece; 2] = [Once("        from_0(buffer, tag, offset)\n"), Once(VECTOR)];
+
 pub(crate) fn print_union<'a>(
     context: &'a Context<'a>,
     at: At,
@@ -150,44 +176,38 @@ pub(crate) fn print_union<'a>(
 ) -> Printer<'a> {
     let mut printer = Printer::new(context);
     let wide = has_wide_arms(context, at);
-    printer.put_docs(
-        "",
-        &declared.docs,
-        "/// The kind of one of some tables.\n",
-        at,
-    );
-    printer.put(KIND, at);
-    printer.put_each(OF_TABLE, "\n", at);
-    printer.put(VIEW, at);
-    printer.put_members("", "    $n($mRef<'a>),\n", at);
-    printer.put(READ, at);
-    if one.members.len() > MOST_TOGETHER {
-        printer.put("        from_0(buffer, tag, offset)\n", at);
-    } else {
-        printer.put("        match tag {\n", at);
-        printer.put_each(if wide { WIDE_ARM } else { ARM }, "", at);
-        printer.put(UNKNOWN, at);
-    }
-    printer.put(VECTOR, at);
+    let words = "/// The kind of one of some tables.\n";
+    printer.put_docs("", &declared.docs, words, at);
+    printer.put_pieces(&UNION_CODE, at);
     if one.members.len() > MOST_TOGETHER {
         let arm = if wide { WIDE_ARM_FROM } else { ARM_FROM };
+        printer.put_pieces(&READ_FROM_FIRST, at);
         printer.put_functions(READ_FROM, arm, NEXT, at);
         printer.put(UNKNOWN_FROM, at);
+    } else if wide {
+        printer.put_pieces(&READ_TOGETHER_WIDE, at);
+    } else {
+        printer.put_pieces(&READ_TOGETHER, at);
     }
     printer
 }
 
+const LISTED_VARIANTS: [Piece; 3] = [
+    Once(VARIANTS),
+    Each("~table_variant $g $M_$g ∷", ""),
+    Once("~[]\n"),
+];
+
 pub(crate) fn print_variants<'a>(context: &'a Context<'a>, at: At, one: &Union) -> Printer<'a> {
     let mut printer = Printer::new(context);
-    printer.put_each(if one.members.len() > 1 { ONE_OF } else { ONLY }, "", at);
+    let several = one.members.len() > 1;
+    printer.put_each(if several { ONE_OF } else { ONLY }, "", at);
     if one.members.len() > MOST_TOGETHER {
         printer.put("-- by their tags, from some on\n", at);
         printer.put_lists(VARIANTS_FROM, "~table_variant $g $M_$g ∷", at);
         printer.put(ALL_VARIANTS, at);
-        return printer;
+    } else {
+        printer.put_pieces(&LISTED_VARIANTS, at);
     }
-    printer.put(VARIANTS, at);
-    printer.put_each("~table_variant $g $M_$g ∷", "", at);
-    printer.put("~[]\n", at);
     printer
 }
