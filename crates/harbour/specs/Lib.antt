@@ -5,4 +5,5 @@ pub mod Pos
 pub mod Fix
 pub mod Owner
 pub mod Gauge
+pub mod Signal
 pub mod Cause

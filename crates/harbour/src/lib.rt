@@ -15,6 +15,7 @@ mod person;
 mod port;
 mod pos;
 mod ship;
+mod signal;
 
 pub use cause::{Cause, CauseRef};
 pub use company::{Company, CompanyFields, CompanyRef};
@@ -31,6 +32,7 @@ pub use planus::Create;
 pub use port::{Port, PortFields, PortRef};
 pub use pos::Pos;
 pub use ship::{Ship, ShipFields, ShipRef};
+pub use signal::Signal;
 
 mod root;
 

@@ -4,23 +4,26 @@ ghost use Rattle.std.specs.Prelude.{◌∷◌, [], codes};
 ghost use Rattle.planus.specs.Printed.{u16_shape, IsIn, AllIn, AllUnionsIn, IsPlainVectorRequired};
 ghost use Rattle.planus.specs.Printed.{IsBytesRequired, IsTextVectorRequired};
 ghost use Rattle.planus.specs.Printed.{IsTableVectorRequired, bytes_kind, IsPlainField};
-ghost use Rattle.planus.specs.Printed.{IsUnionRequired, IsUnionVectorRequired, ReadsVariants};
-ghost use Rattle.planus.specs.Printed.{plains, texts, tables, required, plain_if, union_required};
-ghost use Rattle.planus.specs.Printed.{unions_required};
+ghost use Rattle.planus.specs.Printed.{IsPlainFieldOr, IsUnionRequired, IsUnionVectorRequired};
+ghost use Rattle.planus.specs.Printed.{ReadsVariants, plains, texts, tables, required, plain_if};
+ghost use Rattle.planus.specs.Printed.{plain_or, union_required, unions_required};
 ghost use Rattle.harbour.specs.Gauge.{gauge_shape};
 ghost use Rattle.harbour.specs.Owner.{owner_variants};
 ghost use Rattle.harbour.specs.declared.owner.OwnerRef.{OwnerRef};
 ghost use Rattle.harbour.specs.declared.ship.Ship.{Ship};
+ghost use Rattle.harbour.specs.Signal.{signal_shape};
+ghost use Rattle.harbour.specs.declared.signal.Signal.TheVariants as signal_value;
 
 use crate::gauge::Gauge;
 use crate::owner::{Owner, OwnerRef};
 use crate::ship::Ship;
+use crate::signal::Signal;
 use planus::table_reader::Table;
 use planus::{
-    Builder, Built, ByteList, Create, List, Offset, Result, TableKind, TableRef, TableView,
-    TableWriter, Text, UnionOffset, UnionVector, Vector, bytes_required, create_table, fields,
-    plain_field, plain_vector_required, table_vector_required, text_vector_required,
-    union_required, union_vector_required,
+    Builder, Built, ByteList, Create, List, Offset, OrDefault, Result, TableKind, TableRef,
+    TableView, TableWriter, Text, UnionOffset, UnionVector, Vector, bytes_required, create_table,
+    fields, plain_field, plain_field_or, plain_vector_required, table_vector_required,
+    text_vector_required, union_required, union_vector_required,
 };
 
 /// Where ships lie.
@@ -36,6 +39,8 @@ pub struct PortFields<'a> {
     pub soundings: &'a [u16],
     pub chart: ByteList<'a>,
     pub gauge: Option<Gauge>,
+    /// What it hoists.
+    pub hoisted: Signal,
 }
 
 impl<'a> Create<PortFields<'a>> for Port {
@@ -46,7 +51,9 @@ impl<'a> Create<PortFields<'a>> for Port {
         required texts 3 fields.berths ∷
         unions_required OwnerRef 4 fields.shares ∷
         required (plains u16_shape) 6 fields.soundings ∷
-        required bytes_kind 7 fields.chart ∷ [] };
+        required bytes_kind 7 fields.chart ∷
+        plain_or signal_shape ⟦<Signal as PartialEq>⟧.eq 9 signal_value.Quebec fields.hoisted ∷
+        [] };
 
     ghost may = { λ fields builder. IsIn builder fields.owner.offset ×
         AllIn builder fields.ships.now × AllUnionsIn builder fields.shares.now };
@@ -60,6 +67,7 @@ impl<'a> Create<PortFields<'a>> for Port {
             (4, 5): unions Owner = fields.shares,
             6: Offset<List<u16>> = fields.soundings,
             7: Offset<List<u8>> = fields.chart,
+            9: Signal = OrDefault { value: fields.hoisted, default: Signal::Quebec },
         ];
         create_table::<Port, _>(builder, lines)
     }
@@ -119,6 +127,14 @@ impl<'a> PortRef<'a> {
     {
         plain_field(&self.0, 8, "Port", "gauge")
     }
+
+    /// What it hoists.
+    pub fn hoisted(&self) -> Result<Signal>
+        ensures { IsPlainFieldOr signal_shape signal_value.Quebec self.now.0 9 (codes "Port")
+            (codes "hoisted") result }
+    {
+        plain_field_or(&self.0, 9, Signal::Quebec, "Port", "hoisted")
+    }
 }
 
 impl<'a> TableView<'a> for PortRef<'a> {
@@ -132,7 +148,7 @@ impl<'a> TableView<'a> for PortRef<'a> {
 }
 
 impl TableKind for Port {
-    type Writer = TableWriter<22>;
+    type Writer = TableWriter<24>;
 
     ghost name = { codes "[PortRef]" };
 

@@ -8,7 +8,7 @@ use super::structs::GAUGE;
 use super::{is_plain, plain_ship, the_line};
 use harbour::{
     Cause, CauseRef, Company, Create, Entry, EntryFields, EntryRef, Kind, Origin, OriginFields,
-    OriginRef, Owner, OwnerRef, Port, PortFields, PortRef, Ship, has_identifier,
+    OriginRef, Owner, OwnerRef, Port, PortFields, PortRef, Ship, Signal, has_identifier,
 };
 use planus::{
     BuildError, Builder, ByteList, Offset, plain_item, read_root, table_item, text_item, union_item,
@@ -21,6 +21,7 @@ fn has_values(port: &PortRef<'_>) -> bool {
         && matches!(port.soundings(), Ok(read) if plain_item(&read, 1) == Some(u16::MAX))
         && matches!(port.chart(), Ok([9, 8]))
         && matches!(port.gauge(), Ok(Some(gauge)) if gauge == GAUGE)
+        && matches!(port.hoisted(), Ok(Signal::Zulu))
 }
 
 fn has_ships(port: &PortRef<'_>) -> bool {
@@ -64,6 +65,7 @@ pub fn writes_port(builder: &mut Builder) -> Written<bool> {
         soundings: &[0, u16::MAX],
         chart: ByteList(&[9, 8]),
         gauge: Some(GAUGE),
+        hoisted: Signal::Zulu,
     };
     let port = Port::create(builder, port)?;
     let bytes = builder.finish(port, Some(*b"PORT"))?;

@@ -1,6 +1,6 @@
 //! Structs and enums are the bytes of other builders.
 
-use harbour::{Fix, Gauge, Kind, Level, Port, Pos};
+use harbour::{Fix, Gauge, Kind, Level, Port, Pos, Signal};
 use planus::errors::ErrorKind;
 use planus::{Plain, ReadAsRoot, SliceWithStartOffset, TableRead, TableRef, plain_vector};
 
@@ -77,6 +77,11 @@ fn are_read() -> bool {
         && matches!(
             at::<Level>(&FIX_BYTES, 16),
             Err(ErrorKind::UnknownEnumTag { source }) if source.tag == -1
+        )
+        && matches!(at::<Signal>(&FIX_BYTES, 12), Ok(Signal::Mike))
+        && matches!(
+            at::<Signal>(&FIX_BYTES, 13),
+            Err(ErrorKind::UnknownEnumTag { source }) if source.tag == -84
         )
 }
 
