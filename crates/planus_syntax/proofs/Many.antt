@@ -1,16 +1,12 @@
 -- Lists of items.
-use Rattle.std.proofs.Common.{◌≡◌, ℕ, zero, suc, ◌≤◌, ◌<◌, Bool, true, false, cond, List, [], ◌∷◌, ◌++◌, length, Result, Ok, Err, refl, sym, ap, subst, ◌∙◌, append_assoc, arith}
+use Rattle.std.proofs.Common.{◌≡◌, ℕ, zero, suc, ◌≤◌, Bool, true, false, cond, List, [], ◌∷◌, ◌++◌, length, Result, Ok, Err, refl, sym, ap, subst, ◌∙◌, append_assoc, arith}
 use Rattle.std.specs.List.{AllByRecursion}
 use Rattle.std.proofs.lemmas.List.{append-nil}
 use Rattle.planus_syntax.specs.Values.{Before, each_before}
 use Rattle.planus_syntax.specs.declared.read_error.ReadError.{ReadError}
 use Rattle.planus_syntax.specs.declared.read_error.ReadError.TheVariants as errors
 use Rattle.planus_syntax.specs.Tokens.{Piece}
-use Rattle.planus_syntax.specs.Reading.{Fault, Reads, ◌>>=◌, Fails, many, list_at, with_items}
-
-pub record Looped {A : Type 0} (goes : List Piece → Bool) (item : List Piece → Reads A) : Type 0 where
-  pub none : goes [] ≡ false
-  pub shrinks : (ps : List Piece) (x : A × List Piece) → item ps ≡ Ok x → length x.1 < length ps
+use Rattle.planus_syntax.specs.Reading.{Fault, Reads, ◌>>=◌, Fails, Looped, many, list_at, with_items}
 
 pub bind_ok : {A B : Type 0} (r : Result A Fault) (f : A → Result B Fault) (y : B) → (r >>= f) ≡ Ok y → (x : A) × (r ≡ Ok x) × (f x ≡ Ok y)
 bind_ok (Ok x) f y e = (x, refl, e)

@@ -1,7 +1,7 @@
 -- Reading tokens from left to right: a value, or the first error and how many tokens are left
 -- there.
 use Rattle.std.specs.Prelude.{◌≡◌, ℕ, zero, suc, Bool, true, false, not, ◌&&◌, ◌==◌, List, [], ◌∷◌}
-use Rattle.std.specs.Prelude.{◌++◌, length, codes, Option, Some, None, Result, Ok, Err}
+use Rattle.std.specs.Prelude.{◌++◌, ◌<◌, length, codes, Option, Some, None, Result, Ok, Err}
 use Rattle.std.specs.Prelude.{if◌then◌else◌}
 use Rattle.std.specs.Str.{bytes_eq}
 use Rattle.planus_syntax.specs.declared.parse_fault.ParseFault.{ParseFault}
@@ -113,6 +113,12 @@ label_at (number w ∷ ps) = Err (fault.Word, suc (length ps))
 label_at (text w ∷ ps) = Ok (record { quoted = true; name = w }, ps)
 label_at (doc w ∷ ps) = Err (fault.Word, suc (length ps))
 label_at (mark b ∷ ps) = Err (fault.Word, suc (length ps))
+
+-- nothing is no item, and an item leaves fewer tokens
+pub record Looped {A : Type 0} (goes : List Piece → Bool) (item : List Piece → Reads A) : Type 0
+  where
+    pub none : goes [] ≡ false
+    pub shrinks : (ps : List Piece) (x : A × List Piece) → item ps ≡ Ok x → length x.1 < length ps
 
 -- items while the test holds, at most n
 abbrev pub many : {A : Type 0} → (List Piece → Bool) → (List Piece → Reads A) → ℕ → List Piece

@@ -22,6 +22,7 @@ macro_rules! or_return {
 
 mod attributes;
 mod enums;
+mod lists;
 mod literals;
 mod paths;
 mod services;
@@ -31,42 +32,53 @@ mod tokens;
 mod unions;
 
 use crate::parse::attributes::docs_at;
+use crate::parse::lists::{Items, list_of};
 use crate::parse::statements::item_at;
-use crate::parse::tokens::{is_some, word_at};
+use crate::parse::tokens::word_at;
 use crate::parse_fault::ParseFault;
 use crate::read_error::ReadError;
 use crate::token::Token;
 use crate::value::Declaration;
 use std::alloc::Global;
 
-fn declaration_at(alloc: Global, tokens: &[Token]) -> Result<(Declaration, &[Token]), ReadError>
-    ensures { Gives (λ x. (declaration_of x.0, pieces_of x.1.now)) result
-        (declaration_at_lem (pieces_of tokens.now)) }
-{
-    let (docs, start) = or_return!(docs_at(alloc, tokens));
-    let (key, rest) = or_return!(word_at(alloc, start));
-    let (item, rest) = or_return!(item_at(alloc, &key, start.len(), rest));
-    Ok((
-        Declaration {
-            docs,
-            left: start.len(),
-            item,
-        },
-        rest,
-    ))
+/// The declarations of a text.
+struct Declarations;
+
+impl Items for Declarations {
+    ghost Value = { DeclarationV };
+
+    ghost goes_on = { is_some_lem };
+
+    ghost item_at = { declaration_at_lem };
+
+    ghost value_of = { declaration_of };
+
+    type Item = Declaration;
+
+    fn goes_on(tokens: &[Token]) -> bool {
+        !tokens.is_empty()
+    }
+
+    fn item_at(alloc: Global, tokens: &[Token]) -> Result<(Declaration, &[Token]), ReadError> {
+        let (docs, start) = or_return!(docs_at(alloc, tokens));
+        let (key, rest) = or_return!(word_at(alloc, start));
+        let (item, rest) = or_return!(item_at(alloc, &key, start.len(), rest));
+        Ok((
+            Declaration {
+                docs,
+                left: start.len(),
+                item,
+            },
+            rest,
+        ))
+    }
 }
 
 fn schema_at(alloc: Global, tokens: &[Token]) -> Result<Vec<Declaration>, ReadError>
     ensures { Gives (λ v. (schema_of v.items, [])) result
         (list_at is_some_lem declaration_at_lem (pieces_of tokens.now)) }
 {
-    let mut items = Vec::new(alloc);
-    let mut rest = tokens;
-    'items: while is_some(rest) {
-        let (item, after) = or_return!(declaration_at(alloc, rest));
-        items.push(item)?;
-        rest = after;
-    }
+    let (items, _rest) = or_return!(list_of::<Declarations>(alloc, tokens));
     Ok(items)
 }
 

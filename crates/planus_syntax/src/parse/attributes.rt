@@ -1,10 +1,11 @@
 //! Documentation and attributes.
 
-ghost use Rattle.std.specs.Prelude.{◌∷◌, [], map};
+ghost use Rattle.std.specs.Prelude.{map};
 ghost use Rattle.std.specs.Option.{option_map};
 ghost use Rattle.planus_syntax.specs.Tokens.{pieces_of};
-ghost use Rattle.planus_syntax.specs.Values.{names_of, path_of, attribute_of, digits_of};
-ghost use Rattle.planus_syntax.specs.Reading.{Gives, list_at, optional_at, with_items};
+ghost use Rattle.planus_syntax.specs.Values.{Name, AttributeV, names_of, path_of};
+ghost use Rattle.planus_syntax.specs.Values.{attribute_of, digits_of};
+ghost use Rattle.planus_syntax.specs.Reading.{Gives, list_at, optional_at};
 ghost use Rattle.planus_syntax.specs.Reading.{begins_mark as begins_mark_lem};
 ghost use Rattle.planus_syntax.specs.Reading.{begins_doc as begins_doc_lem, doc_at as doc_at_lem};
 ghost use Rattle.planus_syntax.specs.Reading.{number_at as number_at_lem, path_at as path_at_lem};
@@ -12,11 +13,11 @@ ghost use Rattle.planus_syntax.specs.Reading.{attribute_at as attribute_at_lem};
 ghost use Rattle.planus_syntax.specs.Reading.{next_attribute_at as next_attribute_at_lem};
 ghost use Rattle.planus_syntax.specs.Reading.{attributes_at as attributes_at_lem};
 
+use crate::parse::lists::{Items, list_after, list_of};
 use crate::parse::literals::literal_after;
 use crate::parse::paths::path_at;
-use crate::parse::tokens::{
-    after_mark, begins_doc, begins_mark, doc_at, label_at, mark_at, number_at,
-};
+use crate::parse::tokens::{after_mark, begins_mark, label_at, mark_at, number_at};
+use crate::parse_fault::ParseFault;
 use crate::read_error::ReadError;
 use crate::token::Token;
 use crate::value::{Attribute, Path};
@@ -63,32 +64,28 @@ fn attribute_at(alloc: Global, tokens: &[Token]) -> Result<(Attribute, &[Token])
     Ok((Attribute { label, value }, rest))
 }
 
-fn next_attribute_at(alloc: Global, tokens: &[Token]) -> Result<(Attribute, &[Token]), ReadError>
-    ensures { Gives (λ x. (attribute_of x.0, pieces_of x.1.now)) result
-        (next_attribute_at_lem (pieces_of tokens.now)) }
-{
-    let rest = or_return!(mark_at(tokens, b','));
-    attribute_at(alloc, rest)
-}
+/// The attributes after the first.
+pub(crate) struct MoreAttributes;
 
-fn more_attributes(
-    alloc: Global,
-    first: Attribute,
-    tokens: &[Token],
-) -> Result<(Vec<Attribute>, &[Token]), ReadError>
-    ensures { Gives (λ x. (map attribute_of x.0.items, pieces_of x.1.now)) result
-        (with_items (attribute_of first ∷ [])
-        (list_at (begins_mark_lem 44) next_attribute_at_lem (pieces_of tokens.now))) }
-{
-    let mut items = Vec::new(alloc);
-    items.push(first)?;
-    let mut rest = tokens;
-    'items: while begins_mark(rest, b',') {
-        let (item, after) = or_return!(next_attribute_at(alloc, rest));
-        items.push(item)?;
-        rest = after;
+impl Items for MoreAttributes {
+    ghost Value = { AttributeV };
+
+    ghost goes_on = { begins_mark_lem 44 };
+
+    ghost item_at = { next_attribute_at_lem };
+
+    ghost value_of = { attribute_of };
+
+    type Item = Attribute;
+
+    fn goes_on(tokens: &[Token]) -> bool {
+        begins_mark(tokens, b',')
     }
-    Ok((items, rest))
+
+    fn item_at(alloc: Global, tokens: &[Token]) -> Result<(Attribute, &[Token]), ReadError> {
+        let rest = or_return!(mark_at(tokens, b','));
+        attribute_at(alloc, rest)
+    }
 }
 
 #[tactic(auto, unfolding(crate::specs::Reading::attributes_at))]
@@ -102,11 +99,43 @@ pub(crate) fn attributes_at(
     match after_mark(tokens, b'(') {
         Some(rest) => {
             let (first, rest) = or_return!(attribute_at(alloc, rest));
-            let (items, rest) = or_return!(more_attributes(alloc, first, rest));
+            let (items, rest) = or_return!(list_after::<MoreAttributes>(alloc, first, rest));
             let rest = or_return!(mark_at(rest, b')'));
             Ok((items, rest))
         }
         None => Ok((Vec::new(alloc), tokens)),
+    }
+}
+
+/// The lines of documentation.
+pub(crate) struct Docs;
+
+impl Items for Docs {
+    ghost Value = { Name };
+
+    ghost goes_on = { begins_doc_lem };
+
+    ghost item_at = { doc_at_lem };
+
+    ghost value_of = { λ line. line.items };
+
+    type Item = Vec<u8>;
+
+    fn goes_on(tokens: &[Token]) -> bool {
+        match tokens.split_first() {
+            Some((Token::Doc(_), _)) => true,
+            _ => false,
+        }
+    }
+
+    fn item_at(alloc: Global, tokens: &[Token]) -> Result<(Vec<u8>, &[Token]), ReadError> {
+        match tokens.split_first() {
+            Some((Token::Doc(bytes), rest)) => Ok((Vec::from_slice(alloc, bytes)?, rest)),
+            _ => Err(ReadError::Fault {
+                fault: ParseFault::Word,
+                left: tokens.len(),
+            }),
+        }
     }
 }
 
@@ -117,12 +146,5 @@ pub(crate) fn docs_at(
     ensures { Gives (λ x. (names_of x.0.items, pieces_of x.1.now)) result
         (list_at begins_doc_lem doc_at_lem (pieces_of tokens.now)) }
 {
-    let mut items = Vec::new(alloc);
-    let mut rest = tokens;
-    'items: while begins_doc(rest) {
-        let (item, after) = or_return!(doc_at(alloc, rest));
-        items.push(item)?;
-        rest = after;
-    }
-    Ok((items, rest))
+    list_of::<Docs>(alloc, tokens)
 }

@@ -1,10 +1,10 @@
 //! Enums.
 
-ghost use Rattle.std.specs.Prelude.{◌∷◌, [], map};
+ghost use Rattle.std.specs.Prelude.{map};
 ghost use Rattle.planus_syntax.specs.Tokens.{pieces_of};
-ghost use Rattle.planus_syntax.specs.Values.{variant_of, item_of};
+ghost use Rattle.planus_syntax.specs.Values.{VariantV, variant_of, item_of};
 ghost use Rattle.planus_syntax.specs.Values.{enumeration as enumeration_item};
-ghost use Rattle.planus_syntax.specs.Reading.{Gives, list_at, with_items, as_item};
+ghost use Rattle.planus_syntax.specs.Reading.{Gives, as_item};
 ghost use Rattle.planus_syntax.specs.Reading.{begins_next as begins_next_lem};
 ghost use Rattle.planus_syntax.specs.Reading.{comma_at as comma_at_lem};
 ghost use Rattle.planus_syntax.specs.Reading.{variant_at as variant_at_lem};
@@ -13,6 +13,7 @@ ghost use Rattle.planus_syntax.specs.Reading.{variants_at as variants_at_lem};
 ghost use Rattle.planus_syntax.specs.Reading.{enumeration_at as enumeration_at_lem};
 
 use crate::parse::attributes::{attributes_at, docs_at, value_at};
+use crate::parse::lists::{Items, list_after};
 use crate::parse::paths::path_at;
 use crate::parse::tokens::{after_mark, begins_next, mark_at, word_at};
 use crate::read_error::ReadError;
@@ -47,32 +48,28 @@ fn variant_at(alloc: Global, tokens: &[Token]) -> Result<(Variant, &[Token]), Re
     ))
 }
 
-fn next_variant_at(alloc: Global, tokens: &[Token]) -> Result<(Variant, &[Token]), ReadError>
-    ensures { Gives (λ x. (variant_of x.0, pieces_of x.1.now)) result
-        (next_variant_at_lem (pieces_of tokens.now)) }
-{
-    let rest = or_return!(mark_at(tokens, b','));
-    variant_at(alloc, rest)
-}
+/// The values of an enum after the first.
+pub(crate) struct MoreVariants;
 
-fn more_variants(
-    alloc: Global,
-    first: Variant,
-    tokens: &[Token],
-) -> Result<(Vec<Variant>, &[Token]), ReadError>
-    ensures { Gives (λ x. (map variant_of x.0.items, pieces_of x.1.now)) result
-        (with_items (variant_of first ∷ [])
-        (list_at begins_next_lem next_variant_at_lem (pieces_of tokens.now))) }
-{
-    let mut items = Vec::new(alloc);
-    items.push(first)?;
-    let mut rest = tokens;
-    'items: while begins_next(rest) {
-        let (item, after) = or_return!(next_variant_at(alloc, rest));
-        items.push(item)?;
-        rest = after;
+impl Items for MoreVariants {
+    ghost Value = { VariantV };
+
+    ghost goes_on = { begins_next_lem };
+
+    ghost item_at = { next_variant_at_lem };
+
+    ghost value_of = { variant_of };
+
+    type Item = Variant;
+
+    fn goes_on(tokens: &[Token]) -> bool {
+        begins_next(tokens)
     }
-    Ok((items, rest))
+
+    fn item_at(alloc: Global, tokens: &[Token]) -> Result<(Variant, &[Token]), ReadError> {
+        let rest = or_return!(mark_at(tokens, b','));
+        variant_at(alloc, rest)
+    }
 }
 
 fn variants_at(alloc: Global, tokens: &[Token]) -> Result<(Vec<Variant>, &[Token]), ReadError>
@@ -80,7 +77,7 @@ fn variants_at(alloc: Global, tokens: &[Token]) -> Result<(Vec<Variant>, &[Token
         (variants_at_lem (pieces_of tokens.now)) }
 {
     let (first, rest) = or_return!(variant_at(alloc, tokens));
-    more_variants(alloc, first, rest)
+    list_after::<MoreVariants>(alloc, first, rest)
 }
 
 pub(crate) fn enumeration_at(alloc: Global, tokens: &[Token]) -> Result<(Item, &[Token]), ReadError>

@@ -1,13 +1,13 @@
 //! Services.
 
-ghost use Rattle.std.specs.Prelude.{map};
 ghost use Rattle.planus_syntax.specs.Tokens.{pieces_of};
-ghost use Rattle.planus_syntax.specs.Values.{method_of, item_of, service as service_item};
-ghost use Rattle.planus_syntax.specs.Reading.{Gives, list_at, as_item, inside as inside_lem};
+ghost use Rattle.planus_syntax.specs.Values.{MethodV, method_of, item_of, service as service_item};
+ghost use Rattle.planus_syntax.specs.Reading.{Gives, as_item, inside as inside_lem};
 ghost use Rattle.planus_syntax.specs.Reading.{method_at as method_at_lem};
 ghost use Rattle.planus_syntax.specs.Reading.{service_at as service_at_lem};
 
 use crate::parse::attributes::{attributes_at, docs_at};
+use crate::parse::lists::{Items, list_of};
 use crate::parse::paths::path_at;
 use crate::parse::tokens::{inside, mark_at, word_at};
 use crate::read_error::ReadError;
@@ -15,44 +15,46 @@ use crate::token::Token;
 use crate::value::{Item, Method, Service};
 use std::alloc::Global;
 
-fn method_at(alloc: Global, tokens: &[Token]) -> Result<(Method, &[Token]), ReadError>
-    ensures { Gives (λ x. (method_of x.0, pieces_of x.1.now)) result
-        (method_at_lem (pieces_of tokens.now)) }
-{
-    let (docs, start) = or_return!(docs_at(alloc, tokens));
-    let (name, rest) = or_return!(word_at(alloc, start));
-    let rest = or_return!(mark_at(rest, b'('));
-    let (request, rest) = or_return!(path_at(alloc, rest));
-    let rest = or_return!(mark_at(rest, b')'));
-    let rest = or_return!(mark_at(rest, b':'));
-    let (response, rest) = or_return!(path_at(alloc, rest));
-    let (attributes, rest) = or_return!(attributes_at(alloc, rest));
-    let rest = or_return!(mark_at(rest, b';'));
-    Ok((
-        Method {
-            docs,
-            left: start.len(),
-            name,
-            request,
-            response,
-            attributes,
-        },
-        rest,
-    ))
-}
+/// The methods of a service.
+pub(crate) struct Methods;
 
-fn methods(alloc: Global, tokens: &[Token]) -> Result<(Vec<Method>, &[Token]), ReadError>
-    ensures { Gives (λ x. (map method_of x.0.items, pieces_of x.1.now)) result
-        (list_at inside_lem method_at_lem (pieces_of tokens.now)) }
-{
-    let mut items = Vec::new(alloc);
-    let mut rest = tokens;
-    'items: while inside(rest) {
-        let (item, after) = or_return!(method_at(alloc, rest));
-        items.push(item)?;
-        rest = after;
+impl Items for Methods {
+    ghost Value = { MethodV };
+
+    ghost goes_on = { inside_lem };
+
+    ghost item_at = { method_at_lem };
+
+    ghost value_of = { method_of };
+
+    type Item = Method;
+
+    fn goes_on(tokens: &[Token]) -> bool {
+        inside(tokens)
     }
-    Ok((items, rest))
+
+    fn item_at(alloc: Global, tokens: &[Token]) -> Result<(Method, &[Token]), ReadError> {
+        let (docs, start) = or_return!(docs_at(alloc, tokens));
+        let (name, rest) = or_return!(word_at(alloc, start));
+        let rest = or_return!(mark_at(rest, b'('));
+        let (request, rest) = or_return!(path_at(alloc, rest));
+        let rest = or_return!(mark_at(rest, b')'));
+        let rest = or_return!(mark_at(rest, b':'));
+        let (response, rest) = or_return!(path_at(alloc, rest));
+        let (attributes, rest) = or_return!(attributes_at(alloc, rest));
+        let rest = or_return!(mark_at(rest, b';'));
+        Ok((
+            Method {
+                docs,
+                left: start.len(),
+                name,
+                request,
+                response,
+                attributes,
+            },
+            rest,
+        ))
+    }
 }
 
 pub(crate) fn service_at(alloc: Global, tokens: &[Token]) -> Result<(Item, &[Token]), ReadError>
@@ -61,7 +63,7 @@ pub(crate) fn service_at(alloc: Global, tokens: &[Token]) -> Result<(Item, &[Tok
 {
     let (name, rest) = or_return!(word_at(alloc, tokens));
     let rest = or_return!(mark_at(rest, b'{'));
-    let (methods, rest) = or_return!(methods(alloc, rest));
+    let (methods, rest) = or_return!(list_of::<Methods>(alloc, rest));
     let rest = or_return!(mark_at(rest, b'}'));
     Ok((Item::Service(Service { name, methods }), rest))
 }

@@ -4,11 +4,10 @@ ghost use Rattle.std.specs.Prelude.{◌≡◌, true, false, Ok, MatchOption};
 ghost use Rattle.planus_syntax.specs.Tokens.{pieces_of};
 ghost use Rattle.planus_syntax.specs.Values.{label_of};
 ghost use Rattle.planus_syntax.specs.Reading.{Gives, begins_mark as begins_mark_lem};
-ghost use Rattle.planus_syntax.specs.Reading.{begins_doc as begins_doc_lem};
 ghost use Rattle.planus_syntax.specs.Reading.{begins_next as begins_next_lem};
-ghost use Rattle.planus_syntax.specs.Reading.{inside as inside_lem, is_some as is_some_lem};
+ghost use Rattle.planus_syntax.specs.Reading.{inside as inside_lem};
 ghost use Rattle.planus_syntax.specs.Reading.{mark_at as mark_at_lem, word_at as word_at_lem};
-ghost use Rattle.planus_syntax.specs.Reading.{doc_at as doc_at_lem, number_at as number_at_lem};
+ghost use Rattle.planus_syntax.specs.Reading.{number_at as number_at_lem};
 ghost use Rattle.planus_syntax.specs.Reading.{text_at as text_at_lem, label_at as label_at_lem};
 
 use crate::parse_fault::ParseFault;
@@ -26,15 +25,6 @@ pub(crate) fn begins_mark(tokens: &[Token], mark: u8) -> bool
     }
 }
 
-pub(crate) fn begins_doc(tokens: &[Token]) -> bool
-    ensures { result ≡ begins_doc_lem (pieces_of tokens.now) }
-{
-    match tokens.split_first() {
-        Some((Token::Doc(_), _)) => true,
-        _ => false,
-    }
-}
-
 pub(crate) fn begins_next(tokens: &[Token]) -> bool
     ensures { result ≡ begins_next_lem (pieces_of tokens.now) }
 {
@@ -42,12 +32,6 @@ pub(crate) fn begins_next(tokens: &[Token]) -> bool
         Some((Token::Mark(byte), rest)) => *byte == b',' && !begins_mark(rest, b'}'),
         _ => false,
     }
-}
-
-pub(crate) fn is_some(tokens: &[Token]) -> bool
-    ensures { result ≡ is_some_lem (pieces_of tokens.now) }
-{
-    !tokens.is_empty()
 }
 
 pub(crate) fn inside(tokens: &[Token]) -> bool
@@ -86,19 +70,6 @@ pub(crate) fn word_at(alloc: Global, tokens: &[Token]) -> Result<(Vec<u8>, &[Tok
 {
     match tokens.split_first() {
         Some((Token::Word(bytes), rest)) => Ok((Vec::from_slice(alloc, bytes)?, rest)),
-        _ => Err(ReadError::Fault {
-            fault: ParseFault::Word,
-            left: tokens.len(),
-        }),
-    }
-}
-
-pub(crate) fn doc_at(alloc: Global, tokens: &[Token]) -> Result<(Vec<u8>, &[Token]), ReadError>
-    ensures { Gives (λ x. (x.0.items, pieces_of x.1.now)) result
-        (doc_at_lem (pieces_of tokens.now)) }
-{
-    match tokens.split_first() {
-        Some((Token::Doc(bytes), rest)) => Ok((Vec::from_slice(alloc, bytes)?, rest)),
         _ => Err(ReadError::Fault {
             fault: ParseFault::Word,
             left: tokens.len(),

@@ -1,9 +1,9 @@
 //! Unions.
 
-ghost use Rattle.std.specs.Prelude.{◌∷◌, [], map};
+ghost use Rattle.std.specs.Prelude.{map};
 ghost use Rattle.planus_syntax.specs.Tokens.{pieces_of};
-ghost use Rattle.planus_syntax.specs.Values.{member_of, item_of, union as union_item};
-ghost use Rattle.planus_syntax.specs.Reading.{Gives, list_at, with_items, as_item};
+ghost use Rattle.planus_syntax.specs.Values.{MemberV, member_of, item_of, union as union_item};
+ghost use Rattle.planus_syntax.specs.Reading.{Gives, as_item};
 ghost use Rattle.planus_syntax.specs.Reading.{begins_next as begins_next_lem};
 ghost use Rattle.planus_syntax.specs.Reading.{member_at as member_at_lem};
 ghost use Rattle.planus_syntax.specs.Reading.{next_member_at as next_member_at_lem};
@@ -12,6 +12,7 @@ ghost use Rattle.planus_syntax.specs.Reading.{union_at as union_at_lem};
 
 use crate::parse::attributes::{attributes_at, docs_at, target_at, value_at};
 use crate::parse::enums::comma_at;
+use crate::parse::lists::{Items, list_after};
 use crate::parse::paths::path_at;
 use crate::parse::tokens::{begins_next, mark_at, word_at};
 use crate::read_error::ReadError;
@@ -38,32 +39,28 @@ fn member_at(alloc: Global, tokens: &[Token]) -> Result<(Member, &[Token]), Read
     ))
 }
 
-fn next_member_at(alloc: Global, tokens: &[Token]) -> Result<(Member, &[Token]), ReadError>
-    ensures { Gives (λ x. (member_of x.0, pieces_of x.1.now)) result
-        (next_member_at_lem (pieces_of tokens.now)) }
-{
-    let rest = or_return!(mark_at(tokens, b','));
-    member_at(alloc, rest)
-}
+/// The members of a union after the first.
+pub(crate) struct MoreMembers;
 
-fn more_members(
-    alloc: Global,
-    first: Member,
-    tokens: &[Token],
-) -> Result<(Vec<Member>, &[Token]), ReadError>
-    ensures { Gives (λ x. (map member_of x.0.items, pieces_of x.1.now)) result
-        (with_items (member_of first ∷ [])
-        (list_at begins_next_lem next_member_at_lem (pieces_of tokens.now))) }
-{
-    let mut items = Vec::new(alloc);
-    items.push(first)?;
-    let mut rest = tokens;
-    'items: while begins_next(rest) {
-        let (item, after) = or_return!(next_member_at(alloc, rest));
-        items.push(item)?;
-        rest = after;
+impl Items for MoreMembers {
+    ghost Value = { MemberV };
+
+    ghost goes_on = { begins_next_lem };
+
+    ghost item_at = { next_member_at_lem };
+
+    ghost value_of = { member_of };
+
+    type Item = Member;
+
+    fn goes_on(tokens: &[Token]) -> bool {
+        begins_next(tokens)
     }
-    Ok((items, rest))
+
+    fn item_at(alloc: Global, tokens: &[Token]) -> Result<(Member, &[Token]), ReadError> {
+        let rest = or_return!(mark_at(tokens, b','));
+        member_at(alloc, rest)
+    }
 }
 
 fn members_at(alloc: Global, tokens: &[Token]) -> Result<(Vec<Member>, &[Token]), ReadError>
@@ -71,7 +68,7 @@ fn members_at(alloc: Global, tokens: &[Token]) -> Result<(Vec<Member>, &[Token])
         (members_at_lem (pieces_of tokens.now)) }
 {
     let (first, rest) = or_return!(member_at(alloc, tokens));
-    more_members(alloc, first, rest)
+    list_after::<MoreMembers>(alloc, first, rest)
 }
 
 pub(crate) fn union_at(alloc: Global, tokens: &[Token]) -> Result<(Item, &[Token]), ReadError>

@@ -1,6 +1,7 @@
 use Rattle.std.proofs.Common.{refl}
 use Rattle.planus_syntax.specs.Reading.{record_at}
 use Rattle.planus_syntax.proofs.Steps.{fails_here, fails_later, reads_on}
+use Rattle.planus_syntax.proofs.Loops.{fields_looped}
 use Rattle.planus_syntax.proofs.parse.tables.record_at.Goals as goal
 
 pub returns-in-Err : goal.returns-in-Err
@@ -15,14 +16,17 @@ pub returns-in-Err-mark_at : goal.returns-in-Err-mark_at
 unfolding record_at
 returns-in-Err-mark_at c = fails_later _ _ _ _ c.in-Ok.ensures (fails_later _ _ _ _ c.in-Ok-attributes_at.ensures (fails_here _ _ _ c.in-Err-mark_at.ensures))
 
-pub returns-in-Err-fields : goal.returns-in-Err-fields
+pub returns-in-Err-list_of : goal.returns-in-Err-list_of
 unfolding record_at
-returns-in-Err-fields c = fails_later _ _ _ _ c.in-Ok.ensures (fails_later _ _ _ _ c.in-Ok-attributes_at.ensures (fails_later _ _ _ _ c.in-Ok-mark_at.ensures (fails_here _ _ _ c.in-Err-fields.ensures)))
+returns-in-Err-list_of c = fails_later _ _ _ _ c.in-Ok.ensures (fails_later _ _ _ _ c.in-Ok-attributes_at.ensures (fails_later _ _ _ _ c.in-Ok-mark_at.ensures (fails_here _ _ _ c.in-Err-list_of.ensures.reads)))
 
 pub returns-in-Err-mark_at-2 : goal.returns-in-Err-mark_at-2
 unfolding record_at
-returns-in-Err-mark_at-2 c = fails_later _ _ _ _ c.in-Ok.ensures (fails_later _ _ _ _ c.in-Ok-attributes_at.ensures (fails_later _ _ _ _ c.in-Ok-mark_at.ensures (fails_later _ _ _ _ c.in-Ok-fields.ensures (fails_here _ _ _ c.in-Err-mark_at-2.ensures))))
+returns-in-Err-mark_at-2 c = fails_later _ _ _ _ c.in-Ok.ensures (fails_later _ _ _ _ c.in-Ok-attributes_at.ensures (fails_later _ _ _ _ c.in-Ok-mark_at.ensures (fails_later _ _ _ _ c.in-Ok-list_of.ensures.reads (fails_here _ _ _ c.in-Err-mark_at-2.ensures))))
 
 pub returns : goal.returns
 unfolding record_at
-returns c = reads_on _ _ _ _ c.in-Ok.ensures (reads_on _ _ _ _ c.in-Ok-attributes_at.ensures (reads_on _ _ _ _ c.in-Ok-mark_at.ensures (reads_on _ _ _ _ c.in-Ok-fields.ensures (reads_on _ _ _ _ c.in-Ok-mark_at-2.ensures refl))))
+returns c = reads_on _ _ _ _ c.in-Ok.ensures (reads_on _ _ _ _ c.in-Ok-attributes_at.ensures (reads_on _ _ _ _ c.in-Ok-mark_at.ensures (reads_on _ _ _ _ c.in-Ok-list_of.ensures.reads (reads_on _ _ _ _ c.in-Ok-mark_at-2.ensures refl))))
+
+pub list_of-requires : goal.list_of-requires
+list_of-requires c = fields_looped

@@ -1,7 +1,7 @@
 use Rattle.std.proofs.Common.{refl}
 use Rattle.planus_syntax.specs.Reading.{method_at}
 use Rattle.planus_syntax.proofs.Steps.{fails_here, fails_later, reads_on}
-use Rattle.planus_syntax.proofs.parse.services.method_at.Goals as goal
+use Rattle.planus_syntax.proofs.parse.services.MethodsItems.item_at.Goals as goal
 
 pub returns-in-Err : goal.returns-in-Err
 unfolding method_at

@@ -3,7 +3,7 @@ use Rattle.std.proofs.Math.ListN.{length-map}
 use Rattle.planus_syntax.specs.Tokens.{pieces_of}
 use Rattle.planus_syntax.specs.Reading.{Fails, declaration_at, item_at}
 use Rattle.planus_syntax.proofs.Steps.{fails_here, fails_later, reads_on}
-use Rattle.planus_syntax.proofs.parse.declaration_at.Goals as goal
+use Rattle.planus_syntax.proofs.parse.DeclarationsItems.item_at.Goals as goal
 
 pub returns-in-Err : goal.returns-in-Err
 unfolding declaration_at

@@ -1,6 +1,6 @@
 use Rattle.planus_syntax.specs.Reading.{dotted_at}
 use Rattle.planus_syntax.proofs.Steps.{fails_here, gives_later}
-use Rattle.planus_syntax.proofs.parse.paths.dotted_at.Goals as goal
+use Rattle.planus_syntax.proofs.parse.paths.MoreWordsItems.item_at.Goals as goal
 
 pub returns-in-Err : goal.returns-in-Err
 unfolding dotted_at

@@ -1,6 +1,6 @@
 use Rattle.planus_syntax.specs.Reading.{next_variant_at}
 use Rattle.planus_syntax.proofs.Steps.{fails_here, gives_later}
-use Rattle.planus_syntax.proofs.parse.enums.next_variant_at.Goals as goal
+use Rattle.planus_syntax.proofs.parse.enums.MoreVariantsItems.item_at.Goals as goal
 
 pub returns-in-Err : goal.returns-in-Err
 unfolding next_variant_at

@@ -1,6 +1,6 @@
 use Rattle.planus_syntax.specs.Reading.{next_member_at}
 use Rattle.planus_syntax.proofs.Steps.{fails_here, gives_later}
-use Rattle.planus_syntax.proofs.parse.unions.next_member_at.Goals as goal
+use Rattle.planus_syntax.proofs.parse.unions.MoreMembersItems.item_at.Goals as goal
 
 pub returns-in-Err : goal.returns-in-Err
 unfolding next_member_at

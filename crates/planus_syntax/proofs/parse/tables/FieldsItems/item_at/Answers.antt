@@ -1,7 +1,7 @@
 use Rattle.std.proofs.Common.{refl}
 use Rattle.planus_syntax.specs.Reading.{field_at}
 use Rattle.planus_syntax.proofs.Steps.{fails_here, fails_later, reads_on}
-use Rattle.planus_syntax.proofs.parse.tables.field_at.Goals as goal
+use Rattle.planus_syntax.proofs.parse.tables.FieldsItems.item_at.Goals as goal
 
 pub returns-in-Err : goal.returns-in-Err
 unfolding field_at
