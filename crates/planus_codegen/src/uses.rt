@@ -6,6 +6,9 @@ use crate::printer::Printer;
 use crate::words::{Part, Words};
 use planus_layout::Body;
 
+/// The names of its errors that code may need.
+const ERRORS: &str = "ErrorKind UnknownEnumTagKind";
+
 /// The names of `planus` that code may need.
 const NAMES: &str =
     "BuildError Builder Built ByteList Create FieldAt FieldGroup Lines8 List Offset OrDefault \
@@ -90,24 +93,28 @@ impl<'a> Printer<'a> {
         self.put_use("use crate::$M::", at, &names);
     }
 
-    fn put_planus_uses(&mut self, words: &Words<'_>) {
-        let has_kind = words.has(&[], "ErrorKind");
-        if words.has(&[], "UnknownEnumTagKind") {
-            self.put_str("use planus::errors::{ErrorKind, UnknownEnumTagKind};\n");
-        } else if has_kind {
-            self.put_str("use planus::errors::ErrorKind;\n");
-        }
-        if words.has(&[], "Table") {
-            self.put_str("use planus::table_reader::Table;\n");
-        }
+    // Adds an import of those of these names that are among the words, but one.
+    fn put_names_from(&mut self, path: &str, all: &str, words: &Words<'_>, but: &str) {
         let mut names = Printer::new(self.context);
-        for name in NAMES.split(' ') {
-            if words.has(&[], name) && !(has_kind && name == "Result") {
+        for name in all.split(' ') {
+            if name != but && words.has(&[], name) {
                 names.put_comma();
                 names.put_str(name);
             }
         }
-        self.put_use("use planus::", At::declaration(0), &names);
+        self.put_use(path, At::declaration(0), &names);
+    }
+
+    fn put_planus_uses(&mut self, words: &Words<'_>) {
+        // Code with errors of its own has the `Result` of std.
+        let other = if words.has(&[], "ErrorKind") {
+            "Result"
+        } else {
+            ""
+        };
+        self.put_names_from("use planus::errors::", ERRORS, words, "");
+        self.put_names_from("use planus::table_reader::", "Table", words, "");
+        self.put_names_from("use planus::", NAMES, words, other);
     }
 
     fn put_uses_of(&mut self, words: &Words<'_>, order: &[usize], own: usize) {

@@ -18,7 +18,6 @@ use planus_inspect::dump_schema;
 use planus_layout::{Body, Declared, Schema};
 use std::alloc::{AllocError, Global};
 use std::io::{Read, Write};
-use std::rt::Files;
 
 /// The default of `--lines`.
 const LINES: usize = 1000;
@@ -200,8 +199,8 @@ pub fn view_bytes<W: Write, X: Write>(
     }
 }
 
-fn view_by<R: Files + AllocGlobal, S: Read, W: Write, X: Write>(
-    rt: &R,
+fn view_by<S: Read, W: Write, X: Write>(
+    rt: &HostRuntime,
     schema: &Schema,
     words: &Words<'_>,
     name: &str,
@@ -228,8 +227,8 @@ fn view_by<R: Files + AllocGlobal, S: Read, W: Write, X: Write>(
 }
 
 /// Writes what a buffer holds by a schema. Returns the exit status.
-pub fn view_file<R: Files + AllocGlobal, S: Read, W: Write, X: Write>(
-    rt: &R,
+pub fn view_file<S: Read, W: Write, X: Write>(
+    rt: &HostRuntime,
     words: &Words<'_>,
     input: &mut S,
     writer: &mut W,

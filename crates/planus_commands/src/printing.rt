@@ -15,7 +15,6 @@ use planus_schema::Schema;
 use std::alloc::Global;
 use std::fs;
 use std::io::{Read, Write};
-use std::rt::Files;
 
 #[derive(Clone, Copy)]
 struct Folder<'a> {
@@ -58,14 +57,14 @@ fn is_crate_name(word: &str) -> bool
     is_small_letter(*first)
 }
 
-fn holds<R: Files + AllocGlobal>(rt: &R, name: &str, bytes: &[u8]) -> bool {
+fn holds(rt: &HostRuntime, name: &str, bytes: &[u8]) -> bool {
     match fs::read(rt, name) {
         Ok(found) => found.as_slice() == bytes,
         Err(_) => false,
     }
 }
 
-fn put_file<R: Files + AllocGlobal>(rt: &R, name: &str, bytes: &[u8]) -> Result<(), RunError> {
+fn put_file(rt: &HostRuntime, name: &str, bytes: &[u8]) -> Result<(), RunError> {
     if let Some((folder, _)) = name.rsplit_once('/') {
         if fs::create_dir_all(rt, folder).is_err() {
             return Err(RunError::Write);
@@ -74,8 +73,8 @@ fn put_file<R: Files + AllocGlobal>(rt: &R, name: &str, bytes: &[u8]) -> Result<
     replace(rt, name, bytes)
 }
 
-fn print_file<R: Files + AllocGlobal, X: Write>(
-    rt: &R,
+fn print_file<X: Write>(
+    rt: &HostRuntime,
     folder: Folder<'_>,
     file: &PrintedFile,
     errors: &mut X,
@@ -98,8 +97,8 @@ fn print_file<R: Files + AllocGlobal, X: Write>(
 }
 
 /// Stops at the first file that can't be written.
-fn print_files<R: Files + AllocGlobal, X: Write>(
-    rt: &R,
+fn print_files<X: Write>(
+    rt: &HostRuntime,
     folder: Folder<'_>,
     files: &[PrintedFile],
     errors: &mut X,
@@ -127,8 +126,8 @@ fn say_unsupported<X: Write>(
     Ok(FAULTY)
 }
 
-fn print_to<R: Files + AllocGlobal, X: Write>(
-    rt: &R,
+fn print_to<X: Write>(
+    rt: &HostRuntime,
     schema: &Schema,
     folder: Folder<'_>,
     errors: &mut X,
@@ -143,8 +142,8 @@ fn print_to<R: Files + AllocGlobal, X: Write>(
 }
 
 /// Writes the code of a schema as a crate, or compares the crate with it. Returns the exit status.
-pub fn print_code<R: Files + AllocGlobal, S: Read, X: Write>(
-    rt: &R,
+pub fn print_code<S: Read, X: Write>(
+    rt: &HostRuntime,
     words: &Words<'_>,
     input: &mut S,
     errors: &mut X,

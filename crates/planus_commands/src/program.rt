@@ -13,12 +13,10 @@ use crate::said::{CLEAN, FAILED, say as say_of};
 use crate::sources::schema_of;
 use crate::streams::{RunError, say};
 use std::env;
-use std::env::Env;
 use std::io::{Read, Write};
-use std::rt::Files;
 
-fn run_file<R: Files + AllocGlobal, S: Read, W: Write, X: Write>(
-    rt: &R,
+fn run_file<S: Read, W: Write, X: Write>(
+    rt: &HostRuntime,
     command: Command,
     words: &Words<'_>,
     name: &str,
@@ -36,8 +34,8 @@ fn run_file<R: Files + AllocGlobal, S: Read, W: Write, X: Write>(
 }
 
 /// Checks or formats each file. Returns the worst exit status.
-fn run_files<R: Files + AllocGlobal, S: Read, W: Write, X: Write>(
-    rt: &R,
+fn run_files<S: Read, W: Write, X: Write>(
+    rt: &HostRuntime,
     command: Command,
     words: &Words<'_>,
     input: &mut S,
@@ -52,8 +50,8 @@ fn run_files<R: Files + AllocGlobal, S: Read, W: Write, X: Write>(
     Ok(worst)
 }
 
-fn run_request<R: Files + AllocGlobal, S: Read, W: Write, X: Write>(
-    rt: &R,
+fn run_request<S: Read, W: Write, X: Write>(
+    rt: &HostRuntime,
     request: &Request<'_>,
     input: &mut S,
     writer: &mut W,
@@ -72,8 +70,8 @@ fn run_request<R: Files + AllocGlobal, S: Read, W: Write, X: Write>(
 /// Runs the program with these words after its name. Returns the exit status.
 ///
 /// Fails where memory is refused or writing fails.
-pub fn run_words<R: Files + AllocGlobal, S: Read, W: Write, X: Write>(
-    rt: &R,
+pub fn run_words<S: Read, W: Write, X: Write>(
+    rt: &HostRuntime,
     words: &[String],
     input: &mut S,
     writer: &mut W,
@@ -91,7 +89,7 @@ pub fn run_words<R: Files + AllocGlobal, S: Read, W: Write, X: Write>(
     }
 }
 
-fn words_of<R: Env + AllocGlobal>(rt: &R) -> Result<Vec<String>, RunError> {
+fn words_of(rt: &HostRuntime) -> Result<Vec<String>, RunError> {
     let mut words = Vec::new(rt.alloc());
     let Ok(mut arguments) = env::args(rt) else {
         return Err(RunError::Read);
@@ -105,8 +103,8 @@ fn words_of<R: Env + AllocGlobal>(rt: &R) -> Result<Vec<String>, RunError> {
     Ok(words)
 }
 
-fn run<R: Env + Files + AllocGlobal, S: Read, W: Write, X: Write>(
-    rt: &R,
+fn run<S: Read, W: Write, X: Write>(
+    rt: &HostRuntime,
     input: &mut S,
     writer: &mut W,
     errors: &mut X,
@@ -118,8 +116,8 @@ fn run<R: Env + Files + AllocGlobal, S: Read, W: Write, X: Write>(
 /// Runs the program. Returns the exit status: 0 where all is well, 1 where a schema or a buffer has
 /// a fault or a file isn't what is printed, 2 where the call is wrong, a file can't be read or
 /// written, or memory is refused.
-pub fn run_program<R: Env + Files + AllocGlobal, S: Read, W: Write, X: Write>(
-    rt: &R,
+pub fn run_program<S: Read, W: Write, X: Write>(
+    rt: &HostRuntime,
     input: &mut S,
     writer: &mut W,
     errors: &mut X,

@@ -8,14 +8,9 @@ use crate::streams::{RunError, say, write_out};
 use crate::texts::{format, has_comments, outcome_of};
 use std::fs;
 use std::io::{Read, Write};
-use std::rt::Files;
 
 /// Replaces the file only once all bytes are written beside it.
-pub(crate) fn replace<R: Files + AllocGlobal>(
-    rt: &R,
-    name: &str,
-    bytes: &[u8],
-) -> Result<(), RunError> {
+pub(crate) fn replace(rt: &HostRuntime, name: &str, bytes: &[u8]) -> Result<(), RunError> {
     let beside = format!(in rt.alloc(); "{name}.planus")?;
     if fs::write(rt, beside.as_str(), bytes).is_err()
         || fs::rename(rt, beside.as_str(), name).is_err()
@@ -26,8 +21,8 @@ pub(crate) fn replace<R: Files + AllocGlobal>(
 }
 
 /// Nothing is written where comments would be lost.
-fn write_back<R: Files + AllocGlobal, X: Write>(
-    rt: &R,
+fn write_back<X: Write>(
+    rt: &HostRuntime,
     name: &str,
     out: &[u8],
     loses_comments: bool,
@@ -55,8 +50,8 @@ fn write_back<R: Files + AllocGlobal, X: Write>(
     }
 }
 
-fn rewrite<R: Files + AllocGlobal, X: Write>(
-    rt: &R,
+fn rewrite<X: Write>(
+    rt: &HostRuntime,
     words: &Words<'_>,
     name: &str,
     text: &[u8],
@@ -74,8 +69,8 @@ fn rewrite<R: Files + AllocGlobal, X: Write>(
     }
 }
 
-fn print<R: AllocGlobal, W: Write, X: Write>(
-    rt: &R,
+fn print<W: Write, X: Write>(
+    rt: &HostRuntime,
     words: &Words<'_>,
     name: &str,
     text: &[u8],
@@ -94,8 +89,8 @@ fn print<R: AllocGlobal, W: Write, X: Write>(
 }
 
 /// Prints a canonical text, or writes it in place of its file. Returns the exit status.
-pub fn format_file<R: Files + AllocGlobal, S: Read, W: Write, X: Write>(
-    rt: &R,
+pub fn format_file<S: Read, W: Write, X: Write>(
+    rt: &HostRuntime,
     words: &Words<'_>,
     name: &str,
     input: &mut S,

@@ -13,7 +13,6 @@ use planus_syntax::{Declaration, Item};
 use std::alloc::{AllocError, Global};
 use std::fs;
 use std::io::{Read, Write};
-use std::rt::Files;
 
 /// How deep files may include one another.
 const GREATEST_DEPTH: usize = 64;
@@ -52,11 +51,7 @@ impl Sources {
 }
 
 /// Returns the bytes of a file, or of standard input for `-`.
-fn read_text<R: Files + AllocGlobal, S: Read>(
-    rt: &R,
-    name: &str,
-    input: &mut S,
-) -> Result<Vec<u8>, RunError> {
+fn read_text<S: Read>(rt: &HostRuntime, name: &str, input: &mut S) -> Result<Vec<u8>, RunError> {
     if name == "-" {
         return read_all(rt.alloc(), input);
     }
@@ -67,8 +62,8 @@ fn read_text<R: Files + AllocGlobal, S: Read>(
 }
 
 /// Returns the text of a file, or reports why it can't be read.
-pub fn text_of<R: Files + AllocGlobal, S: Read, X: Write>(
-    rt: &R,
+pub fn text_of<S: Read, X: Write>(
+    rt: &HostRuntime,
     name: &str,
     input: &mut S,
     errors: &mut X,
@@ -87,13 +82,13 @@ pub fn text_of<R: Files + AllocGlobal, S: Read, X: Write>(
     }
 }
 
-fn is_there<R: Files + AllocGlobal>(rt: &R, name: &str) -> bool {
+fn is_there(rt: &HostRuntime, name: &str) -> bool {
     fs::open(rt, name).is_ok()
 }
 
 /// The folder of the including file comes first.
-fn included<R: Files + AllocGlobal>(
-    rt: &R,
+fn included(
+    rt: &HostRuntime,
     folders: &[&str],
     name: &str,
     path: &str,
@@ -112,8 +107,8 @@ fn included<R: Files + AllocGlobal>(
 }
 
 /// Returns the name of an included file, or reports why it isn't read.
-fn included_or_report<R: Files + AllocGlobal, X: Write>(
-    rt: &R,
+fn included_or_report<X: Write>(
+    rt: &HostRuntime,
     folders: &[&str],
     left: usize,
     file: &File,
@@ -135,8 +130,8 @@ fn included_or_report<R: Files + AllocGlobal, X: Write>(
 }
 
 /// Returns a file, or reports what is wrong and returns the exit status.
-fn read_file<R: Files + AllocGlobal, S: Read, X: Write>(
-    rt: &R,
+fn read_file<S: Read, X: Write>(
+    rt: &HostRuntime,
     name: &str,
     input: &mut S,
     errors: &mut X,
@@ -159,8 +154,8 @@ fn read_file<R: Files + AllocGlobal, S: Read, X: Write>(
 
 /// Reads at most `left` files deep.
 #[cycle(load)]
-fn load<R: Files + AllocGlobal, S: Read, X: Write>(
-    rt: &R,
+fn load<S: Read, X: Write>(
+    rt: &HostRuntime,
     folders: &[&str],
     left: usize,
     name: &str,
@@ -187,8 +182,8 @@ fn load<R: Files + AllocGlobal, S: Read, X: Write>(
 }
 
 #[cycle(load)]
-fn load_includes<R: Files + AllocGlobal, S: Read, X: Write>(
-    rt: &R,
+fn load_includes<S: Read, X: Write>(
+    rt: &HostRuntime,
     folders: &[&str],
     left: usize,
     source: &Source,
@@ -219,8 +214,8 @@ fn load_includes<R: Files + AllocGlobal, S: Read, X: Write>(
 
 /// Reads a file and all that it includes. Returns what they mean, or reports their faults and
 /// returns the exit status.
-pub fn schema_of<R: Files + AllocGlobal, S: Read, X: Write>(
-    rt: &R,
+pub fn schema_of<S: Read, X: Write>(
+    rt: &HostRuntime,
     folders: &[&str],
     name: &str,
     input: &mut S,
