@@ -7,8 +7,7 @@ use std::io;
 use std::process::ExitCode;
 
 fn main(rt: HostRuntime) -> ExitCode {
-    let mut reader = rt.reader();
     let mut writer = io::writer(&rt);
     let mut errors = rt.stderr();
-    ExitCode::from(run_program(&rt, &mut reader, &mut writer, &mut errors))
+    ExitCode::from(run_program(&rt, &mut writer, &mut errors))
 }

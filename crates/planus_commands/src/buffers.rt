@@ -17,7 +17,7 @@ use crate::viewing::{Limits, view_buffer};
 use planus_inspect::dump_schema;
 use planus_layout::{Body, Declared, Schema};
 use std::alloc::{AllocError, Global};
-use std::io::{Read, Write};
+use std::io::Write;
 
 /// The default of `--lines`.
 const LINES: usize = 1000;
@@ -199,12 +199,11 @@ pub fn view_bytes<W: Write, X: Write>(
     }
 }
 
-fn view_by<S: Read, W: Write, X: Write>(
+fn view_by<W: Write, X: Write>(
     rt: &HostRuntime,
     schema: &Schema,
     words: &Words<'_>,
     name: &str,
-    input: &mut S,
     writer: &mut W,
     errors: &mut X,
 ) -> Result<u8, RunError> {
@@ -212,7 +211,7 @@ fn view_by<S: Read, W: Write, X: Write>(
         say_no_root(words.root, errors)?;
         return Ok(FAILED);
     };
-    let Some(bytes) = text_of(rt, name, input, errors)? else {
+    let Some(bytes) = text_of(rt, name, errors)? else {
         return Ok(FAILED);
     };
     let how = Viewing {
@@ -227,18 +226,17 @@ fn view_by<S: Read, W: Write, X: Write>(
 }
 
 /// Writes what a buffer holds by a schema. Returns the exit status.
-pub fn view_file<S: Read, W: Write, X: Write>(
+pub fn view_file<W: Write, X: Write>(
     rt: &HostRuntime,
     words: &Words<'_>,
-    input: &mut S,
     writer: &mut W,
     errors: &mut X,
 ) -> Result<u8, RunError> {
     let [schema, buffer] = words.files.as_slice() else {
         return Ok(FAILED);
     };
-    match schema_of(rt, &words.folders, *schema, input, errors)? {
-        Ok(schema) => view_by(rt, &schema, words, *buffer, input, writer, errors),
+    match schema_of(rt, &words.folders, *schema, errors)? {
+        Ok(schema) => view_by(rt, &schema, words, *buffer, writer, errors),
         Err(status) => Ok(status),
     }
 }

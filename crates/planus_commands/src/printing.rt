@@ -14,7 +14,7 @@ use planus_codegen::{PrintedFile, Refusal, print_crate};
 use planus_schema::Schema;
 use std::alloc::Global;
 use std::fs;
-use std::io::{Read, Write};
+use std::io::Write;
 
 #[derive(Clone, Copy)]
 struct Folder<'a> {
@@ -142,10 +142,9 @@ fn print_to<X: Write>(
 }
 
 /// Writes the code of a schema as a crate, or compares the crate with it. Returns the exit status.
-pub fn print_code<S: Read, X: Write>(
+pub fn print_code<X: Write>(
     rt: &HostRuntime,
     words: &Words<'_>,
-    input: &mut S,
     errors: &mut X,
 ) -> Result<u8, RunError> {
     let path = words.output.unwrap_or("").trim_end_matches('/');
@@ -161,7 +160,7 @@ pub fn print_code<S: Read, X: Write>(
     let Some(schema) = words.files.first() else {
         return Ok(FAILED);
     };
-    match schema_of(rt, &words.folders, *schema, input, errors)? {
+    match schema_of(rt, &words.folders, *schema, errors)? {
         Ok(schema) => print_to(rt, &schema, folder, errors),
         Err(status) => Ok(status),
     }

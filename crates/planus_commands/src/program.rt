@@ -13,47 +13,44 @@ use crate::said::{CLEAN, FAILED, say as say_of};
 use crate::sources::schema_of;
 use crate::streams::{RunError, say};
 use std::env;
-use std::io::{Read, Write};
+use std::io::Write;
 
-fn run_file<S: Read, W: Write, X: Write>(
+fn run_file<W: Write, X: Write>(
     rt: &HostRuntime,
     command: Command,
     words: &Words<'_>,
     name: &str,
-    input: &mut S,
     writer: &mut W,
     errors: &mut X,
 ) -> Result<u8, RunError> {
     if let Command::Format = command {
-        return format_file(rt, words, name, input, writer, errors);
+        return format_file(rt, words, name, writer, errors);
     }
-    match schema_of(rt, &words.folders, name, input, errors)? {
+    match schema_of(rt, &words.folders, name, errors)? {
         Ok(_) => Ok(CLEAN),
         Err(status) => Ok(status),
     }
 }
 
 /// Checks or formats each file. Returns the worst exit status.
-fn run_files<S: Read, W: Write, X: Write>(
+fn run_files<W: Write, X: Write>(
     rt: &HostRuntime,
     command: Command,
     words: &Words<'_>,
-    input: &mut S,
     writer: &mut W,
     errors: &mut X,
 ) -> Result<u8, RunError> {
     let mut worst = CLEAN;
     for name in &words.files {
-        let status = run_file(rt, command, words, *name, input, writer, errors)?;
+        let status = run_file(rt, command, words, *name, writer, errors)?;
         worst = worst.max(status);
     }
     Ok(worst)
 }
 
-fn run_request<S: Read, W: Write, X: Write>(
+fn run_request<W: Write, X: Write>(
     rt: &HostRuntime,
     request: &Request<'_>,
-    input: &mut S,
     writer: &mut W,
     errors: &mut X,
 ) -> Result<u8, RunError> {
@@ -61,19 +58,18 @@ fn run_request<S: Read, W: Write, X: Write>(
         return Ok(FAILED);
     };
     match command {
-        Command::View => view_file(rt, words, input, writer, errors),
-        Command::Rattle => print_code(rt, words, input, errors),
-        command => run_files(rt, *command, words, input, writer, errors),
+        Command::View => view_file(rt, words, writer, errors),
+        Command::Rattle => print_code(rt, words, errors),
+        command => run_files(rt, *command, words, writer, errors),
     }
 }
 
 /// Runs the program with these words after its name. Returns the exit status.
 ///
 /// Fails where memory is refused or writing fails.
-pub fn run_words<S: Read, W: Write, X: Write>(
+pub fn run_words<W: Write, X: Write>(
     rt: &HostRuntime,
     words: &[String],
-    input: &mut S,
     writer: &mut W,
     errors: &mut X,
 ) -> Result<u8, RunError>
@@ -85,7 +81,7 @@ pub fn run_words<S: Read, W: Write, X: Write>(
     let request = request_of(alloc, words)?;
     match say_of(alloc, &request, writer, errors)? {
         Some(status) => Ok(status),
-        None => run_request(rt, &request, input, writer, errors),
+        None => run_request(rt, &request, writer, errors),
     }
 }
 
@@ -103,26 +99,20 @@ fn words_of(rt: &HostRuntime) -> Result<Vec<String>, RunError> {
     Ok(words)
 }
 
-fn run<S: Read, W: Write, X: Write>(
+fn run<W: Write, X: Write>(
     rt: &HostRuntime,
-    input: &mut S,
     writer: &mut W,
     errors: &mut X,
 ) -> Result<u8, RunError> {
     let words = words_of(rt)?;
-    run_words(rt, &words, input, writer, errors)
+    run_words(rt, &words, writer, errors)
 }
 
 /// Runs the program. Returns the exit status: 0 where all is well, 1 where a schema or a buffer has
 /// a fault or a file isn't what is printed, 2 where the call is wrong, a file can't be read or
 /// written, or memory is refused.
-pub fn run_program<S: Read, W: Write, X: Write>(
-    rt: &HostRuntime,
-    input: &mut S,
-    writer: &mut W,
-    errors: &mut X,
-) -> u8 {
-    match run(rt, input, writer, errors) {
+pub fn run_program<W: Write, X: Write>(rt: &HostRuntime, writer: &mut W, errors: &mut X) -> u8 {
+    match run(rt, writer, errors) {
         Ok(status) => status,
         Err(error) => {
             let reason = match error {

@@ -7,7 +7,7 @@ use crate::sources::text_of;
 use crate::streams::{RunError, say, write_out};
 use crate::texts::{format, has_comments, outcome_of};
 use std::fs;
-use std::io::{Read, Write};
+use std::io::Write;
 
 /// Replaces the file only once all bytes are written beside it.
 pub(crate) fn replace(rt: &HostRuntime, name: &str, bytes: &[u8]) -> Result<(), RunError> {
@@ -89,15 +89,14 @@ fn print<W: Write, X: Write>(
 }
 
 /// Prints a canonical text, or writes it in place of its file. Returns the exit status.
-pub fn format_file<S: Read, W: Write, X: Write>(
+pub fn format_file<W: Write, X: Write>(
     rt: &HostRuntime,
     words: &Words<'_>,
     name: &str,
-    input: &mut S,
     writer: &mut W,
     errors: &mut X,
 ) -> Result<u8, RunError> {
-    match text_of(rt, name, input, errors)? {
+    match text_of(rt, name, errors)? {
         None => Ok(FAILED),
         Some(text) if words.write => rewrite(rt, words, name, &text, errors),
         Some(text) => print(rt, words, name, &text, writer, errors),

@@ -12,7 +12,7 @@ use planus_schema::{Schema, file_index};
 use planus_syntax::{Declaration, Item};
 use std::alloc::{AllocError, Global};
 use std::fs;
-use std::io::{Read, Write};
+use std::io::{Input, Write};
 
 /// How deep files may include one another.
 const GREATEST_DEPTH: usize = 64;
@@ -51,9 +51,9 @@ impl Sources {
 }
 
 /// Returns the bytes of a file, or of standard input for `-`.
-fn read_text<S: Read>(rt: &HostRuntime, name: &str, input: &mut S) -> Result<Vec<u8>, RunError> {
+fn read_text(rt: &HostRuntime, name: &str) -> Result<Vec<u8>, RunError> {
     if name == "-" {
-        return read_all(rt.alloc(), input);
+        return read_all(rt.alloc(), &mut rt.reader());
     }
     match fs::open(rt, name) {
         Ok(mut file) => read_all(rt.alloc(), &mut file),
@@ -62,13 +62,12 @@ fn read_text<S: Read>(rt: &HostRuntime, name: &str, input: &mut S) -> Result<Vec
 }
 
 /// Returns the text of a file, or reports why it can't be read.
-pub fn text_of<S: Read, X: Write>(
+pub fn text_of<X: Write>(
     rt: &HostRuntime,
     name: &str,
-    input: &mut S,
     errors: &mut X,
 ) -> Result<Option<Vec<u8>>, RunError> {
-    match read_text(rt, name, input) {
+    match read_text(rt, name) {
         Ok(text) if text.len() <= GREATEST_TEXT => Ok(Some(text)),
         Ok(_) => {
             say(errors, "", name, " is longer than 16777216 bytes")?;
@@ -130,13 +129,12 @@ fn included_or_report<X: Write>(
 }
 
 /// Returns a file, or reports what is wrong and returns the exit status.
-fn read_file<S: Read, X: Write>(
+fn read_file<X: Write>(
     rt: &HostRuntime,
     name: &str,
-    input: &mut S,
     errors: &mut X,
 ) -> Result<Result<Source, u8>, RunError> {
-    let Some(text) = text_of(rt, name, input, errors)? else {
+    let Some(text) = text_of(rt, name, errors)? else {
         return Ok(Err(FAILED));
     };
     match parse_or_report(rt.alloc(), name, &text)? {
@@ -154,13 +152,12 @@ fn read_file<S: Read, X: Write>(
 
 /// Reads at most `left` files deep.
 #[cycle(load)]
-fn load<S: Read, X: Write>(
+fn load<X: Write>(
     rt: &HostRuntime,
     folders: &[&str],
     left: usize,
     name: &str,
     sources: &mut Sources,
-    input: &mut S,
     errors: &mut X,
 ) -> Result<u8, RunError>
     requires { length sources.old.files.items ≡ length sources.old.declarations.items }
@@ -171,10 +168,10 @@ fn load<S: Read, X: Write>(
         return Ok(CLEAN);
     }
     sources.begin(rt.alloc(), name)?;
-    match read_file(rt, name, input, errors)? {
+    match read_file(rt, name, errors)? {
         Err(status) => Ok(status),
         Ok(source) => {
-            let status = load_includes(rt, folders, left, &source, sources, input, errors)?;
+            let status = load_includes(rt, folders, left, &source, sources, errors)?;
             sources.add(source)?;
             Ok(status)
         }
@@ -182,13 +179,12 @@ fn load<S: Read, X: Write>(
 }
 
 #[cycle(load)]
-fn load_includes<S: Read, X: Write>(
+fn load_includes<X: Write>(
     rt: &HostRuntime,
     folders: &[&str],
     left: usize,
     source: &Source,
     sources: &mut Sources,
-    input: &mut S,
     errors: &mut X,
 ) -> Result<u8, RunError>
     requires { length sources.old.files.items ≡ length sources.old.declarations.items }
@@ -201,9 +197,7 @@ fn load_includes<S: Read, X: Write>(
         if let Item::Include(path) = &declaration.item {
             let place = declaration.left;
             let status = match included_or_report(rt, folders, left, file, path, place, errors)? {
-                Some(name) => {
-                    load(rt, folders, left - 1, name.as_str(), sources, input, errors)?
-                }
+                Some(name) => { load(rt, folders, left - 1, name.as_str(), sources, errors)? }
                 None => FAULTY,
             };
             worst = worst.max(status);
@@ -214,11 +208,10 @@ fn load_includes<S: Read, X: Write>(
 
 /// Reads a file and all that it includes. Returns what they mean, or reports their faults and
 /// returns the exit status.
-pub fn schema_of<S: Read, X: Write>(
+pub fn schema_of<X: Write>(
     rt: &HostRuntime,
     folders: &[&str],
     name: &str,
-    input: &mut S,
     errors: &mut X,
 ) -> Result<Result<Schema, u8>, RunError> {
     let alloc = rt.alloc();
@@ -227,15 +220,7 @@ pub fn schema_of<S: Read, X: Write>(
         files: Vec::new(alloc),
         declarations: Vec::new(alloc),
     };
-    let status = load(
-        rt,
-        folders,
-        GREATEST_DEPTH,
-        name,
-        &mut sources,
-        input,
-        errors,
-    )?;
+    let status = load(rt, folders, GREATEST_DEPTH, name, &mut sources, errors)?;
     if status != CLEAN {
         return Ok(Err(status));
     }
