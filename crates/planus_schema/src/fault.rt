@@ -103,17 +103,6 @@ pub(crate) enum Stop {
     Wrong { problem: Problem, left: usize },
 }
 
-impl From<AllocError> for Refusal {
-    ghost use Rattle.std.specs.Prelude.{◌≡◌};
-    ghost use Rattle.planus_schema.specs.declared.fault.Refusal.TheVariants.{OutOfMemory};
-
-    ghost from_gives = { λ _ e. e ≡ OutOfMemory };
-
-    fn from(_error: AllocError) -> Refusal {
-        Refusal::OutOfMemory
-    }
-}
-
 impl From<AllocError> for Stop {
     ghost use Rattle.std.specs.Prelude.{◌≡◌};
     ghost use Rattle.planus_schema.specs.declared.fault.Stop.TheVariants.{OutOfMemory};
