@@ -1,8 +1,8 @@
 use crate::answers::meaning;
 use crate::facts::are_facts;
 use crate::meaning_rows::{
-    DEFAULTS, ENUMS, FIELDS, INCLUDED, Including, NAMESPACES, Row, SETTLED_HERE, STATEMENTS,
-    STRUCTS, TAKEN_HERE, UNIONS,
+    DEFAULTS, ENUMS, FIELDS, INCLUDED, NAMESPACES, SETTLED_HERE, STATEMENTS, STRUCTS, TAKEN_HERE,
+    UNIONS,
 };
 use std::alloc::Global;
 
@@ -14,54 +14,51 @@ fn means(alloc: Global, texts: &[&[u8]], facts: &str) -> bool {
     }
 }
 
-/// Returns the first text that means anything else than the facts beside it.
-fn first_wrong(alloc: Global, rows: &[Row]) -> Option<&'static str> {
-    for (text, facts) in rows {
-        if !means(alloc, &[text.as_bytes()], *facts) {
-            return Some(*text);
+/// Returns whether a text means what the facts beside it say, with the file that it includes.
+fn holds(alloc: Global, row: &str) -> bool {
+    let Some((texts, facts)) = row.split_once("=>") else {
+        return false;
+    };
+    match texts.split_once("+ ") {
+        Some((file, text)) => means(
+            alloc,
+            &[file.as_bytes(), text.as_bytes()],
+            facts.trim_start(),
+        ),
+        None => means(alloc, &[texts.as_bytes()], facts.trim_start()),
+    }
+}
+
+/// Returns the first row that doesn't hold.
+fn first_wrong(alloc: Global, rows: &'static str) -> Option<&'static str> {
+    for row in rows.split("\n\n") {
+        if !holds(alloc, row) {
+            return Some(row);
         }
     }
     None
 }
 
-/// Returns the first text of any of these sets that means anything else.
-fn first_wrong_of(alloc: Global, sets: &[&[Row]]) -> Option<&'static str> {
+/// Returns the first row of any of these sets that doesn't hold.
+fn first_wrong_of(alloc: Global, sets: &[&'static str]) -> Option<&'static str> {
     for rows in sets {
-        if let Some(text) = first_wrong(alloc, *rows) {
-            return Some(text);
+        if let Some(row) = first_wrong(alloc, *rows) {
+            return Some(row);
         }
     }
     None
 }
 
-/// Returns the first text that means anything else, with the file that it includes.
-fn first_wrong_including(alloc: Global, rows: &[Including]) -> Option<&'static str> {
-    for (file, text, facts) in rows {
-        if !means(alloc, &[file.as_bytes(), text.as_bytes()], *facts) {
-            return Some(*text);
-        }
-    }
-    None
-}
-
-const TAKEN: [&[Row]; 7] = [
-    &STRUCTS,
-    &ENUMS,
-    &UNIONS,
-    &DEFAULTS,
-    &FIELDS,
-    &NAMESPACES,
-    &STATEMENTS,
+const TAKEN: [&str; 8] = [
+    STRUCTS, ENUMS, UNIONS, DEFAULTS, FIELDS, NAMESPACES, STATEMENTS, INCLUDED,
 ];
 
 #[test]
 fn taken(rt: HostRuntime) {
     assert!(rt; first_wrong_of(rt.alloc(), &TAKEN).is_none());
-    assert!(rt; first_wrong_including(rt.alloc(), &INCLUDED).is_none());
 }
 
 #[test]
 fn settled_here(rt: HostRuntime) {
-    assert!(rt; first_wrong(rt.alloc(), &TAKEN_HERE).is_none());
-    assert!(rt; first_wrong_including(rt.alloc(), &SETTLED_HERE).is_none());
+    assert!(rt; first_wrong_of(rt.alloc(), &[TAKEN_HERE, SETTLED_HERE]).is_none());
 }
