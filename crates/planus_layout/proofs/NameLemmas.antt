@@ -1,6 +1,8 @@
 -- Names that are added.
-use Rattle.std.proofs.Common.{◌≡◌, ℕ, ◌+◌, ◌<◌, false, List, [], ◌∷◌, ◌++◌, length, take, get_or, sym, ap, ◌∙◌}
+use Rattle.std.proofs.Common.{◌≡◌, ◌↔◌, ℕ, ◌+◌, ◌<◌, Bool, false, eqb, IsTrue, Option, Some, None, List, [], ◌∷◌, ◌++◌, length, take, get_or, sym, ap, ◌∙◌}
 use Rattle.std.specs.Global.{Vec}
+use Rattle.std.specs.Option.{option_eq}
+use Rattle.std.proofs.lemmas.Bool.{eqb-true, eq-eqb}
 use Rattle.std.specs.List.{list_any}
 use Rattle.std.specs.Str.{bytes_eq}
 use Rattle.std.proofs.lemmas.List.{map_push, take_more}
@@ -26,3 +28,10 @@ copied_more out words i word copy l w e h =
     let same : copy.items ≡ (get_or words i word).items = e ∙ ap (λ (v : Vec ℕ). v.items) w in
     map_push _ out copy ∙ ap (λ ns. ns ++ copy.items ∷ []) h ∙ ap (λ n. items_of (take i words) ++ n ∷ []) same
     ∙ sym (map_push _ (take i words) (get_or words i word)) ∙ ap items_of (sym (take_more words i word l))
+
+pub first_is : (found : Option ℕ) (index : ℕ) (b : Bool) → b ≡ option_eq eqb found (Some index) → IsTrue b ↔ (found ≡ Some index)
+first_is None index b e = (λ t. absurd cc, λ s. absurd cc)
+first_is (Some n) index b e = (
+  λ t. ap Some (eqb-true n index (sym e ∙ t)),
+  λ s. let same : n ≡ index = cc in e ∙ eq-eqb n index same,
+)

@@ -31,11 +31,12 @@ pub fn slot_of(id: Option<usize>, kind: FieldType, ids: bool, next: usize) -> Op
     requires id { IfSome id (λ n. n ≤ 65535) }
     ensures { result ≡ slot_said id kind ids next }
 {
+    let slots = width(kind);
     if !ids {
-        return Some(next + (width(kind) - 1));
+        return Some(next + (slots - 1));
     }
     match id {
-        Some(id) if width(kind) <= id + 1 => Some(id),
+        Some(id) if slots <= id + 1 => Some(id),
         _ => None,
     }
 }
