@@ -11,7 +11,6 @@ g++ and libflatbuffers-dev. Each text is the file main.fbs, and what it includes
 """
 
 import contextlib
-import json
 import pathlib
 import re
 import subprocess
@@ -21,21 +20,20 @@ import tempfile
 from cases import cases
 
 HERE = pathlib.Path(__file__).resolve().parent
-STRING = r'"(?:[^"\\]|\\.)*"'
-ROW = rf"\(\s*{STRING}(?:,\s*(?:{STRING}|[\w:]+))*,?\s*\),|{STRING},"
-
 TAKEN = ["STRUCTS", "ENUMS", "UNIONS", "NAMESPACES", "STATEMENTS", "DEFAULTS", "FIELDS"]
 
 
 def rows(name):
-    """The rows of a table, each as the list of its strings."""
-    text = (HERE / "src" / "meaning_rows.rt").read_text()
-    start = text.index(f"pub const {name}: ")
-    begin = text.index("= [", start)
-    # A table of one row ends in ")];".
-    body = text[begin : re.compile(r"\n\]|\n\)(?=\];)").search(text, begin).end()] + ","
-    body = re.sub(r"\\\n\s*", "", body)
-    return [[json.loads(s) for s in re.findall(STRING, row)] for row in re.findall(ROW, body)]
+    """The rows of a constant: each a schema and its facts, with the file that it includes first."""
+    code = (HERE / "src" / "meaning_rows.rt").read_text()
+    start = f'pub const {name}: &str = "'
+    begin = code.index(start) + len(start)
+    end = re.compile(r'(?<!\\)";\n').search(code, begin).start()
+    text = re.sub(r"\\\n\s*", "", code[begin:end])
+    text = text.replace('\\"', '"').replace("\\r", "\r").replace("\\\\", "\\")
+    for row in text.split("\n\n"):
+        texts, facts = row.split("=>")
+        yield [*texts.split("+ ", 1), facts.strip()]
 
 
 def ends_well(*words):
@@ -93,7 +91,7 @@ def differing():
         if not is_taken(text, included) or facts() == said.split("; "):
             yield text
     taken = [["", *row] for name in TAKEN for row in rows(name)]
-    for included, text, said in taken + rows("INCLUDED"):
+    for included, text, said in [*taken, *rows("INCLUDED")]:
         if not is_taken(text, included) or "; ".join(facts()) != said or not header_agrees(facts()):
             yield text
 

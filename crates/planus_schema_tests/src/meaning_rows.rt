@@ -1,9 +1,9 @@
 //! Schemas, what they mean, and whether `flatc` takes them.
 //!
 //! Rows are apart by an empty line: a schema, after `=>` its facts, and before `+` a file `a.fbs`
-//! that it includes. Each was given to `flatc -b --schema` of flatbuffers 2.0.8, and was taken where
-//! that ended with status 0. The facts are what `facts.cpp` prints of the binary schema. `rows.py`
-//! makes all this again, and tells where a row says anything else.
+//! that it includes. Each was given to `flatc -b --schema` of flatbuffers 2.0.8, and was taken
+//! where that ended with status 0. The facts are what `facts.cpp` prints of the binary schema.
+//! `rows.py` makes all this again, and tells where a row says anything else.
 
 /// Taken by both, with the facts: structs.
 pub const STRUCTS: &str = "\
@@ -17,15 +17,15 @@ struct P { a: long; b: byte; }
 => P size 16; P align 8; P.a at 0; P.a of long; P.b at 8; P.b of byte
 
 struct A { x: byte; y: short; } struct B { a: A; z: ulong; b: A; }
-=> A size 4; A align 2; A.x at 0; A.x of byte; A.y at 2; A.y of short; B size 24; B align 8; B.a at \
-    0; B.a of A; B.b at 16; B.b of A; B.z at 8; B.z of ulong
+=> A size 4; A align 2; A.x at 0; A.x of byte; A.y at 2; A.y of short; B size 24; B align 8; B.a \
+    at 0; B.a of A; B.b at 16; B.b of A; B.z at 8; B.z of ulong
 
 struct P (force_align: 16) { a: float; b: float; c: float; }
 => P size 16; P align 16; P.a at 0; P.a of float; P.b at 4; P.b of float; P.c at 8; P.c of float
 
 struct A (force_align: 8) { a: short; } struct B { x: byte; a: A; y: byte; }
-=> A size 8; A align 8; A.a at 0; A.a of short; B size 24; B align 8; B.a at 8; B.a of A; B.x at 0; \
-    B.x of byte; B.y at 16; B.y of byte
+=> A size 8; A align 8; A.a at 0; A.a of short; B size 24; B align 8; B.a at 8; B.a of A; B.x at \
+    0; B.x of byte; B.y at 16; B.y of byte
 
 enum E: ushort { A, B } struct P { a: byte; e: E; b: byte; }
 => P size 6; P align 2; P.a at 0; P.a of byte; P.b at 4; P.b of byte; P.e at 2; P.e of E; E of \
@@ -35,8 +35,8 @@ struct P { a: bool; b: double; c: bool; }
 => P size 24; P align 8; P.a at 0; P.a of bool; P.b at 8; P.b of double; P.c at 16; P.c of bool
 
 struct P { x: float; y: float; } table T { p: P; n: int; q: P; }
-=> P size 8; P align 4; P.x at 0; P.x of float; P.y at 4; P.y of float; T.n slot 1; T.n of int; T.p \
-    slot 0; T.p of P; T.q slot 2; T.q of P
+=> P size 8; P align 4; P.x at 0; P.x of float; P.y at 4; P.y of float; T.n slot 1; T.n of int; \
+    T.p slot 0; T.p of P; T.q slot 2; T.q of P
 
 struct P { x: float; } table T { p: [P]; }
 => P size 4; P align 4; P.x at 0; P.x of float; T.p slot 0; T.p of [P]
@@ -65,18 +65,19 @@ struct P (native_type: \"N\") { x: int; }
 => P size 4; P align 4; P.x at 0; P.x of int
 
 struct P { x: byte; y: ushort; z: byte; } table T { p: P; v: [P]; }
-=> P size 6; P align 2; P.x at 0; P.x of byte; P.y at 2; P.y of ushort; P.z at 4; P.z of byte; T.p \
-    slot 0; T.p of P; T.v slot 1; T.v of [P]
+=> P size 6; P align 2; P.x at 0; P.x of byte; P.y at 2; P.y of ushort; P.z at 4; P.z of byte; \
+    T.p slot 0; T.p of P; T.v slot 1; T.v of [P]
 
 struct P { a: int8; b: float64; c: uint16; }
-=> P size 24; P align 8; P.a at 0; P.a of byte; P.b at 8; P.b of double; P.c at 16; P.c of ushort
+=> P size 24; P align 8; P.a at 0; P.a of byte; P.b at 8; P.b of double; P.c at 16; P.c of \
+    ushort
 
 struct A { a: long; b: long; c: long; d: long; } struct B { a: A; b: A; c: A; d: A; } struct C { \
     x: byte; b: B; }
-=> A size 32; A align 8; A.a at 0; A.a of long; A.b at 8; A.b of long; A.c at 16; A.c of long; A.d \
-    at 24; A.d of long; B size 128; B align 8; B.a at 0; B.a of A; B.b at 32; B.b of A; B.c at \
-    64; B.c of A; B.d at 96; B.d of A; C size 136; C align 8; C.b at 8; C.b of B; C.x at 0; C.x \
-    of byte
+=> A size 32; A align 8; A.a at 0; A.a of long; A.b at 8; A.b of long; A.c at 16; A.c of long; \
+    A.d at 24; A.d of long; B size 128; B align 8; B.a at 0; B.a of A; B.b at 32; B.b of A; B.c \
+    at 64; B.c of A; B.d at 96; B.d of A; C size 136; C align 8; C.b at 8; C.b of B; C.x at 0; \
+    C.x of byte
 
 table T { p: P; } struct P { x: int; }
 => P size 4; P align 4; P.x at 0; P.x of int; T.p slot 0; T.p of P";
@@ -85,8 +86,8 @@ table T { p: P; } struct P { x: int; }
 pub const ENUMS: &str = "\
 enum A: byte { X = -128, Y = 127 } enum B: ubyte { X, Y = 255 } enum C: short { X = -32768, Y = \
     32767 } enum D: ushort { X, Y = 65535 }
-=> A of byte; A.X is -128; A.Y is 127; B of ubyte; B.X is 0; B.Y is 255; C of short; C.X is -32768; \
-    C.Y is 32767; D of ushort; D.X is 0; D.Y is 65535
+=> A of byte; A.X is -128; A.Y is 127; B of ubyte; B.X is 0; B.Y is 255; C of short; C.X is \
+    -32768; C.Y is 32767; D of ushort; D.X is 0; D.Y is 65535
 
 enum A: int { X = -2147483648, Y = 2147483647 } enum B: uint { X, Y = 4294967295 } enum C: long \
     { X = -9223372036854775808, Y = 9223372036854775807 } enum D: ulong { X, Y = \
@@ -127,8 +128,8 @@ enum E: byte { A } table T { e: E = null; }
 
 enum E: byte { X } table A {} table T { a: [byte]; b: [bool]; c: [double]; d: [string]; e: [A]; \
     f: [E]; }
-=> T.a slot 0; T.a of [byte]; T.b slot 1; T.b of [bool]; T.c slot 2; T.c of [double]; T.d slot 3; \
-    T.d of [string]; T.e slot 4; T.e of [A]; T.f slot 5; T.f of [E]; E of byte; E.X is 0
+=> T.a slot 0; T.a of [byte]; T.b slot 1; T.b of [bool]; T.c slot 2; T.c of [double]; T.d slot \
+    3; T.d of [string]; T.e slot 4; T.e of [A]; T.f slot 5; T.f of [E]; E of byte; E.X is 0
 
 enum E: byte { A = 3, B = 2 }
 => E of byte; E.B is 2; E.A is 3
@@ -152,9 +153,9 @@ table A {} enum E: byte { A, E }
 => E of byte; E.A is 0; E.E is 1
 
 enum E: byte {
-/// First.
-A,
-B
+  /// First.
+  A,
+  B
 }
 => E of byte; E.A is 0; E.B is 1
 
@@ -171,8 +172,8 @@ table A {} table B {} union U { A, B } table T { x: int; u: U; y: int; }
     T.y of int; U.NONE is 0; U.A is 1; U.A of A; U.B is 2; U.B of B
 
 table A {} union U { A } table T { x: int; u: [U]; y: int; }
-=> T.u slot 2; T.u of [U]; T.u_type slot 1; T.u_type of [ubyte]; T.x slot 0; T.x of int; T.y slot \
-    3; T.y of int; U.NONE is 0; U.A is 1; U.A of A
+=> T.u slot 2; T.u of [U]; T.u_type slot 1; T.u_type of [ubyte]; T.x slot 0; T.x of int; T.y \
+    slot 3; T.y of int; U.NONE is 0; U.A is 1; U.A of A
 
 table A {} union U { First: A, Second: A }
 => U.NONE is 0; U.First is 1; U.First of A; U.Second is 2; U.Second of A
@@ -181,16 +182,16 @@ table A {} table B {} union U { A = 3, B }
 => U.NONE is 0; U.A is 3; U.A of A; U.B is 4; U.B of B
 
 table A {} union U { A } table T { a: int (id: 2); u: U (id: 1); }
-=> T.a slot 2; T.a of int; T.u slot 1; T.u of U; T.u_type slot 0; T.u_type of ubyte; U.NONE is 0; \
-    U.A is 1; U.A of A
-
-table A {} union U { A } table T { a: int (id: 0); u: [U] (id: 2); }
-=> T.a slot 0; T.a of int; T.u slot 2; T.u of [U]; T.u_type slot 1; T.u_type of [ubyte]; U.NONE is \
+=> T.a slot 2; T.a of int; T.u slot 1; T.u of U; T.u_type slot 0; T.u_type of ubyte; U.NONE is \
     0; U.A is 1; U.A of A
 
+table A {} union U { A } table T { a: int (id: 0); u: [U] (id: 2); }
+=> T.a slot 0; T.a of int; T.u slot 2; T.u of [U]; T.u_type slot 1; T.u_type of [ubyte]; U.NONE \
+    is 0; U.A is 1; U.A of A
+
 table A {} union U { A } table T { u: U (required); }
-=> T.u slot 1; T.u of U; T.u has required; T.u_type slot 0; T.u_type of ubyte; U.NONE is 0; U.A is \
-    1; U.A of A
+=> T.u slot 1; T.u of U; T.u has required; T.u_type slot 0; T.u_type of ubyte; U.NONE is 0; U.A \
+    is 1; U.A of A
 
 table A {} table B {} union U { A = 3, B = 2 }
 => U.NONE is 0; U.B is 2; U.B of B; U.A is 3; U.A of A
@@ -203,16 +204,16 @@ table A {} union U { A } table T { a: U; a_kind: U; }
     ubyte; T.a_type slot 0; T.a_type of ubyte; U.NONE is 0; U.A is 1; U.A of A
 
 table A {} union U { A } table T { u: U (id: 2); a: int (id: 0); }
-=> T.a slot 0; T.a of int; T.u slot 2; T.u of U; T.u_type slot 1; T.u_type of ubyte; U.NONE is 0; \
-    U.A is 1; U.A of A
+=> T.a slot 0; T.a of int; T.u slot 2; T.u of U; T.u_type slot 1; T.u_type of ubyte; U.NONE is \
+    0; U.A is 1; U.A of A
 
 table A {} union U { A } table T { u: U (deprecated); }
 => T.u slot 1; T.u of U; T.u has deprecated; T.u_type slot 0; T.u_type of ubyte; T.u_type has \
     deprecated; U.NONE is 0; U.A is 1; U.A of A
 
 table A {} union U { A } table T { u: [U] (deprecated, id: 1); }
-=> T.u slot 1; T.u of [U]; T.u has deprecated; T.u_type slot 0; T.u_type of [ubyte]; T.u_type has \
-    deprecated; U.NONE is 0; U.A is 1; U.A of A
+=> T.u slot 1; T.u of [U]; T.u has deprecated; T.u_type slot 0; T.u_type of [ubyte]; T.u_type \
+    has deprecated; U.NONE is 0; U.A is 1; U.A of A
 
 table A {} union U { B: A } table B {}
 => U.NONE is 0; U.B is 1; U.B of A
@@ -224,8 +225,8 @@ union U { A } table A {}
 pub const NAMESPACES: &str = "\
 namespace a.b; table T { x: U; } table U { y: int; } namespace a; table V { t: b.T; } namespace; \
     table W { t: a.b.T; v: a.V; }
-=> W.t slot 0; W.t of a.b.T; W.v slot 1; W.v of a.V; a.V.t slot 0; a.V.t of a.b.T; a.b.T.x slot 0; \
-    a.b.T.x of a.b.U; a.b.U.y slot 0; a.b.U.y of int
+=> W.t slot 0; W.t of a.b.T; W.v slot 1; W.v of a.V; a.V.t slot 0; a.V.t of a.b.T; a.b.T.x slot \
+    0; a.b.T.x of a.b.U; a.b.U.y slot 0; a.b.U.y of int
 
 table T { outer: int; } namespace n; table T { x: int; y: int; } table V { t: T; }
 => T.outer slot 0; T.outer of int; n.T.x slot 0; n.T.x of int; n.T.y slot 1; n.T.y of int; n.V.t \
@@ -264,8 +265,8 @@ namespace game; enum Kind: ubyte { Orc, Elf } struct At { x: float; y: float; ki
     table Unit { at: At; kind: Kind = Elf; gear: Gear; bag: [Gear]; items: [Item]; path: [At]; \
     raw: [ubyte] (nested_flatbuffer: \"Item\"); old: bool (deprecated); } root_type Unit; \
     file_identifier \"UNIT\"; file_extension \"unit\";
-=> game.At size 12; game.At align 4; game.At.kind at 8; game.At.kind of game.Kind; game.At.x at 0; \
-    game.At.x of float; game.At.y at 4; game.At.y of float; game.Item.name slot 0; \
+=> game.At size 12; game.At align 4; game.At.kind at 8; game.At.kind of game.Kind; game.At.x at \
+    0; game.At.x of float; game.At.y at 4; game.At.y of float; game.Item.name slot 0; \
     game.Item.name of string; game.Item.name has required; game.Item.weight slot 1; \
     game.Item.weight of short; game.Item.weight default 10; game.Unit.at slot 0; game.Unit.at of \
     game.At; game.Unit.bag slot 5; game.Unit.bag of [game.Gear]; game.Unit.bag_type slot 4; \
@@ -316,8 +317,8 @@ attribute \"mine\"; attribute \"mine\"; table T { x: int (mine); }
 
 attribute \"priority\"; table T (original_order) { x: ulong (hash: \"fnv1_64\", cpp_type: \
     \"X\"); y: int (priority: 1); s: string (shared); v: [ubyte] (flexbuffer); }
-=> T.s slot 2; T.s of string; T.v slot 3; T.v of [ubyte]; T.x slot 0; T.x of ulong; T.y slot 1; T.y \
-    of int
+=> T.s slot 2; T.s of string; T.v slot 3; T.v of [ubyte]; T.x slot 0; T.x of ulong; T.y slot 1; \
+    T.y of int
 
 table T {} root_type T; file_identifier \"ABCD\"; file_identifier \"EFGH\";
 => schema root T; schema identifier EFGH";
@@ -326,9 +327,9 @@ table T {} root_type T; file_identifier \"ABCD\"; file_identifier \"EFGH\";
 pub const DEFAULTS: &str = "\
 table T { a: int = 5; b: int = -5; c: ubyte = 255; d: long = -9223372036854775808; e: ulong = \
     9223372036854775807; }
-=> T.a slot 0; T.a of int; T.a default 5; T.b slot 1; T.b of int; T.b default -5; T.c slot 2; T.c \
-    of ubyte; T.c default 255; T.d slot 3; T.d of long; T.d default -9223372036854775808; T.e \
-    slot 4; T.e of ulong; T.e default 9223372036854775807
+=> T.a slot 0; T.a of int; T.a default 5; T.b slot 1; T.b of int; T.b default -5; T.c slot 2; \
+    T.c of ubyte; T.c default 255; T.d slot 3; T.d of long; T.d default -9223372036854775808; \
+    T.e slot 4; T.e of ulong; T.e default 9223372036854775807
 
 table T { a: int = 0x1F; b: uint = 0xffffffff; }
 => T.a slot 0; T.a of int; T.a default 31; T.b slot 1; T.b of uint; T.b default 4294967295
@@ -339,12 +340,12 @@ table T { a: bool = true; b: bool = false; c: bool = 1; }
 
 table T { a: float = 1.5; b: double = -2e3; c: float = nan; d: double = inf; e: double = -inf; \
     f: float = 3; }
-=> T.a slot 0; T.a of float; T.b slot 1; T.b of double; T.c slot 2; T.c of float; T.d slot 3; T.d \
-    of double; T.e slot 4; T.e of double; T.f slot 5; T.f of float
+=> T.a slot 0; T.a of float; T.b slot 1; T.b of double; T.c slot 2; T.c of float; T.d slot 3; \
+    T.d of double; T.e slot 4; T.e of double; T.f slot 5; T.f of float
 
 table T { a: int = null; b: bool = null; c: float = null; }
-=> T.a slot 0; T.a of int; T.a has null; T.b slot 1; T.b of bool; T.b has null; T.c slot 2; T.c of \
-    float; T.c has null
+=> T.a slot 0; T.a of int; T.a has null; T.b slot 1; T.b of bool; T.b has null; T.c slot 2; T.c \
+    of float; T.c has null
 
 table T { x: int = -0x10; }
 => T.x slot 0; T.x of int; T.x default -16
@@ -354,8 +355,8 @@ table T { a: byte = -128; b: short = -32768; c: int = -2147483648; }
     slot 2; T.c of int; T.c default -2147483648
 
 table T { a: byte = 127; b: ushort = 65535; c: uint = 4294967295; }
-=> T.a slot 0; T.a of byte; T.a default 127; T.b slot 1; T.b of ushort; T.b default 65535; T.c slot \
-    2; T.c of uint; T.c default 4294967295
+=> T.a slot 0; T.a of byte; T.a default 127; T.b slot 1; T.b of ushort; T.b default 65535; T.c \
+    slot 2; T.c of uint; T.c default 4294967295
 
 table T { a: uint8 = 200; b: int64 = -1; }
 => T.a slot 0; T.a of ubyte; T.a default 200; T.b slot 1; T.b of long; T.b default -1
@@ -366,27 +367,26 @@ table T { b: bool = false; c: bool = 0; }
 /// Taken by both, with the facts: fields of tables.
 pub const FIELDS: &str = "\
 table T {\r
-x: int;\r
+  x: int;\r
 }\r
-
 => T.x slot 0; T.x of int
 
 table T { a: byte; b: ubyte; c: short; d: ushort; e: int; f: uint; g: long; h: ulong; i: float; \
     j: double; k: bool; }
-=> T.a slot 0; T.a of byte; T.b slot 1; T.b of ubyte; T.c slot 2; T.c of short; T.d slot 3; T.d of \
-    ushort; T.e slot 4; T.e of int; T.f slot 5; T.f of uint; T.g slot 6; T.g of long; T.h slot \
-    7; T.h of ulong; T.i slot 8; T.i of float; T.j slot 9; T.j of double; T.k slot 10; T.k of \
-    bool
+=> T.a slot 0; T.a of byte; T.b slot 1; T.b of ubyte; T.c slot 2; T.c of short; T.d slot 3; T.d \
+    of ushort; T.e slot 4; T.e of int; T.f slot 5; T.f of uint; T.g slot 6; T.g of long; T.h \
+    slot 7; T.h of ulong; T.i slot 8; T.i of float; T.j slot 9; T.j of double; T.k slot 10; T.k \
+    of bool
 
 table T { a: int8; b: uint8; c: int16; d: uint16; e: int32; f: uint32; g: int64; h: uint64; i: \
     float32; j: float64; }
-=> T.a slot 0; T.a of byte; T.b slot 1; T.b of ubyte; T.c slot 2; T.c of short; T.d slot 3; T.d of \
-    ushort; T.e slot 4; T.e of int; T.f slot 5; T.f of uint; T.g slot 6; T.g of long; T.h slot \
-    7; T.h of ulong; T.i slot 8; T.i of float; T.j slot 9; T.j of double
+=> T.a slot 0; T.a of byte; T.b slot 1; T.b of ubyte; T.c slot 2; T.c of short; T.d slot 3; T.d \
+    of ushort; T.e slot 4; T.e of int; T.f slot 5; T.f of uint; T.g slot 6; T.g of long; T.h \
+    slot 7; T.h of ulong; T.i slot 8; T.i of float; T.j slot 9; T.j of double
 
 table T { a: int; b: string; c: [int]; d: T; }
-=> T.a slot 0; T.a of int; T.b slot 1; T.b of string; T.c slot 2; T.c of [int]; T.d slot 3; T.d of \
-    T
+=> T.a slot 0; T.a of int; T.b slot 1; T.b of string; T.c slot 2; T.c of [int]; T.d slot 3; T.d \
+    of T
 
 table T { a: int (id: 2); b: int (id: 0); c: int (id: 1); }
 => T.a slot 2; T.a of int; T.b slot 0; T.b of int; T.c slot 1; T.c of int
@@ -450,8 +450,8 @@ table T (private) { x: int; }
 => T.x slot 0; T.x of int
 
 table T { a: float; b: double; c: float32; d: float64; }
-=> T.a slot 0; T.a of float; T.b slot 1; T.b of double; T.c slot 2; T.c of float; T.d slot 3; T.d \
-    of double
+=> T.a slot 0; T.a of float; T.b slot 1; T.b of double; T.c slot 2; T.c of float; T.d slot 3; \
+    T.d of double
 
 table T { a: [string] (required); }
 => T.a slot 0; T.a of [string]; T.a has required
@@ -482,8 +482,8 @@ enum E: byte { A = 3 }
 
 namespace n; table A {} union U { A }
 + include \"a.fbs\"; namespace n; table T { u: U; }
-=> n.T.u slot 1; n.T.u of n.U; n.T.u_type slot 0; n.T.u_type of ubyte; n.U.NONE is 0; n.U.A is 1; \
-    n.U.A of n.A
+=> n.T.u slot 1; n.T.u of n.U; n.T.u_type slot 0; n.T.u_type of ubyte; n.U.NONE is 0; n.U.A is \
+    1; n.U.A of n.A
 
 attribute \"mine\"; table A {}
 + include \"a.fbs\"; table T { x: int (mine); } root_type A;
