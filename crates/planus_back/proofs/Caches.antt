@@ -139,6 +139,9 @@ module _ (key_in : List ℕ → Option (List ℕ)) (old : CacheView) (b : Bucket
       let nothing : FoundAmong key_in the_last bytes key None = subst (λ x. FoundAmong key_in the_last bytes key x) is none in
       found_in_bucket key_in old bytes key r fits (rw (← its) (found_before key_in bytes key (listed_at old.earlier b.number) the_last r nothing found))
 
+  pub found_nowhere : (o : Option ℕ) → o ≡ None → FoundAmong key_in the_last bytes key o → old.earlier ≡ [] → IsFound key_in old bytes key None
+  found_nowhere o is none empty = found_in_earlier o None is none (rw empty (λ i below. absurd (omega (arith, below))))
+
 pub Has-stands : (key_in : List ℕ → Option (List ℕ)) (s : CacheView) (bytes : List ℕ) (d : ℕ) → Fits key_in s bytes → Has s d → (key : List ℕ) × (key_at key_in bytes d ≡ Some key)
 unfolding Fits Has
 Has-stands key_in s bytes d fits x = let f = fits x.0 x.1 x.2 in (f.0, rw (← x.3) f.1)

@@ -1,9 +1,9 @@
 -- How a hash takes more bytes.
-use Rattle.std.proofs.Common.{◌≡◌, ℕ, ℤ, zero, suc, ◌+◌, ◌/◌, ◌<◌, ◌≤◌, List, [], ◌∷◌, ◌++◌, length, take, drop, map, refl, sym, ap, ◌∙◌, arith, get_or, bit_xor}
+use Rattle.std.proofs.Common.{◌≡◌, ℕ, ℤ, zero, suc, ◌+◌, ◌-◌, ◌/◌, ◌<◌, ◌≤◌, List, [], ◌∷◌, ◌++◌, length, take, drop, map, refl, sym, ap, ◌∙◌, arith, get_or, bit_xor}
 use Rattle.std.proofs.lemmas.Grind.{common_steps}
 use Rattle.std.proofs.lemmas.List.{take-append-drop, drop_more, drop-map, length-map}
 use Rattle.std.specs.Int.{w64, from_le_bytes}
-use Rattle.planus_back.specs.Hashes.{number_with, number_on, fold_of, word, first_number, Splits, hash_on}
+use Rattle.planus_back.specs.Hashes.{number_with, number_on, fold_of, word, first_number, last_number, IsLastWord, Splits, SplitsWord, hash_on}
 
 pub pair_more : (one two last first second : ℕ) (bytes behind : List ℕ) → Splits bytes first second behind
     → hash_on (length behind / 16) two (fold_of (bit_xor one first) (bit_xor 4983270260364809079 second)) last behind ≡ hash_on (length bytes / 16) one two last bytes
@@ -16,16 +16,34 @@ take_map byte zero xs = refl
 take_map byte (suc n) [] = refl
 take_map byte (suc n) (x ∷ xs) = ap (λ ys. byte x ∷ ys) (take_map byte n xs)
 
-pub splits_map : {A : Type 0} (byte : A → ℕ) (items one rest two behind : List A) (first second : ℕ)
-    → (one ≡ take 8 items) × (rest ≡ drop 8 items) × (length rest + 8 ≡ length items) → (two ≡ take 8 rest) × (behind ≡ drop 8 rest) × (length behind + 8 ≡ length rest)
-    → first ≡ from_le_bytes w64 (map byte one) → second ≡ from_le_bytes w64 (map byte two) → Splits (map byte items) first second (map byte behind)
-splits_map byte items one rest two behind first second whole half is_one is_two =
-    let rest_is : map byte rest ≡ drop 8 (map byte items) = ap (map byte) whole.1 ∙ sym (drop-map byte 8 items) in record {
-      is_first = is_one ∙ ap (λ xs. from_le_bytes w64 (map byte xs)) whole.0 ∙ ap (from_le_bytes w64) (take_map byte 8 items);
-      is_second = is_two ∙ ap (λ xs. from_le_bytes w64 (map byte xs)) half.0 ∙ ap (from_le_bytes w64) (take_map byte 8 rest) ∙ ap word rest_is;
-      is_behind = ap (map byte) half.1 ∙ sym (drop-map byte 8 rest) ∙ ap (drop 8) rest_is;
-      enough = (let a = length-map behind byte in let b = length-map items byte in omega (arith, a, b, whole.2, half.2));
+-- of the first 8 items and those after them
+pub splits_each : {A : Type 0} (byte : A → ℕ) (items one behind : List A) (first : ℕ)
+    → (one ≡ take 8 items) × (behind ≡ drop 8 items) × (length behind + 8 ≡ length items)
+    → first ≡ from_le_bytes w64 (map byte one) → SplitsWord (map byte items) first (map byte behind)
+splits_each byte items one behind first whole is_one = record {
+  is_first = is_one ∙ ap (λ xs. from_le_bytes w64 (map byte xs)) whole.0 ∙ ap (from_le_bytes w64) (take_map byte 8 items);
+  is_behind = ap (map byte) whole.1 ∙ sym (drop-map byte 8 items);
+  enough = (let a = length-map behind byte in let b = length-map items byte in omega (arith, a, b, whole.2));
+}
+
+pub last_each : {A : Type 0} (byte : A → ℕ) (items one : List A) (last : ℕ) → 8 ≤ length items → one ≡ drop (length items - 8) items
+    → last ≡ from_le_bytes w64 (map byte one) → IsLastWord (map byte items) last
+last_each byte items one last enough whole is_last =
+    let same = length-map items byte in record {
+      enough = omega (arith, same, enough);
+      is_last = is_last ∙ ap (λ xs. from_le_bytes w64 (map byte xs)) whole ∙ ap (from_le_bytes w64) (sym (drop-map byte (length items - 8) items)) ∙ ap (λ n. from_le_bytes w64 (drop (n - 8) (map byte items))) (sym same);
     }
+
+pub last_short : (bytes : List ℕ) → length bytes < 8 → last_number bytes ≡ number_on 0 bytes
+last_short bytes few = grind (arith, common_steps, few)
+
+pub splits_both : (bytes middle behind : List ℕ) (first second : ℕ) → SplitsWord bytes first middle → SplitsWord middle second behind → Splits bytes first second behind
+splits_both bytes middle behind first second one two = record {
+  is_first = one.is_first;
+  is_second = two.is_first ∙ ap word one.is_behind;
+  is_behind = two.is_behind ∙ ap (drop 8) one.is_behind;
+  enough = omega (arith, one.enough, two.enough);
+}
 
 pub rest_more : (one two last : ℕ) (rest : List ℕ) → length rest < 16 → hash_on (length rest / 16) one two last rest ≡ fold_of (bit_xor one (first_number rest)) (bit_xor two last)
 rest_more one two last rest few = let pairs : length rest / 16 ≡ 0 = omega (arith, few) in rw pairs refl

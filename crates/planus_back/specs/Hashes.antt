@@ -1,5 +1,5 @@
 -- The hash of a key as `keys` computes it: a function of the key.
-use Rattle.std.specs.Prelude.{◌≡◌, ℕ, zero, suc, ◌+◌, ◌*◌, ◌/◌, ◌%◌, ◌^◌, ◌-◌, List, [], ◌∷◌}
+use Rattle.std.specs.Prelude.{◌≡◌, ℕ, zero, suc, ◌+◌, ◌*◌, ◌/◌, ◌%◌, ◌^◌, ◌-◌, ◌≤◌, List, [], ◌∷◌}
 use Rattle.std.specs.Prelude.{length, take, drop, nat_le, if◌then◌else◌, bit_xor}
 use Rattle.std.specs.Int.{w64, from_le_bytes}
 
@@ -23,6 +23,15 @@ word bytes = from_le_bytes w64 (take 8 bytes)
 
 abbrev pub first_number : List ℕ → ℕ
 first_number bytes = if nat_le 8 (length bytes) then word bytes else 0
+
+pub record IsLastWord (bytes : List ℕ) (last : ℕ) : Type 0 where
+  pub enough : 8 ≤ length bytes
+  pub is_last : last ≡ from_le_bytes w64 (drop (length bytes - 8) bytes)
+
+pub record SplitsWord (bytes : List ℕ) (first : ℕ) (behind : List ℕ) : Type 0 where
+  pub is_first : first ≡ word bytes
+  pub is_behind : behind ≡ drop 8 bytes
+  pub enough : length behind + 8 ≡ length bytes
 
 pub record Splits (bytes : List ℕ) (first second : ℕ) (behind : List ℕ) : Type 0 where
   pub is_first : first ≡ word bytes

@@ -1,15 +1,15 @@
 //! Contents of growing bytes, by their hash.
-ghost use Rattle.std.specs.Prelude.{◌≡◌, map, OnOk, OnErr, IfOk, nat_eq, option_to_list};
+ghost use Rattle.std.specs.Prelude.{◌≡◌, OnOk, OnErr, IfOk, nat_eq, option_to_list};
 ghost use Rattle.std.specs.Map.{lookup};
-ghost use Rattle.std.specs.Int.{w8, cast_unsigned};
 ghost use Rattle.planus_back.specs.Buckets.{lists_of, listed_at, distances_at, AddsAt, FoundAmong};
 ghost use Rattle.planus_back.specs.Caches.{Fits, IsEmpty, IsBucketOf, IsFound, Adds};
 ghost use Rattle.planus_back.specs.Caches.{FitsWhereKeyStands, FitsWhereItsKeyStands};
 
 use crate::bucket::Bucket;
+use crate::byte::Byte;
 use crate::cache_keys::GetCacheKey;
+use crate::hash::hash_of;
 use crate::identity_hasher::IdentityHasher;
-use crate::keys::{Bytes, Key, Signed};
 use std::alloc::{AllocError, Global};
 use std::collections::HashMap;
 use std::collections::hash_map::Entry;
@@ -41,38 +41,23 @@ impl<C> Model for Cache<C> {
     } };
 }
 
+/// Returns the first of some distances where a key is in the bytes, or `None`.
 #[inline]
-fn find_among<C: GetCacheKey, K: Key>(distances: &[u32], serialized: &[u8], key: &K) -> Option<u32>
-    ensures { FoundAmong C.key_in distances.now serialized.now (K.bytes_of key.now) result }
+pub fn find_key<C: GetCacheKey, T: Byte>(
+    distances: &[u32],
+    serialized: &[u8],
+    key: &[T],
+) -> Option<u32>
+    ensures { FoundAmong C.key_in distances.now serialized.now (T.bytes_of key.now) result }
 {
     for distance in distances {
         if let Some(found) = C::key_at(serialized, *distance) {
-            if key.is(found) {
+            if T::are(key, found) {
                 return Some(*distance);
             }
         }
     }
     None
-}
-
-/// Returns the first of some distances where a key is in the bytes, or `None`.
-#[inline]
-pub fn find_key<C: GetCacheKey>(distances: &[u32], serialized: &[u8], key: &[u8]) -> Option<u32>
-    ensures { FoundAmong C.key_in distances.now serialized.now key.now result }
-{
-    find_among::<C, Bytes<'_>>(distances, serialized, &Bytes(key))
-}
-
-/// [`find_key`] of a key of signed bytes.
-pub fn find_signed_key<C: GetCacheKey>(
-    distances: &[u32],
-    serialized: &[u8],
-    key: &[i8],
-) -> Option<u32>
-    ensures { FoundAmong C.key_in distances.now serialized.now
-        (map (λ number. cast_unsigned w8 number) key.now) result }
-{
-    find_among::<C, Signed<'_>>(distances, serialized, &Signed(key))
 }
 
 fn put_aside(
@@ -185,48 +170,27 @@ impl<C: GetCacheKey> Cache<C> {
         }
     }
 
-    #[tactic(auto, unfolding(crate::specs::Caches::IsBucketOf, crate::specs::Numbers::number_of))]
-    fn bucket_by<K: Key>(&self, key: &K) -> Bucket
-        ensures { IsBucketOf self.now (K.bytes_of key.now) result }
-    {
-        Bucket {
-            number: key.hash() & self.hash_mask,
-        }
-    }
-
     #[inline(always)]
-    fn last_in<K: Key>(&self, bucket: Bucket, serialized: &[u8], key: &K) -> Option<u32>
+    fn last_in<T: Byte>(&self, bucket: Bucket, serialized: &[u8], key: &[T]) -> Option<u32>
         ensures { FoundAmong C.key_in
             (option_to_list (lookup (nat_eq bucket.number) self.now.last)) serialized.now
-            (K.bytes_of key.now) result }
+            (T.bytes_of key.now) result }
     {
         match self.last.get(&bucket.number) {
-            Some(last) => find_among::<C, K>(&[*last], serialized, key),
+            Some(last) => find_key::<C, T>(&[*last], serialized, key),
             None => None,
         }
     }
 
     #[cold]
     #[inline(never)]
-    fn earlier_in<K: Key>(&self, bucket: Bucket, serialized: &[u8], key: &K) -> Option<u32>
+    fn earlier_in<T: Byte>(&self, bucket: Bucket, serialized: &[u8], key: &[T]) -> Option<u32>
         ensures { FoundAmong C.key_in (listed_at self.now.earlier bucket.number) serialized.now
-            (K.bytes_of key.now) result }
+            (T.bytes_of key.now) result }
     {
         match self.earlier.get(&bucket.number) {
-            Some(earlier) => find_among::<C, K>(earlier.as_slice(), serialized, key),
+            Some(earlier) => find_key::<C, T>(earlier.as_slice(), serialized, key),
             None => None,
-        }
-    }
-
-    #[inline(never)]
-    fn get_by<K: Key>(&self, bucket: Bucket, serialized: &[u8], key: &K) -> Option<u32>
-        requires fits { Fits C.key_in self.now serialized.now }
-        requires bucket { IsBucketOf self.now (K.bytes_of key.now) bucket }
-        ensures { IsFound C.key_in self.now serialized.now (K.bytes_of key.now) result }
-    {
-        match self.last_in(bucket, serialized, key) {
-            Some(last) => Some(last),
-            None => self.earlier_in(bucket, serialized, key),
         }
     }
 
@@ -251,37 +215,27 @@ impl<C: GetCacheKey> Cache<C> {
 
     /// Returns the bucket of a key, which reads each byte of the key: once for a lookup and an
     /// insertion.
-    pub fn bucket_of(&self, key: &[u8]) -> Bucket
-        ensures { IsBucketOf self.now key.now result }
+    #[tactic(auto, unfolding(crate::specs::Caches::IsBucketOf, crate::specs::Numbers::number_of))]
+    pub fn bucket_of<T: Byte>(&self, key: &[T]) -> Bucket
+        ensures { IsBucketOf self.now (T.bytes_of key.now) result }
     {
-        self.bucket_by(&Bytes(key))
-    }
-
-    /// [`Cache::bucket_of`] of a key of signed bytes.
-    pub fn bucket_of_signed(&self, key: &[i8]) -> Bucket
-        ensures { IsBucketOf self.now (map (λ number. cast_unsigned w8 number) key.now) result }
-    {
-        self.bucket_by(&Signed(key))
+        Bucket {
+            number: hash_of(key) & self.hash_mask,
+        }
     }
 
     /// [`Cache::get`] of a key whose bucket is known.
-    pub fn get_in(&self, bucket: Bucket, serialized: &[u8], key: &[u8]) -> Option<u32>
+    #[inline(never)]
+    pub fn get_in<T: Byte>(&self, bucket: Bucket, serialized: &[u8], key: &[T]) -> Option<u32>
         requires fits { Fits C.key_in self.now serialized.now }
-        requires bucket { IsBucketOf self.now key.now bucket }
-        ensures { IsFound C.key_in self.now serialized.now key.now result }
+        requires bucket { IsBucketOf self.now (T.bytes_of key.now) bucket }
+        ensures { IsFound C.key_in self.now serialized.now (T.bytes_of key.now) result }
     {
-        self.get_by(bucket, serialized, &Bytes(key))
-    }
-
-    /// [`Cache::get_in`] of a key of signed bytes.
-    pub fn get_signed_in(&self, bucket: Bucket, serialized: &[u8], key: &[i8]) -> Option<u32>
-        requires fits { Fits C.key_in self.now serialized.now }
-        requires bucket { IsBucketOf self.now (map (λ number. cast_unsigned w8 number) key.now)
-            bucket }
-        ensures { IsFound C.key_in self.now serialized.now
-            (map (λ number. cast_unsigned w8 number) key.now) result }
-    {
-        self.get_by(bucket, serialized, &Signed(key))
+        match self.last_in(bucket, serialized, key) {
+            Some(last) => Some(last),
+            None if self.earlier.is_empty() => None,
+            None => self.earlier_in(bucket, serialized, key),
+        }
     }
 
     /// [`Cache::insert`] given only the key's bucket.

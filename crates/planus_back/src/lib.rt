@@ -6,20 +6,22 @@ pub mod backvec;
 #[doc(hidden)]
 pub mod block;
 pub mod bucket;
+pub mod byte;
 pub mod cache;
 pub mod cache_keys;
 #[doc(hidden)]
 pub mod cells;
 pub mod fill;
+mod hash;
 mod identity_hasher;
-mod keys;
 pub mod laws;
 pub mod plain;
 pub mod promises;
 
 pub use backvec::BackVec;
 pub use bucket::Bucket;
-pub use cache::{Cache, find_key, find_signed_key};
+pub use byte::Byte;
+pub use cache::{Cache, find_key};
 pub use cache_keys::{ByteVec, GetCacheKey, VTable};
 pub use fill::{Fill, Overwrite};
 pub use promises::{Promises, TooLarge};

@@ -3,26 +3,23 @@ ghost use Rattle.std.specs.Prelude.{◌≡◌, ◌+◌, ◌≤◌, ◌++◌, len
 ghost use Rattle.std.specs.Int.{w32, to_le_bytes};
 ghost use Rattle.planus_back.specs.Padding.{greatest_place};
 
-use crate::byte_lists::ByteItems;
-use planus_back::Overwrite;
+use planus_back::{Byte, Overwrite};
 
 #[derive(Drop)]
-pub(crate) struct ListPart<'a, L: ByteItems> {
-    pub(crate) items: &'a L,
-}
+pub(crate) struct ListPart<'a, B: Byte>(pub(crate) &'a [B]);
 
-impl<'a, L: ByteItems> Overwrite for ListPart<'a, L> {
-    ghost fits = { λ part place n. (n ≡ length (L.bytes_of part.items.now) + 4)
+impl<'a, B: Byte> Overwrite for ListPart<'a, B> {
+    ghost fits = { λ part place n. (n ≡ length (B.bytes_of part.0.now) + 4)
         × (n ≤ greatest_place) };
 
-    ghost encoding = { λ part place n. to_le_bytes w32 (length (L.bytes_of part.items.now))
-        ++ L.bytes_of part.items.now };
+    ghost encoding = { λ part place n. to_le_bytes w32 (length (B.bytes_of part.0.now))
+        ++ B.bytes_of part.0.now };
 
     #[inline(always)]
     fn overwrite(&self, _place: u32, bytes: &mut [u8]) {
-        let items = self.items;
+        let items = self.0;
         let (count, behind) = bytes.split_at_mut(4);
-        count.copy_from_slice(&(items.count() as u32).to_le_bytes());
-        items.copy_to(behind);
+        count.copy_from_slice(&(B::count(items) as u32).to_le_bytes());
+        B::copy_to(items, behind);
     }
 }

@@ -7,10 +7,9 @@ ghost use Rattle.planus_write.specs.inner.Sharing.{LooksIn, KeepsIf, PlansShared
 ghost use Rattle.planus_write.specs.inner.Sharing.{FindsOrPlans};
 
 use crate::backing::{Backing, Plan};
-use crate::byte_lists::ByteItems;
 use crate::errors::BuildError;
 use crate::first_distances::FirstDistances;
-use planus_back::{Bucket, Cache, GetCacheKey};
+use planus_back::{Bucket, Byte, Cache, GetCacheKey, find_key};
 use std::alloc::{AllocError, Global};
 use std::fmt;
 use std::marker::Model;
@@ -66,46 +65,46 @@ impl<C: GetCacheKey> Sharing<C> {
     }
 
     #[inline(always)]
-    fn bucket_of<L: ByteItems>(&self, contents: &L) -> Option<Bucket>
-        ensures { LooksIn self.now.holding (L.bytes_of contents.now) result }
+    fn bucket_of<B: Byte>(&self, contents: &[B]) -> Option<Bucket>
+        ensures { LooksIn self.now.holding (B.bytes_of contents.now) result }
     {
         if self.is_many {
-            return Some(contents.bucket_in(&self.cache));
+            return Some(self.cache.bucket_of(contents));
         }
         None
     }
 
     #[inline(always)]
-    fn find_in<L: ByteItems>(
+    fn find_in<B: Byte>(
         &self,
         bucket: Option<Bucket>,
         serialized: &[u8],
-        contents: &L,
+        contents: &[B],
     ) -> Option<u32>
         requires fits { HoldingFits C.key_in self.now.holding serialized.now }
-        requires bucket { LooksIn self.now.holding (L.bytes_of contents.now) bucket }
+        requires bucket { LooksIn self.now.holding (B.bytes_of contents.now) bucket }
         ensures { FindsHeld C.key_in self.now.holding serialized.now
-            (L.bytes_of contents.now) result }
+            (B.bytes_of contents.now) result }
     {
         match bucket {
-            Some(bucket) => contents.find_in(bucket, &self.cache, serialized),
-            None => contents.find_among::<C>(self.first.as_slice(), serialized),
+            Some(bucket) => self.cache.get_in(bucket, serialized, contents),
+            None => find_key::<C, B>(self.first.as_slice(), serialized, contents),
         }
     }
 
     // Changes nothing on failure.
     #[inline(always)]
-    fn keep_in<L: ByteItems>(
+    fn keep_in<B: Byte>(
         &mut self,
         bucket: Option<Bucket>,
         serialized: &[u8],
-        contents: &L,
+        contents: &[B],
         distance: u32,
     ) -> Result<(), AllocError>
         requires fits { HoldingFits C.key_in self.old.holding serialized.now }
-        requires bucket { LooksIn self.old.holding (L.bytes_of contents.now) bucket }
+        requires bucket { LooksIn self.old.holding (B.bytes_of contents.now) bucket }
         ensures on { self.new.on ≡ self.old.on }
-        ensures ok { OnOk result (KeepsIf true C.key_in serialized.now (L.bytes_of contents.now)
+        ensures ok { OnOk result (KeepsIf true C.key_in serialized.now (B.bytes_of contents.now)
             distance self.old.holding self.new.holding) }
         ensures err { OnErr result (self.new ≡ self.old) }
     {
@@ -141,16 +140,16 @@ impl<C: GetCacheKey> Sharing<C> {
 // The cache stays empty on failure.
 #[cold]
 #[inline(never)]
-fn spill<C: GetCacheKey, L: ByteItems>(
+fn spill<C: GetCacheKey, B: Byte>(
     cache: &mut Cache<C>,
     first: &[u32],
     serialized: &[u8],
-    contents: &L,
+    contents: &[B],
     distance: u32,
 ) -> Result<(), AllocError>
     requires empty { IsEmpty cache.old }
     requires fits { HoldingFits C.key_in (few first.now) serialized.now }
-    ensures ok { OnOk result (KeepsIf true C.key_in serialized.now (L.bytes_of contents.now)
+    ensures ok { OnOk result (KeepsIf true C.key_in serialized.now (B.bytes_of contents.now)
         distance (few first.now) (many cache.new)) }
     ensures err { OnErr result (IsEmpty cache.new) }
 {
@@ -162,16 +161,16 @@ fn spill<C: GetCacheKey, L: ByteItems>(
 }
 
 // Some of the distances stay on failure.
-fn fill<C: GetCacheKey, L: ByteItems>(
+fn fill<C: GetCacheKey, B: Byte>(
     cache: &mut Cache<C>,
     first: &[u32],
     serialized: &[u8],
-    contents: &L,
+    contents: &[B],
     distance: u32,
 ) -> Result<(), AllocError>
     requires empty { IsEmpty cache.old }
     requires fits { HoldingFits C.key_in (few first.now) serialized.now }
-    ensures { OnOk result (KeepsIf true C.key_in serialized.now (L.bytes_of contents.now)
+    ensures { OnOk result (KeepsIf true C.key_in serialized.now (B.bytes_of contents.now)
         distance (few first.now) (many cache.new)) }
 {
     for at in first {
@@ -179,16 +178,16 @@ fn fill<C: GetCacheKey, L: ByteItems>(
             cache.insert(key, *at)?;
         }
     }
-    cache.insert_in(contents.bucket_in(cache), distance)
+    cache.insert_in(cache.bucket_of(contents), distance)
 }
 
 // Fails in this order: too large, memory for padding and part, memory for the cache.
 #[inline(always)]
-pub(crate) fn plan_shared<C: GetCacheKey, L: ByteItems>(
+pub(crate) fn plan_shared<C: GetCacheKey, B: Byte>(
     backing: &mut Backing,
     sharing: &mut Sharing<C>,
     bucket: Option<Bucket>,
-    contents: &L,
+    contents: &[B],
     size: usize,
     mask: usize,
 ) -> Result<Plan, BuildError>
@@ -196,8 +195,8 @@ pub(crate) fn plan_shared<C: GetCacheKey, L: ByteItems>(
     requires bound { mask + 1 ≤ 2 ^ 30 }
     requires on { sharing.old.on ≡ true }
     requires fits { HoldingFits C.key_in sharing.old.holding backing.old.bytes }
-    requires bucket { LooksIn sharing.old.holding (L.bytes_of contents.now) bucket }
-    ensures { PlansShared C.key_in (L.bytes_of contents.now) size (mask + 1)
+    requires bucket { LooksIn sharing.old.holding (B.bytes_of contents.now) bucket }
+    ensures { PlansShared C.key_in (B.bytes_of contents.now) size (mask + 1)
         backing.old sharing.old result backing.new sharing.new }
 {
     let plan = backing.plan_room(size, mask)?;
@@ -206,11 +205,11 @@ pub(crate) fn plan_shared<C: GetCacheKey, L: ByteItems>(
 }
 
 #[inline(always)]
-pub(crate) fn find_or_plan<C: GetCacheKey, L: ByteItems>(
+pub(crate) fn find_or_plan<C: GetCacheKey, B: Byte>(
     shared: bool,
     backing: &mut Backing,
     sharing: &mut Sharing<C>,
-    contents: &L,
+    contents: &[B],
     size: usize,
     mask: usize,
 ) -> Result<Lookup, BuildError>
@@ -218,7 +217,7 @@ pub(crate) fn find_or_plan<C: GetCacheKey, L: ByteItems>(
     requires bound { mask + 1 ≤ 2 ^ 30 }
     requires on { sharing.old.on ≡ shared }
     requires fits { HoldingFits C.key_in sharing.old.holding backing.old.bytes }
-    ensures { FindsOrPlans C.key_in (L.bytes_of contents.now) size (mask + 1)
+    ensures { FindsOrPlans C.key_in (B.bytes_of contents.now) size (mask + 1)
         backing.old sharing.old result backing.new sharing.new }
 {
     if !shared {

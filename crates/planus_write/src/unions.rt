@@ -6,7 +6,7 @@ ghost use Rattle.planus_write.specs.Unions.{PreparesUnions, WritesTags, WritesUn
 
 use crate::backing::WORD_MASK;
 use crate::builder::Builder;
-use crate::byte_lists::{ByteList, Copied};
+use crate::byte_lists::Copied;
 use crate::errors::BuildError;
 use crate::lists::write_prepared;
 use crate::offset::{List, Offset};
@@ -45,13 +45,7 @@ fn prepare_unions<T, U: WriteAsUnion<T>>(
 fn write_tags(builder: &mut Builder, tags: &[u8]) -> Result<Offset<List<u8>>, BuildError>
     ensures { WritesTags tags.now builder.old result builder.new }
 {
-    builder.write_over(
-        tags.len(),
-        WORD_MASK,
-        &Copied {
-            items: &ByteList(tags),
-        },
-    )?;
+    builder.write_over(tags.len(), WORD_MASK, &Copied(tags))?;
     let place = builder.write_count(tags.len() as u32)?;
     Ok(Offset::at(place))
 }

@@ -13,7 +13,7 @@ ghost use Rattle.planus_write.specs.inner.WholeTables.{PutsTableIf};
 
 use crate::backing::word_between;
 use crate::builder::Builder;
-use crate::byte_lists::{ByteList, Copied};
+use crate::byte_lists::Copied;
 use crate::errors::BuildError;
 use crate::sharing::{Lookup, find_or_plan};
 use crate::written::Written;
@@ -45,15 +45,14 @@ impl Builder {
             self.vtables.is_on(),
             &mut self.backing,
             &mut self.vtables,
-            &ByteList(bytes),
+            bytes,
             bytes.len(),
             1,
         )? {
             Lookup::Found(distance) => Ok(distance),
             Lookup::Planned(plan) => {
-                let items = &ByteList(bytes);
                 self.backing
-                    .put_planned_over(&plan, bytes.len(), &Copied { items });
+                    .put_planned_over(&plan, bytes.len(), &Copied(bytes));
                 Ok(plan.place)
             }
         }

@@ -8,7 +8,6 @@ ghost use Rattle.planus_write.specs.Preparing.{WritesText};
 
 use crate::backing::WORD_MASK;
 use crate::builder::Builder;
-use crate::byte_lists::ByteList;
 use crate::errors::BuildError;
 use crate::offset::{Offset, Text};
 use crate::sharing::{Lookup, find_or_plan};
@@ -55,7 +54,7 @@ impl Builder {
             shared,
             &mut self.backing,
             &mut self.texts,
-            &ByteList(bytes),
+            bytes,
             size,
             WORD_MASK,
         )? {

@@ -18,7 +18,7 @@ impl<'a> WriteAsOffset<List<u8>> for ByteList<'a> {
 
     #[inline]
     fn prepare(&self, builder: &mut Builder) -> Result<Offset<List<u8>>, BuildError> {
-        builder.write_byte_list(self)
+        builder.write_byte_list(self.0)
     }
 
     ghost is_lawful = { entry_is_lawful (λ list. byte_list_entry list.0.now) };
@@ -32,7 +32,7 @@ impl<'a> WriteAsOffset<List<i8>> for SignedList<'a> {
 
     #[inline]
     fn prepare(&self, builder: &mut Builder) -> Result<Offset<List<i8>>, BuildError> {
-        builder.write_byte_list(self)
+        builder.write_byte_list(self.0)
     }
 
     ghost is_lawful = { entry_is_lawful (λ list. byte_list_entry (map (λ number. cast_unsigned w8

@@ -25,5 +25,5 @@ loop-at-preserved g c =
 pub returns : goal.returns
 returns g c =
     let all : c.loop-at.at-index ≡ length c.args.first.now = omega arith in
-    spilled_if c.insert_in.result g.C.GetCacheKey.key_in c.args.first.now c.args.serialized.now _ c.loop-at.cache c.insert_in.new.self c.bucket_in.result c.args.distance c.loop-at.invariant.fits
-    (subst (HasFirst c.loop-at.cache c.args.first.now) all c.loop-at.invariant.holds) c.bucket_in.ensures c.insert_in.ensures.ok c.insert_in.ensures.fits
+    spilled_if c.insert_in.result g.C.GetCacheKey.key_in c.args.first.now c.args.serialized.now _ c.loop-at.cache c.insert_in.new.self c.bucket_of.result c.args.distance c.loop-at.invariant.fits
+    (subst (HasFirst c.loop-at.cache c.args.first.now) all c.loop-at.invariant.holds) c.bucket_of.ensures c.insert_in.ensures.ok c.insert_in.ensures.fits

@@ -4,7 +4,7 @@ use Rattle.planus_back.proofs.Buckets.{at_listed}
 use Rattle.planus_back.proofs.cache.Cache.earlier_in.Goals as goal
 
 pub returns-in-Some : goal.returns-in-Some
-returns-in-Some g c = rw (← c.self.view_is, at_listed c.args.bucket.number _ _ (sym c.get.ensures.value ∙ ap option_copied c.in-Some.is), ← c.as_slice.ensures.value) c.find_among.ensures
+returns-in-Some g c = rw (← c.self.view_is, at_listed c.args.bucket.number _ _ (sym c.get.ensures.value ∙ ap option_copied c.in-Some.is), ← c.as_slice.ensures.value) c.find_key.ensures
 
 pub returns-in-None : goal.returns-in-None
 returns-in-None g c = rw (← c.self.view_is, at_listed c.args.bucket.number _ _ (sym c.get.ensures.value ∙ ap option_copied c.in-None.is)) (λ i below. absurd (omega (arith, below)))

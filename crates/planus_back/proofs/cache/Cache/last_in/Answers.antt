@@ -3,7 +3,7 @@ use Rattle.std.specs.Option.{option_copied}
 use Rattle.planus_back.proofs.cache.Cache.last_in.Goals as goal
 
 pub returns-in-Some : goal.returns-in-Some
-returns-in-Some g c = rw (← c.self.view_is, sym c.get.ensures.value ∙ ap option_copied c.in-Some.is) c.find_among.ensures
+returns-in-Some g c = rw (← c.self.view_is, sym c.get.ensures.value ∙ ap option_copied c.in-Some.is) c.find_key.ensures
 
 pub returns-in-None : goal.returns-in-None
 returns-in-None g c = rw (← c.self.view_is, sym c.get.ensures.value ∙ ap option_copied c.in-None.is) (λ i below. absurd (omega (arith, below)))

@@ -23,9 +23,9 @@ pub find_or_plan-requires-clause-fits : goal.find_or_plan-requires-clause-fits
 find_or_plan-requires-clause-fits g c = (c.self.invariant.1.cached byte_lists).fits
 
 put : (g : given.Over) → (c : goal.After-put_planned_over g)
-    → PlacesEntry (byte_list_entry (g.L.ByteItems.bytes_of c.args.list.now)) [] (state_of c.self.inside) c.in-Planned.plan.place (state_of (record c.self.inside { backing = c.put_planned_over.new.self; byte_lists = c.find_or_plan.new.sharing }))
+    → PlacesEntry (byte_list_entry (g.B.Byte.bytes_of c.args.list.now)) [] (state_of c.self.inside) c.in-Planned.plan.place (state_of (record c.self.inside { backing = c.put_planned_over.new.self; byte_lists = c.find_or_plan.new.sharing }))
 put g c =
-    let list = g.L.ByteItems.bytes_of c.args.list.now in
+    let list = g.B.Byte.bytes_of c.args.list.now in
     let plan = c.in-Planned.plan in
     let old = c.self.inside.backing in
     let mid = c.find_or_plan.new.backing in
@@ -46,28 +46,28 @@ put g c =
     (new_byte_lists list)
 
 pub invariant_of-self-in-Planned : goal.invariant_of-self-in-Planned
-invariant_of-self-in-Planned g c = still_sound (byte_list_entry (g.L.ByteItems.bytes_of c.args.list.now)) [] (state_of c.self.inside) _ c.in-Planned.plan.place c.self.invariant (put g c)
+invariant_of-self-in-Planned g c = still_sound (byte_list_entry (g.B.Byte.bytes_of c.args.list.now)) [] (state_of c.self.inside) _ c.in-Planned.plan.place c.self.invariant (put g c)
 
 pub returns-in-Planned : goal.returns-in-Planned
 returns-in-Planned g c = rw (← c.self.view_is) (put g c)
 
 pub returns-in-Found : goal.returns-in-Found
 returns-in-Found g c =
-    let list = g.L.ByteItems.bytes_of c.args.list.now in
+    let list = g.B.Byte.bytes_of c.args.list.now in
     let asked : FindsOrPlans bytes_in list (c.count-size.result + 4) 4 c.self.inside.backing c.self.inside.byte_lists (Ok (Found c.in-Found.distance)) c.find_or_plan.new.backing c.find_or_plan.new.sharing =
     subst (λ (start : Lookup). FindsOrPlans bytes_in list (c.count-size.result + 4) 4 c.self.inside.backing c.self.inside.byte_lists (Ok start) c.find_or_plan.new.backing c.find_or_plan.new.sharing) c.in-Found.is c.in_ok-distance.ensures in
     rw (← c.self.view_is)
     (found_again list (byte_list_part list) c.self.inside c.find_or_plan.new.backing c.find_or_plan.new.sharing byte_lists c.in-Found.distance asked)
 
 refused : (g : given.Over) → (c : goal.After-from_residual g)
-    → Refuses (byte_list_entry (g.L.ByteItems.bytes_of c.args.list.now)) [] (state_of c.self.inside) c.in_err-distance.field-0.0 (state_of (record c.self.inside { backing = c.find_or_plan.new.backing; byte_lists = c.find_or_plan.new.sharing }))
+    → Refuses (byte_list_entry (g.B.Byte.bytes_of c.args.list.now)) [] (state_of c.self.inside) c.in_err-distance.field-0.0 (state_of (record c.self.inside { backing = c.find_or_plan.new.backing; byte_lists = c.find_or_plan.new.sharing }))
 refused g c =
-    let list = g.L.ByteItems.bytes_of c.args.list.now in
+    let list = g.B.Byte.bytes_of c.args.list.now in
     not_begun list (byte_list_part list) c.self.inside c.find_or_plan.new.backing c.find_or_plan.new.sharing byte_lists c.in_err-distance.field-0.0
     (subst (λ n. FindsOrPlans bytes_in list (n + 4) 4 c.self.inside.backing c.self.inside.byte_lists (Err c.in_err-distance.field-0.0) c.find_or_plan.new.backing c.find_or_plan.new.sharing) c.count-size.ensures.number c.in_err-distance.ensures)
 
 pub invariant_of-self : goal.invariant_of-self
-invariant_of-self g c = left_sound (byte_list_entry (g.L.ByteItems.bytes_of c.args.list.now)) [] (state_of c.self.inside) _ c.in_err-distance.field-0.0 c.self.invariant (refused g c)
+invariant_of-self g c = left_sound (byte_list_entry (g.B.Byte.bytes_of c.args.list.now)) [] (state_of c.self.inside) _ c.in_err-distance.field-0.0 c.self.invariant (refused g c)
 
 pub returns-in_err-distance : goal.returns-in_err-distance
 returns-in_err-distance g c =

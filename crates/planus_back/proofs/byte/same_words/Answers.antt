@@ -1,6 +1,6 @@
 use Rattle.std.proofs.Common.{[], refl, arith, rules}
 use Rattle.planus_back.proofs.Same.{rest_same, words_differ, words_same, last_differ, last_same}
-use Rattle.planus_back.proofs.keys.same_words.Goals as goal
+use Rattle.planus_back.proofs.byte.same_words.Goals as goal
 
 pub loop-word-init : goal.loop-word-init
 loop-word-init c = ([], refl, refl)
