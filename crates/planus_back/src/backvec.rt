@@ -3,7 +3,7 @@ ghost use Rattle.std.specs.Prelude.{◌≡◌, ℕ, ◌+◌, ◌≤◌, List, []
 ghost use Rattle.std.specs.Prelude.{replicate, IfOk, OnOk, OnErr, IsOk};
 
 use crate::block::Block;
-use crate::fill::{Fill, Overwrite};
+use crate::fill::{Fill, Overwrite, Zeroed};
 use std::alloc::{AllocError, Global};
 use std::marker::Model;
 use std::{fmt, mem};
@@ -172,37 +172,6 @@ impl BackVec {
         self.start = start;
     }
 
-    /// Prepends `n` bytes that the filler writes over zeros, as in [`BackVec::extend_write`].
-    #[inline]
-    pub fn put_filled<F: Fill>(&mut self, place: u32, n: usize, filler: &F)
-        requires room { n ≤ self.old.room }
-        requires fits { F.fits filler.now place n }
-        ensures bytes { self.new.bytes ≡ F.encoding filler.now place n ++ self.old.bytes }
-        ensures count { length (F.encoding filler.now place n) ≡ n }
-        ensures room { self.new.room + n ≡ self.old.room }
-    {
-        let start = self.start - n;
-        self.block.put_filled(start, place, n, filler);
-        self.start = start;
-    }
-
-    /// Prepends `padding` zeros, and then as [`BackVec::put_filled`].
-    #[inline]
-    pub fn put_filled_padded<F: Fill>(&mut self, padding: usize, place: u32, n: usize, filler: &F)
-        requires room { padding + n ≤ self.old.room }
-        requires fits { F.fits filler.now place n }
-        ensures bytes { self.new.bytes
-            ≡ F.encoding filler.now place n ++ (replicate padding 0 ++ self.old.bytes) }
-        ensures count { length (F.encoding filler.now place n) ≡ n }
-        ensures room { self.new.room + (padding + n) ≡ self.old.room }
-    {
-        let end = self.start - padding;
-        let start = end - n;
-        self.block.put_zeros(end, padding);
-        self.block.put_filled(start, place, n, filler);
-        self.start = start;
-    }
-
     /// Prepends `n` bytes, all written by the writer without zeroing. `place` is the distance in
     /// bytes from the end of the buffer to the first of them.
     #[inline(always)]
@@ -323,7 +292,7 @@ impl BackVec {
         ensures room { n ≤ self.old.room → self.new.room + n ≡ self.old.room }
     {
         self.reserve(n)?;
-        self.put_filled(place, n, filler);
+        self.put_overwritten(place, n, &Zeroed(filler));
         Ok(())
     }
 }

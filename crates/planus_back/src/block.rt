@@ -7,7 +7,7 @@ ghost use Rattle.planus_back.specs.inner.Blocks.{HoldsFrom, IsBlock, Puts, Readi
 ghost use Rattle.planus_back.specs.inner.Blocks.{capacity_of};
 
 use crate::cells::{Deed, allocate, deallocate, lend, lend_mut};
-use crate::fill::{Fill, Overwrite};
+use crate::fill::Overwrite;
 use core::slots::Slots;
 use std::alloc::{AllocError, Global};
 use std_alloc::room::may_hold;
@@ -124,17 +124,6 @@ impl Block {
         ensures { Puts self.old at (replicate n 0) self.new }
     {
         zero(&mut self.places, at, n);
-    }
-
-    #[inline]
-    pub(crate) fn put_filled<F: Fill>(&mut self, at: usize, place: u32, n: usize, filler: &F)
-        requires holds { HoldsFrom self.old (at + n) }
-        requires fits { F.fits filler.now place n }
-        ensures puts { Puts self.old at (F.encoding filler.now place n) self.new }
-        ensures count { length (F.encoding filler.now place n) ≡ n }
-    {
-        self.put_zeros(at, n);
-        filler.fill(place, lend_mut(&mut self.places, self.base, at, n));
     }
 
     #[inline(always)]

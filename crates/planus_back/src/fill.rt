@@ -26,3 +26,20 @@ pub trait Overwrite {
         requires { fits self.now place (length bytes.old) }
         ensures { bytes.new ≡ encoding self.now place (length bytes.old) };
 }
+
+/// Overwrites as the filler fills: with zeros first.
+#[derive(Drop)]
+pub struct Zeroed<'a, F: Fill>(pub &'a F);
+
+impl<'a, F: Fill> Overwrite for Zeroed<'a, F> {
+    ghost fits = { λ zeroed place n. F.fits zeroed.0.now place n };
+
+    ghost encoding = { λ zeroed place n. F.encoding zeroed.0.now place n };
+
+    #[inline]
+    fn overwrite(&self, place: u32, bytes: &mut [u8]) {
+        let filler = self.0;
+        bytes.fill(0);
+        filler.fill(place, bytes);
+    }
+}

@@ -23,5 +23,5 @@ pub use bucket::Bucket;
 pub use byte::Byte;
 pub use cache::{Cache, find_key};
 pub use cache_keys::{ByteVec, GetCacheKey, VTable};
-pub use fill::{Fill, Overwrite};
+pub use fill::{Fill, Overwrite, Zeroed};
 pub use promises::{Promises, TooLarge};

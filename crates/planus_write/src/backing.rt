@@ -7,7 +7,7 @@ ghost use Rattle.planus_back.specs.Padding.{greatest_place};
 ghost use Rattle.planus_write.specs.inner.Backed.{Backed, PlansPart};
 
 use crate::errors::BuildError;
-use planus_back::{BackVec, Fill, Overwrite, Promises};
+use planus_back::{BackVec, Overwrite, Promises};
 use std::alloc::{AllocError, Global};
 use std::marker::Model;
 
@@ -139,20 +139,6 @@ impl Backing {
         let plan = self.plan_room(size, mask)?;
         self.pad(&plan);
         Ok(plan.place)
-    }
-
-    #[inline]
-    pub(crate) fn put_planned<F: Fill>(&mut self, plan: &Plan, size: usize, filler: &F)
-        requires room { plan.now.padding + size ≤ self.old.room }
-        requires within { size + (plan.now.padding + length self.old.bytes) ≤ greatest_place }
-        requires fits { F.fits filler.now plan.now.place size }
-        ensures put { (padded : Backed) × Pads plan.now self.old padded
-            × PutsBytes (F.encoding filler.now plan.now.place size) padded self.new }
-        ensures count { length (F.encoding filler.now plan.now.place size) ≡ size }
-    {
-        self.inner
-            .put_filled_padded(plan.padding, plan.place, size, filler);
-        self.promises = plan.promises;
     }
 
     #[inline]

@@ -27,7 +27,7 @@ use crate::offset::{List, Offset, Text};
 use crate::sharing::Sharing;
 use crate::traits::{Primitive, WriteAsOffset, WriteAsUnionVector};
 use crate::union_vector_offset::UnionVectorOffset;
-use planus_back::{ByteVec, Fill, Overwrite, VTable};
+use planus_back::{ByteVec, Fill, Overwrite, VTable, Zeroed};
 use std::alloc::Global;
 use std::marker::Model;
 
@@ -196,7 +196,8 @@ impl Builder {
             (F.encoding filler.now))) self.old result self.new }
     {
         let plan = self.backing.plan_room(size, alignment_mask)?;
-        self.backing.put_planned(&plan, size, filler);
+        self.backing
+            .put_planned_over(&plan, size, &Zeroed(filler));
         Ok(())
     }
 

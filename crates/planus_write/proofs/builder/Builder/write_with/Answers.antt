@@ -10,19 +10,19 @@ use Rattle.planus_write.proofs.PlannedRoom.{makes_room}
 use Rattle.planus_write.proofs.builder.Builder.write_with.Given as given
 use Rattle.planus_write.proofs.builder.Builder.write_with.Goals as goal
 
-abbrev part : (g : given.Over) → goal.After-put_planned g → Part
+abbrev part : (g : given.Over) → goal.After-put_planned_over g → Part
 part g c = filled_part c.args.size (c.args.alignment_mask + 1) (g.F.Fill.encoding c.args.filler.now)
 
-put : (g : given.Over) → (c : goal.After-put_planned g)
-    → PlacesEntry (unshared_entry (part g c)) [] (state_of c.self.inside) (length c.put_planned.new.self.bytes) (state_of (record c.self.inside { backing = c.put_planned.new.self }))
+put : (g : given.Over) → (c : goal.After-put_planned_over g)
+    → PlacesEntry (unshared_entry (part g c)) [] (state_of c.self.inside) (length c.put_planned_over.new.self.bytes) (state_of (record c.self.inside { backing = c.put_planned_over.new.self }))
 put g c =
-    let there = c.put_planned.ensures.put in
-    part_put_last (part g c) c.in_ok-plan.plan.place c.self.inside.backing there.0 c.put_planned.new.self _ _
+    let there = c.put_planned_over.ensures.put in
+    part_put_last (part g c) c.in_ok-plan.plan.place c.self.inside.backing there.0 c.put_planned_over.new.self _ _
     (makes_room c.args.size (c.args.alignment_mask + 1) c.self.inside.backing c.plan_room.new.self there.0 c.in_ok-plan.plan c.in_ok-plan.ensures.0 c.in_ok-plan.ensures.1 there.1)
-    c.put_planned.ensures.count there.2
+    c.put_planned_over.ensures.count there.2
 
 pub invariant_of-self-2 : goal.invariant_of-self-2
-invariant_of-self-2 g c = still_sound (unshared_entry (part g c)) [] (state_of c.self.inside) _ (length c.put_planned.new.self.bytes) c.self.invariant (put g c)
+invariant_of-self-2 g c = still_sound (unshared_entry (part g c)) [] (state_of c.self.inside) _ (length c.put_planned_over.new.self.bytes) c.self.invariant (put g c)
 
 pub returns : goal.returns
 returns g c = rw (← c.self.view_is) (put g c)
