@@ -17,6 +17,7 @@ ghost use Rattle.planus_demo.specs.Weapons.{WritesWeapon};
 ghost use Rattle.planus_demo.specs.WeaponViews.{weapon_table, ShowsWeapon};
 
 use planus::errors::ErrorKind;
+use planus::located::locate;
 use planus::table_reader::Table;
 use planus::{
     BuildError, Builder, ByRef, Error, Offset, OrDefault, ReadAsRoot, ReadError, Result,
@@ -118,10 +119,8 @@ impl<'a> ReadAsRoot<'a> for WeaponRef<'a> {
         (codes "[WeaponRef]") (codes "read_as_root") 0 r };
 
     fn read_as_root(slice: &'a [u8]) -> Result<WeaponRef<'a>> {
-        match TableRead::from_buffer(SliceWithStartOffset::new(slice, 0), 0) {
-            Ok(weapon) => Ok(weapon),
-            Err(kind) => Err(kind.with_error_location(Weapon::name(), "read_as_root", 0)),
-        }
+        let weapon = TableRead::from_buffer(SliceWithStartOffset::new(slice, 0), 0);
+        locate(weapon, Weapon::name(), "read_as_root", 0)
     }
 }
 
@@ -139,13 +138,7 @@ impl<'a> VectorReadInner<'a> for WeaponRef<'a> {
         (codes "[Weapon]") (codes "get") start r };
 
     fn from_buffer(buffer: SliceWithStartOffset<'a>, offset: usize) -> Result<WeaponRef<'a>> {
-        match TableRead::from_buffer(buffer, offset) {
-            Ok(weapon) => Ok(weapon),
-            Err(kind) => Err(kind.with_error_location(
-                "[Weapon]",
-                "get",
-                buffer.offset_from_start(),
-            )),
-        }
+        let weapon = TableRead::from_buffer(buffer, offset);
+        locate(weapon, "[Weapon]", "get", buffer.offset_from_start())
     }
 }

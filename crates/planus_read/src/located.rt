@@ -1,5 +1,8 @@
 //! The errors, with names of any lifetime.
 
+ghost use Rattle.std.specs.Prelude.{◌≡◌};
+ghost use Rattle.planus_read.specs.Located.{Located};
+
 use crate::errors::{ErrorKind, UnknownEnumTagKind};
 use std::fmt;
 
@@ -24,6 +27,22 @@ pub struct ErrorLocation<'n> {
     /// In bytes from the buffer's start: of the table's first byte, or of the slice of the items;
     /// `usize::MAX` where there is none.
     pub byte_offset: usize,
+}
+
+/// Returns what was read, its error at a location, with the offset in bytes.
+#[inline]
+pub fn locate<'n, T>(
+    read: Result<T, ErrorKind>,
+    type_: &'n str,
+    method: &'n str,
+    byte_offset: usize,
+) -> Result<T, Error<'n>>
+    ensures { Located (λ answer. answer ≡ read) type_.now method.now byte_offset result }
+{
+    match read {
+        Ok(value) => Ok(value),
+        Err(kind) => Err(kind.with_error_location(type_, method, byte_offset)),
+    }
 }
 
 /// A value that its enum doesn't have, and where.

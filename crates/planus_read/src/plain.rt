@@ -9,7 +9,7 @@ ghost use Rattle.planus_read.specs.Slices.{slice_bytes};
 ghost use Rattle.planus_read.specs.Plain.{Shape, own_reading, plain_reading};
 
 use crate::errors::{Error, ErrorKind};
-use crate::located::ITEM_METHOD;
+use crate::located::{ITEM_METHOD, locate};
 use crate::slice_helpers::SliceWithStartOffset;
 use crate::traits::{ReadError, Stride, TableRead, VectorRead, VectorReadInner};
 
@@ -86,13 +86,7 @@ impl<'buf, T: Plain + Stride<Stands = T>> VectorReadInner<'buf> for T {
 
     #[inline]
     fn from_buffer(buffer: SliceWithStartOffset<'buf>, offset: usize) -> Result<T, Error> {
-        match <T as TableRead<'buf>>::from_buffer(buffer, offset) {
-            Ok(value) => Ok(value),
-            Err(kind) => Err(kind.with_error_location(
-                VECTOR_NAME,
-                ITEM_METHOD,
-                buffer.offset_from_start(),
-            )),
-        }
+        let value = <T as TableRead<'buf>>::from_buffer(buffer, offset);
+        locate(value, VECTOR_NAME, ITEM_METHOD, buffer.offset_from_start())
     }
 }

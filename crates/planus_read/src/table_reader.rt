@@ -9,7 +9,7 @@ ghost use Rattle.planus_read.specs.Reading.{table_reading, word_clauses, object_
 ghost use Rattle.planus_read.specs.Reading.{vtable_at, slots_of};
 
 use crate::errors::ErrorKind;
-use crate::located::Error;
+use crate::located::{Error, locate};
 use crate::slice_helpers::SliceWithStartOffset;
 use crate::traits::{TableRead, TableReadUnion, TableReadUnionVector};
 
@@ -131,26 +131,6 @@ impl<'buf> Table<'buf> {
         Some((self.slot_inside(slot), self.slot_inside(slot + 1)))
     }
 
-    #[inline]
-    fn located<'n, A>(
-        &self,
-        answer: Result<A, ErrorKind>,
-        type_: &'n str,
-        method: &'n str,
-    ) -> Result<A, Error<'n>>
-        ensures { Located (λ a. a ≡ answer)
-            type_.now method.now (table_start self.now) result }
-    {
-        match answer {
-            Ok(value) => Ok(value),
-            Err(kind) => Err(kind.with_error_location(
-                type_,
-                method,
-                self.object.offset_from_start(),
-            )),
-        }
-    }
-
     fn field<T: TableRead<'buf>>(&self, slot: usize) -> Result<Option<T>, ErrorKind>
         ensures { FieldAnswer T.reads self.now slot result }
     {
@@ -224,7 +204,7 @@ impl<'buf> Table<'buf> {
             type_.now method.now (table_start self.now) result }
     {
         let answer = self.field::<T>(slot);
-        self.located(answer, type_, method)
+        locate(answer, type_, method, self.object.offset_from_start())
     }
 
     /// As [`Table::access`], with [`ErrorKind::MissingRequired`] for `None`.
@@ -238,7 +218,7 @@ impl<'buf> Table<'buf> {
             type_.now method.now (table_start self.now) result }
     {
         let answer = required(self.field::<T>(slot));
-        self.located(answer, type_, method)
+        locate(answer, type_, method, self.object.offset_from_start())
     }
 
     /// Returns the union with its tag in a slot and its reference in the next, or `None` if the tag
@@ -255,7 +235,7 @@ impl<'buf> Table<'buf> {
             type_.now method.now (table_start self.now) result }
     {
         let answer = self.union_field::<T>(slot);
-        self.located(answer, type_, method)
+        locate(answer, type_, method, self.object.offset_from_start())
     }
 
     /// As [`Table::access_union`], with [`ErrorKind::MissingRequired`] for `None`.
@@ -269,7 +249,7 @@ impl<'buf> Table<'buf> {
             type_.now method.now (table_start self.now) result }
     {
         let answer = required(self.union_field::<T>(slot));
-        self.located(answer, type_, method)
+        locate(answer, type_, method, self.object.offset_from_start())
     }
 
     /// Returns the union vector with its tags in a slot and its values in the next, or `None` if
@@ -285,7 +265,7 @@ impl<'buf> Table<'buf> {
             type_.now method.now (table_start self.now) result }
     {
         let answer = self.union_vector_field::<T>(slot);
-        self.located(answer, type_, method)
+        locate(answer, type_, method, self.object.offset_from_start())
     }
 
     /// As [`Table::access_union_vector`], with [`ErrorKind::MissingRequired`] for `None`.
@@ -299,7 +279,7 @@ impl<'buf> Table<'buf> {
             type_.now method.now (table_start self.now) result }
     {
         let answer = required(self.union_vector_field::<T>(slot));
-        self.located(answer, type_, method)
+        locate(answer, type_, method, self.object.offset_from_start())
     }
 }
 

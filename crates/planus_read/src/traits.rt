@@ -9,7 +9,7 @@ ghost use Rattle.planus_read.specs.Located.{Located};
 
 use crate::Result;
 use crate::errors::ErrorKind;
-use crate::located::{self, ITEM_METHOD};
+use crate::located::{self, ITEM_METHOD, locate};
 use crate::plain::Plain;
 use crate::slice_helpers::SliceWithStartOffset;
 
@@ -139,13 +139,8 @@ pub trait VectorReadUnion<'buf>: TableReadUnion<'buf> {
         ensures { let S = slice_bytes buffer.entry in let start = slice_start buffer.entry in
             Located (Self.reads S start tag offset) name item_method start result }
     {
-        match <Self as TableReadUnion<'buf>>::from_buffer(buffer, tag, offset) {
-            Ok(value) => Ok(value),
-            Err(kind) => Err(kind.with_error_location(
-                Self::vector_name(),
-                ITEM_METHOD,
-                buffer.offset_from_start(),
-            )),
-        }
+        let value = <Self as TableReadUnion<'buf>>::from_buffer(buffer, tag, offset);
+        let (name, method): (&'n str, &'n str) = (Self::vector_name(), ITEM_METHOD);
+        locate(value, name, method, buffer.offset_from_start())
     }
 }

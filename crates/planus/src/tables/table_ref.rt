@@ -10,6 +10,7 @@ ghost use Rattle.planus.specs.Views.{ShowsView};
 use crate::tables::table_kind::TableKind;
 use crate::tables::table_view::TableView;
 use planus_read::errors::ErrorKind;
+use planus_read::located::locate;
 use planus_read::table_reader::Table;
 use planus_read::{
     Error, ReadAsRoot, ReadError, ReadSliceAsRoot, Result, SliceWithStartOffset, Stride, TableRead,
@@ -89,13 +90,8 @@ impl<'a, K: TableKind> ReadSliceAsRoot<'a> for TableRef<'a, K> {
         K.name (codes "read_as_root") start r };
 
     fn read_slice_as_root(slice: SliceWithStartOffset<'a>) -> Result<TableRef<'a, K>> {
-        match <TableRef<'a, K> as TableRead<'a>>::from_buffer(slice, 0) {
-            Ok(view) => Ok(view),
-            Err(kind) => {
-                let start = slice.offset_from_start();
-                Err(kind.with_error_location(K::name(), "read_as_root", start))
-            }
-        }
+        let view = <TableRef<'a, K> as TableRead<'a>>::from_buffer(slice, 0);
+        locate(view, K::name(), "read_as_root", slice.offset_from_start())
     }
 }
 
@@ -113,11 +109,7 @@ impl<'a, K: TableKind> VectorReadInner<'a> for TableRef<'a, K> {
         K.name (codes "get") start r };
 
     fn from_buffer(buffer: SliceWithStartOffset<'a>, offset: usize) -> Result<TableRef<'a, K>> {
-        match <TableRef<'a, K> as TableRead<'a>>::from_buffer(buffer, offset) {
-            Ok(view) => Ok(view),
-            Err(kind) => {
-                Err(kind.with_error_location(K::name(), "get", buffer.offset_from_start()))
-            }
-        }
+        let view = <TableRef<'a, K> as TableRead<'a>>::from_buffer(buffer, offset);
+        locate(view, K::name(), "get", buffer.offset_from_start())
     }
 }

@@ -9,7 +9,7 @@ ghost use Rattle.planus_read.specs.Heads.{IsTextOf, text_of_clauses};
 
 use crate::errors::{Error, ErrorKind};
 use crate::heads::array_from_buffer;
-use crate::located::ITEM_METHOD;
+use crate::located::{ITEM_METHOD, locate};
 use crate::slice_helpers::SliceWithStartOffset;
 use crate::traits::{ReadError, Stride, TableRead, VectorReadInner};
 
@@ -55,13 +55,7 @@ impl<'buf> VectorReadInner<'buf> for &'buf str {
 
     #[inline]
     fn from_buffer(buffer: SliceWithStartOffset<'buf>, offset: usize) -> Result<&'buf str, Error> {
-        match <&'buf str as TableRead<'buf>>::from_buffer(buffer, offset) {
-            Ok(text) => Ok(text),
-            Err(kind) => Err(kind.with_error_location(
-                VECTOR_NAME,
-                ITEM_METHOD,
-                buffer.offset_from_start(),
-            )),
-        }
+        let text = <&'buf str as TableRead<'buf>>::from_buffer(buffer, offset);
+        locate(text, VECTOR_NAME, ITEM_METHOD, buffer.offset_from_start())
     }
 }

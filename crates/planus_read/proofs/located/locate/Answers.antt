@@ -1,5 +1,5 @@
 use Rattle.std.proofs.Common.{Err, refl, ap, sym, ◌∙◌}
-use Rattle.planus_read.proofs.table_reader.Table.located.Goals as goal
+use Rattle.planus_read.proofs.located.locate.Goals as goal
 
 pub returns-in-Err : goal.returns-in-Err
 returns-in-Err g c = (
@@ -7,6 +7,6 @@ returns-in-Err g c = (
   rw c.with_error_location.ensures.location (record {
     type_name = refl;
     method_name = refl;
-    byte_offset = c.offset_from_start.ensures;
+    byte_offset = refl;
   }),
 )
