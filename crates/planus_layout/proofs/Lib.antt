@@ -1,4 +1,3 @@
 pub mod Lists
 pub mod NameLemmas
 pub mod NumberLemmas
-pub mod SlotLemmas

@@ -1,8 +1,7 @@
 //! Scalar types.
 
-ghost use Rattle.std.specs.Prelude.{◌≡◌, ◌||◌};
-ghost use Rattle.std.specs.Str.{bytes_eq};
-ghost use Rattle.planus_layout.specs.Numbers.{scalar_named as scalar_named_lem, scalar_size};
+ghost use Rattle.std.specs.Prelude.{◌≡◌};
+ghost use Rattle.planus_layout.specs.Numbers.{scalar_size};
 ghost use Rattle.planus_layout.specs.Numbers.{is_float as is_float_lem};
 ghost use Rattle.planus_layout.specs.Numbers.{greatest as greatest_lem, least as least_lem};
 ghost use Rattle.planus_layout.specs.Numbers.{fits as fits_lem, is_bool as is_bool_lem};
@@ -23,43 +22,6 @@ pub enum Scalar {
     ULong,
     Float,
     Double,
-}
-
-fn is_either(name: &[u8], short: &[u8], long: &[u8]) -> bool
-    ensures { result ≡ (bytes_eq name.now short.now || bytes_eq name.now long.now) }
-{
-    name == short || name == long
-}
-
-/// Returns the scalar type of this name; each but `bool` has two.
-pub fn scalar_named(name: &[u8]) -> Option<Scalar>
-    ensures { result ≡ scalar_named_lem name.now }
-{
-    if name == b"bool".as_slice() {
-        Some(Scalar::Bool)
-    } else if is_either(name, b"byte", b"int8") {
-        Some(Scalar::Byte)
-    } else if is_either(name, b"ubyte", b"uint8") {
-        Some(Scalar::UByte)
-    } else if is_either(name, b"short", b"int16") {
-        Some(Scalar::Short)
-    } else if is_either(name, b"ushort", b"uint16") {
-        Some(Scalar::UShort)
-    } else if is_either(name, b"int", b"int32") {
-        Some(Scalar::Int)
-    } else if is_either(name, b"uint", b"uint32") {
-        Some(Scalar::UInt)
-    } else if is_either(name, b"long", b"int64") {
-        Some(Scalar::Long)
-    } else if is_either(name, b"ulong", b"uint64") {
-        Some(Scalar::ULong)
-    } else if is_either(name, b"float", b"float32") {
-        Some(Scalar::Float)
-    } else if is_either(name, b"double", b"float64") {
-        Some(Scalar::Double)
-    } else {
-        None
-    }
 }
 
 impl Scalar {

@@ -3,7 +3,6 @@
 ghost use Rattle.std.specs.Prelude.{◌≡◌, ◌≤◌, ◌++◌, IfOk, IfSome, OnOk};
 ghost use Rattle.planus_layout.specs.Slots.{is_union as is_union_lem, width as width_lem};
 ghost use Rattle.planus_layout.specs.Slots.{slots_taken as slots_taken_lem, slots_of, slot_said};
-ghost use Rattle.planus_layout.specs.Slots.{are_whole as are_whole_lem};
 
 use crate::schema::{Base, FieldType, TableField};
 use std::alloc::{AllocError, Global};
@@ -60,18 +59,4 @@ pub fn slots_taken(alloc: Global, fields: &[TableField]) -> Result<Vec<usize>, A
         add_slots(&mut slots, field)?;
     }
     Ok(slots)
-}
-
-/// Returns whether these are all the numbers from 0 on, each once.
-pub fn are_whole(alloc: Global, slots: &[usize]) -> Result<bool, AllocError>
-    ensures { IfOk result (λ b. b ≡ are_whole_lem slots.now) }
-{
-    let mut taken = vec![in alloc; false; slots.len()]?;
-    'slots: for slot in slots {
-        if *slot >= taken.len() || taken[*slot] {
-            return Ok(false);
-        }
-        taken[*slot] = true;
-    }
-    Ok(true)
 }

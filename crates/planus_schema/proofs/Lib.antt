@@ -10,3 +10,4 @@ pub mod SchemaLemmas
 pub mod IndexLemmas
 pub mod SoundLemmas
 pub mod DefaultLemmas
+pub mod SlotLemmas

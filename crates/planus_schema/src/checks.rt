@@ -15,8 +15,9 @@ ghost use Rattle.planus_schema.specs.WrongServices.{wrong_method, wrong_methods,
 use crate::fault::{Problem, Stop, or_return, wrong};
 use crate::heads::Heads;
 use crate::kind::table_at;
+use crate::names::take_name;
 use crate::words::cut_words;
-use planus_layout::{is_among, take_name};
+use planus_layout::is_among;
 use planus_syntax::{Attribute, Declaration, Field, Item, Method, Path, Record};
 use std::alloc::{AllocError, Global};
 

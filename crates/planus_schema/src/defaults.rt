@@ -34,9 +34,10 @@ use crate::enums::{number_of, same_number, value_of as settled};
 use crate::fault::{Problem, Stop, wrong};
 use crate::heads::Heads;
 use crate::kind::item_of_head;
+use crate::scalar_names::scalar_named;
 use crate::words::cut_words;
 use planus_layout::{
-    Base, FieldType, Number, Scalar, Value, integer, is_hexadecimal, scalar_named, without_sign,
+    Base, FieldType, Number, Scalar, Value, integer, is_hexadecimal, without_sign,
 };
 use planus_syntax::{Enumeration, Item, Literal, Path, Variant};
 use std::alloc::{AllocError, Global};

@@ -18,9 +18,9 @@ ghost use Rattle.planus_layout.specs.Distinct.{AreDistinct};
 
 use crate::attributes::has;
 use crate::fault::{Problem, Stop, or_return, wrong};
-use planus_layout::{
-    Enum, EnumValue, Number, Scalar, copied, following, integer, scalar_named, take_name,
-};
+use crate::names::{copied, take_name};
+use crate::scalar_names::scalar_named;
+use planus_layout::{Enum, EnumValue, Number, Scalar, following, integer};
 use planus_syntax::{Enumeration, Path, Variant};
 use std::alloc::Global;
 

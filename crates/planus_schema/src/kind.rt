@@ -11,7 +11,8 @@ ghost use Rattle.planus_schema.specs.Names.{base_named, type_named, item_at, bas
 use crate::fault::{Problem, Stop, wrong};
 use crate::heads::Heads;
 use crate::lookup::found;
-use planus_layout::{Base, FieldType, scalar_named};
+use crate::scalar_names::scalar_named;
+use planus_layout::{Base, FieldType};
 use planus_syntax::{Item, Kind, Path};
 use std::alloc::Global;
 

@@ -12,6 +12,8 @@ mod heads;
 mod kind;
 mod lookup;
 mod meaning;
+mod names;
+mod scalar_names;
 mod slots;
 mod statements;
 mod structs;

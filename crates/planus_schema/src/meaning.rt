@@ -22,11 +22,12 @@ use crate::enums::enum_of;
 use crate::fault::{Fault, Problem, Refusal, Stop, note, or_return, wrong};
 use crate::head::{Head, heads};
 use crate::heads::Heads;
+use crate::names::copied;
 use crate::statements::statements;
 use crate::structs::struct_of;
 use crate::tables::table_of;
 use crate::unions::union_of;
-use planus_layout::{Body, Declared, Enum, Scalar, Schema, Struct, Table, Union, copied, is_first};
+use planus_layout::{Body, Declared, Enum, Scalar, Schema, Struct, Table, Union, is_first};
 use planus_syntax::{Declaration, Item};
 use std::alloc::{AllocError, Global};
 

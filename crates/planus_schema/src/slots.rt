@@ -3,7 +3,7 @@
 ghost use Rattle.std.specs.Prelude.{◌≡◌, ◌+◌, ◌≤◌, true, false, map, IfOk, IfSome, Some};
 ghost use Rattle.planus_syntax.specs.Values.{field_of};
 ghost use Rattle.planus_layout.specs.Slots.{slots_taken as slots_taken_lem, AreSlots};
-ghost use Rattle.planus_layout.specs.Slots.{width as width_lem};
+ghost use Rattle.planus_layout.specs.Slots.{are_whole as are_whole_lem, width as width_lem};
 ghost use Rattle.planus_schema.specs.Tables.{id_of as id_of_lem, has_ids as has_ids_lem, id_said};
 ghost use Rattle.planus_schema.specs.Wrong.{Tells};
 ghost use Rattle.planus_schema.specs.WrongTables.{wrong_slot, wrong_slots};
@@ -12,9 +12,9 @@ ghost use Rattle.planus_schema.specs.WrongTables.{field_slot as field_slot_lem};
 use crate::attributes::{has, setting};
 use crate::fault::{Problem, Stop, wrong};
 use crate::structs::setting_number;
-use planus_layout::{FieldType, TableField, are_whole, slot_of, slots_taken};
+use planus_layout::{FieldType, TableField, slot_of, slots_taken};
 use planus_syntax::Field;
-use std::alloc::Global;
+use std::alloc::{AllocError, Global};
 
 pub(crate) fn has_ids(fields: &[Field]) -> bool
     ensures { result ≡ has_ids_lem (map field_of fields.now) }
@@ -60,6 +60,20 @@ pub(crate) fn field_slot(
         None if !has(&field.attributes, b"id") => Err(wrong(Problem::IdMissing, field.left)),
         None => Err(wrong(Problem::WrongId, field.left)),
     }
+}
+
+/// Returns whether these are all the numbers from 0 on, each once.
+fn are_whole(alloc: Global, slots: &[usize]) -> Result<bool, AllocError>
+    ensures { IfOk result (λ b. b ≡ are_whole_lem slots.now) }
+{
+    let mut taken = vec![in alloc; false; slots.len()]?;
+    'slots: for slot in slots {
+        if *slot >= taken.len() || taken[*slot] {
+            return Ok(false);
+        }
+        taken[*slot] = true;
+    }
+    Ok(true)
 }
 
 pub(crate) fn check_slots(alloc: Global, fields: &[TableField], left: usize) -> Result<(), Stop>

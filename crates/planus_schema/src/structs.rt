@@ -26,9 +26,10 @@ use crate::attributes::{has, setting};
 use crate::fault::{Problem, Stop, or_return, wrong};
 use crate::heads::Heads;
 use crate::kind::type_of;
+use crate::names::{copied, take_name};
 use planus_layout::{
-    Base, Declared, Layout, Measure, Struct, StructField, copied, greater, integer, is_alignment,
-    measure_of, next_multiple, take_name,
+    Base, Declared, Layout, Measure, Struct, StructField, greater, integer, is_alignment,
+    measure_of, next_multiple,
 };
 use planus_syntax::{Attribute, Field, Literal, Path, Record};
 use std::alloc::Global;

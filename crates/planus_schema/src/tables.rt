@@ -31,10 +31,9 @@ use crate::fault::{Problem, Stop, or_return, wrong};
 use crate::heads::Heads;
 use crate::kind::{head_base, type_of};
 use crate::lookup::found;
+use crate::names::{copied, take_name};
 use crate::slots::{check_slots, field_slot, has_ids};
-use planus_layout::{
-    Base, FieldType, Scalar, Table, TableField, copied, is_union, take_name, width,
-};
+use planus_layout::{Base, FieldType, Scalar, Table, TableField, is_union, width};
 use planus_syntax::{Attribute, Field, Literal, Path, Record};
 use std::alloc::{AllocError, Global};
 

@@ -17,7 +17,8 @@ use crate::fault::{Problem, Stop, or_return, wrong};
 use crate::head::put_path;
 use crate::heads::Heads;
 use crate::kind::table_at;
-use planus_layout::{Union, UnionMember, copied, integer, take_name};
+use crate::names::{copied, take_name};
+use planus_layout::{Union, UnionMember, integer};
 use planus_syntax::{Member, Path, UnionBody};
 use std::alloc::{AllocError, Global};
 

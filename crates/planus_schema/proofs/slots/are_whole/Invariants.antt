@@ -2,7 +2,7 @@ use Rattle.std.proofs.Common.{◌≡◌, ◌<◌, ℕ, true, false, take, length
 use Rattle.std.specs.Prelude.{nat_eq, nat_lt}
 use Rattle.std.specs.List.{list_any, list_all}
 use Rattle.planus_layout.specs.Slots.{are_apart}
-use Rattle.planus_layout.proofs.slots.are_whole.Given as goal
+use Rattle.planus_schema.proofs.slots.are_whole.Given as goal
 
 abbrev pub invariant-slots : goal.invariant-slots
 invariant-slots l = record {

@@ -1,6 +1,6 @@
 use Rattle.std.proofs.Common.{◌∙◌, arith}
 use Rattle.planus_layout.proofs.NameLemmas.{copied_more}
-use Rattle.planus_layout.proofs.names.copied.Goals as goal
+use Rattle.planus_schema.proofs.names.copied.Goals as goal
 
 pub words-preserved : goal.words-preserved
 words-preserved c =

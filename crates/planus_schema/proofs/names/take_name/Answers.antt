@@ -2,7 +2,7 @@ use Rattle.std.proofs.Common.{◌≡◌, sym, ap, ◌∙◌, false, true}
 use Rattle.std.specs.Prelude.{not}
 use Rattle.planus_layout.specs.Distinct.{items_of, is_in}
 use Rattle.planus_layout.proofs.NameLemmas.{name_added, in_items}
-use Rattle.planus_layout.proofs.names.take_name.Goals as goal
+use Rattle.planus_schema.proofs.names.take_name.Goals as goal
 
 pub returns-clause-taken : goal.returns-clause-taken
 returns-clause-taken c =

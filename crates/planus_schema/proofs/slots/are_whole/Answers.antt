@@ -3,9 +3,9 @@ use Rattle.std.specs.Prelude.{nat_eq}
 use Rattle.std.specs.List.{list_any}
 use Rattle.std.proofs.lemmas.List.{length-set}
 use Rattle.std.proofs.lemmas.Grind.{common_steps}
-use Rattle.planus_layout.proofs.SlotLemmas.{twice, beyond, more_apart, marked_next, more_below}
-use Rattle.planus_layout.proofs.slots.are_whole.Goals as goal
-use Rattle.planus_layout.proofs.slots.are_whole.Goals.{then-slot-len-via-then-slot-len, then-slot-len-via-else-slot-len+then-index}
+use Rattle.planus_schema.proofs.SlotLemmas.{twice, beyond, more_apart, marked_next, more_below}
+use Rattle.planus_schema.proofs.slots.are_whole.Goals as goal
+use Rattle.planus_schema.proofs.slots.are_whole.Goals.{then-slot-len-via-then-slot-len, then-slot-len-via-else-slot-len+then-index}
 
 pub returns-then-slot-len : goal.returns-then-slot-len
 returns-then-slot-len c = elim c.then-slot-len.branch [

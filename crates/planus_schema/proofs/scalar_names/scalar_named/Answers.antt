@@ -1,7 +1,7 @@
 use Rattle.std.proofs.Common.{refl, sym, ap, ◌∙◌}
 use Rattle.std.specs.Str.{bytes_eq}
 use Rattle.planus_layout.specs.Numbers.{scalar_named}
-use Rattle.planus_layout.proofs.scalar.scalar_named.Goals as goal
+use Rattle.planus_schema.proofs.scalar_names.scalar_named.Goals as goal
 
 pub returns-then-eq : goal.returns-then-eq
 unfolding scalar_named
