@@ -5,11 +5,10 @@ ghost use Rattle.planus_dump.specs.inner.Shown.{shown, feed, begin};
 
 use crate::floats::line_texts;
 use crate::line_sink::{LineSink, Stop};
-use crate::readings::place_in;
 use crate::schemas::Schema;
 use crate::validate::is_good_schema;
 use crate::walk::dump_table;
-use planus::SliceWithStartOffset;
+use planus::{Place, SliceWithStartOffset};
 use std::alloc::{AllocError, Global};
 use std::error::Error;
 use std::fmt;
@@ -74,7 +73,7 @@ pub(crate) fn walk_from_root(
     ensures { IfOk result (λ out. shown out
         ≡ feed (begin budget room) (events_of schema.now bytes.now)) }
 {
-    let root = place_in(SliceWithStartOffset::new(bytes, 0), 0);
+    let root = Place::new(SliceWithStartOffset::new(bytes, 0), 0);
     let mut out = LineSink::new(alloc, budget, room);
     dump_table(schema, &mut out, GREATEST_DEPTH, "root", schema.root, root)?;
     Ok(out)

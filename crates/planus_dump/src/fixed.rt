@@ -12,9 +12,7 @@ ghost use Rattle.std.specs.Prelude.{Some, [], ◌∷◌};
 
 use crate::enums::names_of;
 use crate::line_sink::LineSink;
-use crate::readings::{
-    double_at, place_in, read_bits, read_values, single_at, slice_from, value_at,
-};
+use crate::readings::{double_at, read_bits, read_values, single_at, slice_from, value_at};
 use crate::schemas::{EnumSchema, Fixed, Number, Schema, StructSchema};
 use crate::values::Leaf;
 use planus::Place;
@@ -175,7 +173,7 @@ fn dump_struct_shape(
             return Ok(());
         }
         let path = format!(in out.alloc; "{path}.{}", field.name)?;
-        let place = place_in(slice, field.distance);
+        let place = Place::new(slice, field.distance);
         dump_fixed(schema, out, left, path.as_str(), field.fixed, place)?;
     }
     Ok(())
@@ -216,7 +214,7 @@ pub fn dump_values(
             return Ok(());
         }
         let path = format!(in out.alloc; "{path}[{i}]")?;
-        let place = place_in(slice, i * size);
+        let place = Place::new(slice, i * size);
         dump_value(schema, out, path.as_str(), fixed, place)?;
     }
     Ok(())

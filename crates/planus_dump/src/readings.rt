@@ -1,7 +1,6 @@
 //! What is at a place, or in the slots of a table.
 ghost use Rattle.std.specs.Prelude.{◌≡◌, List, ℕ};
 ghost use Rattle.std.specs.Int.{w32, w64};
-ghost use Rattle.planus_read.specs.Slices.{slice_bytes};
 ghost use Rattle.planus_read.specs.Places.{place_bytes, place_offset};
 ghost use Rattle.planus_read.specs.Tables.{table_object};
 ghost use Rattle.planus_dump.specs.Lines.{value_text};
@@ -102,16 +101,6 @@ impl<'buf> TableRead<'buf> for Position<'buf> {
         offset: usize,
     ) -> Result<Position<'buf>, ErrorKind> {
         Ok(Position { slice, offset })
-    }
-}
-
-pub fn place_in<'buf>(slice: SliceWithStartOffset<'buf>, offset: usize) -> Place<'buf>
-    ensures bytes { place_bytes result ≡ slice_bytes slice.entry }
-    ensures offset { place_offset result ≡ offset }
-{
-    match <Place<'buf> as TableRead<'buf>>::from_buffer(slice, offset) {
-        Ok(place) => place,
-        Err(_) => unreachable!(),
     }
 }
 

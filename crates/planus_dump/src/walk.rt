@@ -14,7 +14,7 @@ ghost use Rattle.std.specs.Prelude.{Some, Ok};
 use crate::fixed::{dump_value, dump_values};
 use crate::line_sink::LineSink;
 use crate::readings::{
-    Found, field_place, item_found, leaf_found, place_in, read_table, read_union, read_values,
+    Found, field_place, item_found, leaf_found, read_table, read_union, read_values,
 };
 use crate::schemas::{FieldSchema, Item, Kind, Schema, TableSchema};
 use crate::unions::{Unions, read_unions};
@@ -179,7 +179,7 @@ fn dump_nested(
         (buffer_events (events schema.now left) index path.now content.now
         (table_at content.now 0))) }
 {
-    let root = place_in(SliceWithStartOffset::new(content, 0), 0);
+    let root = Place::new(SliceWithStartOffset::new(content, 0), 0);
     match read_table(root) {
         Ok(_) => dump_table(schema, out, left, path, index, root),
         Err(_) => out.put_value(path, Value::Bytes(content)),
@@ -237,7 +237,7 @@ fn dump_items(
             return Ok(());
         }
         let path = format!(in out.alloc; "{path}[{i}]")?;
-        let found = item_found(place_in(slice, i * stride), item);
+        let found = item_found(Place::new(slice, i * stride), item);
         dump_found(schema, out, left, path.as_str(), found)?;
     }
     Ok(())

@@ -2,6 +2,7 @@
 
 ghost use Rattle.std.specs.Prelude.{◌≡◌};
 ghost use Rattle.planus_read.specs.Clauses.{Answer};
+ghost use Rattle.planus_read.specs.Slices.{slice_bytes, slice_start};
 
 use crate::errors::ErrorKind;
 use crate::slice_helpers::SliceWithStartOffset;
@@ -25,6 +26,16 @@ pub struct TaggedPlace<'buf> {
 
 impl<'buf> Place<'buf> {
     ghost use Rattle.planus_read.specs.Places.{place_bytes, place_start, place_offset};
+
+    /// Returns the place at the offset in bytes.
+    #[inline]
+    pub fn new(buffer: SliceWithStartOffset<'buf>, offset: usize) -> Place<'buf>
+        ensures bytes { place_bytes result ≡ slice_bytes buffer.entry }
+        ensures begin { place_start result ≡ slice_start buffer.entry }
+        ensures offset { place_offset result ≡ offset }
+    {
+        Place { buffer, offset }
+    }
 
     /// Returns the value of type `T` that is encoded here.
     #[inline]

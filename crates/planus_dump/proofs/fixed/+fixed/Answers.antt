@@ -50,8 +50,8 @@ dump_struct_shape-loop-field-preserved t c =
     let field = c.field-item.result in
     let fed : shown c.dump_fixed.new.out ≡ feed (shown c.loop-field.out) (fixed_events c.args.schema.now T field.fixed S field.distance (field_path c.args.path.now (string_bytes field.name)))
     = c.in_ok-dump_fixed.ensures
-    ∙ ap (λ xs. feed (shown c.loop-field.out) (fixed_events c.args.schema.now T field.fixed xs (place_offset c.place_in-place.result) c.as_str-in-loop-field.result.now)) c.place_in-place.ensures.bytes
-    ∙ ap (λ n. feed (shown c.loop-field.out) (fixed_events c.args.schema.now T field.fixed S n c.as_str-in-loop-field.result.now)) c.place_in-place.ensures.offset
+    ∙ ap (λ xs. feed (shown c.loop-field.out) (fixed_events c.args.schema.now T field.fixed xs (place_offset c.new-place.result) c.as_str-in-loop-field.result.now)) c.new-place.ensures.bytes
+    ∙ ap (λ n. feed (shown c.loop-field.out) (fixed_events c.args.schema.now T field.fixed S n c.as_str-in-loop-field.result.now)) c.new-place.ensures.offset
     ∙ ap (λ xs. feed (shown c.loop-field.out) (fixed_events c.args.schema.now T field.fixed S field.distance xs)) (c.as_str-in-loop-field.ensures.value ∙ c.in_ok-path.ensures.ok) in
     struct_field_fed c.args.schema.now T S c.args.path.now c.deref-field-items.result.now c.loop-field.field-index field (shown c.loop-field.out) (shown c.dump_fixed.new.out) _
     (omega arith) c.field-item.is fed c.loop-field.invariant

@@ -22,6 +22,6 @@ loop-i-preserved c =
     let S = slice_bytes c.in-Ok.values.0 in let schema = c.args.schema.now in let value = c.args.fixed in let i = c.loop-i.i-counter in
     let fed : shown c.dump_value.new.out ≡ feed (shown c.loop-i.out) (value_events schema value S (i * fixed_size schema value) c.as_str.result.now)
     = c.in_ok-dump_value.ensures
-    ∙ ap (λ xs. feed (shown c.loop-i.out) (value_events schema value xs (place_offset c.place_in-place.result) c.as_str.result.now)) c.place_in-place.ensures.bytes
-    ∙ ap (λ n. feed (shown c.loop-i.out) (value_events schema value S n c.as_str.result.now)) (c.place_in-place.ensures.offset ∙ ap (λ n. i * n) c.fixed_size-size.ensures) in
+    ∙ ap (λ xs. feed (shown c.loop-i.out) (value_events schema value xs (place_offset c.new-place.result) c.as_str.result.now)) c.new-place.ensures.bytes
+    ∙ ap (λ n. feed (shown c.loop-i.out) (value_events schema value S n c.as_str.result.now)) (c.new-place.ensures.offset ∙ ap (λ n. i * n) c.fixed_size-size.ensures) in
     value_fed schema value S c.args.path.now c.as_str.result.now c.in-Ok.values.1 i (shown c.loop-i.out) (shown c.dump_value.new.out) _ (omega arith) (c.as_str.ensures.value ∙ c.in_ok-path.ensures.ok) fed c.loop-i.invariant

@@ -75,8 +75,8 @@ dump_items-loop-i-preserved t c =
     let E = events c.args.schema.now c.args.left in let item = c.args.item in
     let S = slice_bytes c.in-Ok.values.0 in let i = c.loop-i.i-counter in let found = c.item_found-found.result in
     let is : IsFound item S (i * stride_of item) found
-    = subst (λ n. IsFound item S n found) (c.place_in.ensures.offset ∙ ap (λ n. i * n) c.stride_of-stride.ensures)
-    (subst (λ xs. IsFound item xs (place_offset c.place_in.result) found) c.place_in.ensures.bytes c.item_found-found.ensures) in
+    = subst (λ n. IsFound item S n found) (c.new.ensures.offset ∙ ap (λ n. i * n) c.stride_of-stride.ensures)
+    (subst (λ xs. IsFound item xs (place_offset c.new.result) found) c.new.ensures.bytes c.item_found-found.ensures) in
     found_fed E item S c.args.path.now c.as_str.result.now c.in-Ok.values.1 i found
     (shown c.loop-i.out) (shown c.dump_found.new.out) _ (omega arith) is (c.as_str.ensures.value ∙ c.in_ok-path.ensures.ok) c.in_ok-dump_found.ensures c.loop-i.invariant
 
