@@ -196,8 +196,7 @@ impl Builder {
             (F.encoding filler.now))) self.old result self.new }
     {
         let plan = self.backing.plan_room(size, alignment_mask)?;
-        self.backing
-            .put_planned_over(&plan, size, &Zeroed(filler));
+        self.backing.put_planned_over(&plan, size, &Zeroed(filler));
         Ok(())
     }
 
