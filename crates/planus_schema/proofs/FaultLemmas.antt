@@ -1,8 +1,11 @@
 -- Faults that are added.
 use Rattle.std.proofs.Common.{Bool, true, false, subst, ◌≡◌, ℕ, zero, suc, ◌<◌, ◌≤◌, List, [], ◌∷◌, ◌++◌, length, map, take, refl, sym, ap, ◌∙◌, append_assoc, arith, length-append}
-use Rattle.std.proofs.lemmas.List.{take-append-le}
-use Rattle.std.proofs.lemmas.Grind.{common_steps}
+use Rattle.std.proofs.lemmas.List.{take-append-le, take_all, append-nil}
 use Rattle.planus_schema.specs.declared.fault.Fault.{Fault}
+use Rattle.planus_schema.specs.declared.fault.Refusal.{Refusal}
+use Rattle.planus_schema.specs.declared.fault.Refusal.TheVariants as refusal
+use Rattle.planus_schema.specs.inner.Read.{IsToldOf}
+use Rattle.planus_schema.specs.Schemas.{IsRefusal}
 use Rattle.std.specs.Prelude.{Result, Ok, Err, OnOk, Option, Some, None, not, nat_eq}
 use Rattle.std.proofs.lemmas.Bool.Decides.{nat_tests}
 use Rattle.planus_layout.specs.declared.measure.Measure.{Measure}
@@ -11,7 +14,7 @@ use Rattle.planus_schema.specs.declared.fault.Stop.{Stop}
 use Rattle.planus_schema.specs.declared.fault.Stop.TheVariants as stop
 use Rattle.planus_schema.specs.Names.{is_set, head_of, heads_of}
 use Rattle.planus_schema.specs.Wrong.{Broken, when, first, Stops}
-use Rattle.planus_schema.specs.Faults.{first_twenty, Adds, fault_in, broken_in, is_index, measure_or_byte, placed_of, placed_from, name_faults, body_faults, file_faults, faults_found}
+use Rattle.planus_schema.specs.Faults.{IsExact, AreInOrder, first_twenty, Adds, fault_in, broken_in, is_index, measure_or_byte, placed_of, placed_from, name_faults, body_faults, file_faults, faults_found}
 use Rattle.std.specs.Global.{Vec}
 use Rattle.planus_syntax.specs.Values.{schema_of}
 use Rattle.planus_syntax.specs.declared.value.Declaration.{Declaration}
@@ -23,22 +26,16 @@ capped zero a b = refl
 capped (suc n) [] b = refl
 capped (suc n) (x ∷ a) b = ap (λ xs. x ∷ xs) (capped n a b)
 
-few : (n : ℕ) (xs : List Fault) → length xs ≤ n → take n xs ≡ xs
-few n xs h = grind (arith, common_steps, h)
-
 cut : (n : ℕ) (xs ys : List Fault) → length xs ≡ n → take n (xs ++ ys) ≡ xs
-cut n xs ys h = take-append-le n xs ys (omega (arith, h)) ∙ few n xs (omega (arith, h))
+cut n xs ys h = take-append-le n xs ys (omega (arith, h)) ∙ take_all n xs (omega (arith, h))
 
 pub adds_none : (xs : List Fault) → length xs ≤ 20 → xs ≡ first_twenty (xs ++ [])
 unfolding first_twenty
-adds_none xs h = sym (few 20 xs h) ∙ ap (take 20) (sym (append-nil' xs))
-  where
-    append-nil' : (ys : List Fault) → ys ++ [] ≡ ys
-    append-nil' ys = grind (arith, common_steps)
+adds_none xs h = sym (take_all 20 xs h) ∙ ap (take 20) (sym (append-nil xs))
 
 pub adds_one : (xs : List Fault) (f : Fault) → length xs < 20 → xs ++ f ∷ [] ≡ first_twenty (xs ++ f ∷ [])
 unfolding first_twenty
-adds_one xs f h = sym (few 20 (xs ++ f ∷ []) (omega (arith, h, length-append xs (f ∷ []))))
+adds_one xs f h = sym (take_all 20 (xs ++ f ∷ []) (omega (arith, h, length-append xs (f ∷ []))))
 
 pub adds_full : (xs : List Fault) (f : Fault) → length xs ≤ 20 → 20 ≤ length xs → xs ≡ first_twenty (xs ++ f ∷ [])
 unfolding first_twenty
@@ -116,6 +113,18 @@ sound_told o m b h = rw h refl
 pub ok_anyway : {T E : Type 0} (r : Result T E) (P : Type 0) → P → OnOk r P
 ok_anyway (Ok x) P p = p
 ok_anyway (Err e) P p = tt
+
+pub no_faults : {P : Type 0} (xs : List Fault) → 0 < length xs → xs ≡ [] → P
+no_faults [] h e = absurd (omega (arith, h))
+no_faults (x ∷ xs) h e = absurd cc
+
+pub exactly_told : (files : List (Vec Declaration)) (found : List Fault) (r : Refusal) → found ≡ faults_found files → IsToldOf found r → IsExact files r
+exactly_told files found refusal.OutOfMemory e h = tt
+exactly_told files found (refusal.Faults v) e h = subst (λ fs. AreInOrder fs v.items) e h.0
+
+pub refusal_told : (found : List Fault) (r : Refusal) → IsToldOf found r → IsRefusal r
+refusal_told found refusal.OutOfMemory h = tt
+refusal_told found (refusal.Faults v) h = h.1
 
 pub all_found : (files : List (Vec Declaration)) (hs : List Head) (start x y z : List Fault) → start ≡ [] → map head_of hs ≡ heads_of (map (λ f. schema_of f.items) files) → map placed_of hs ≡ placed_from 0 files → Adds (name_faults (map head_of hs) 0 (map placed_of hs)) start x → Adds (body_faults (map head_of hs) [] (map placed_of hs)) x y → Adds (file_faults (map head_of hs) (known_attributes files) 0 files) y z → z ≡ faults_found files
 all_found files hs start x y z s h p a b c =

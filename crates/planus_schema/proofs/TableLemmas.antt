@@ -1,6 +1,6 @@
 -- One more field of a table.
-use Rattle.std.proofs.Common.{Bool, false, ◌≡◌, ℕ, ◌+◌, true, List, [], ◌∷◌, ◌++◌, refl, sym, ap, subst, ◌∙◌, append_assoc, map}
-use Rattle.std.specs.Prelude.{Option, Some, None, not, ◌&&◌, ◌||◌, nat_le, codes}
+use Rattle.std.proofs.Common.{Bool, false, ◌≡◌, ℕ, ◌+◌, ◌≤◌, true, arith, List, [], ◌∷◌, ◌++◌, refl, sym, ap, subst, ◌∙◌, append_assoc, map}
+use Rattle.std.specs.Prelude.{if◌then◌else◌, Option, Some, None, not, ◌&&◌, ◌||◌, nat_le, codes}
 use Rattle.std.specs.List.{list_all}
 use Rattle.planus_syntax.specs.Values.{Name, field_of, kind_of, attribute_of}
 use Rattle.planus_syntax.specs.declared.value.Attribute.{Attribute}
@@ -150,3 +150,10 @@ two_named t w old mid names typed new u g f h e =
       added = b.added ∙ ap (λ ns. ns ++ w ∷ []) a.added ∙ append_assoc old ((w ++ codes "_type") ∷ []) (w ∷ []) ∙ ap (λ ns. old ++ ns) (union_names t w u);
       distinct = λ d. b.distinct (a.distinct d);
     }
+
+one_or_two : (b : Bool) → (if b then 2 else 1) ≤ 2
+one_or_two true = omega arith
+one_or_two false = omega arith
+
+pub width_small : (t : FieldType) → width t ≤ 2
+width_small t = one_or_two (is_union t)

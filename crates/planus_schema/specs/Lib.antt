@@ -11,6 +11,7 @@ pub mod Tables
 pub mod WrongStructs
 pub mod WrongTables
 pub mod Schemas
+pub mod inner
 pub mod Sound
 pub mod WrongServices
 pub mod Faults

@@ -12,7 +12,7 @@ use Rattle.planus_layout.specs.declared.schema.Base.TheVariants as base
 use Rattle.planus_layout.specs.declared.schema.FieldType.{FieldType}
 use Rattle.planus_layout.specs.declared.schema.Table.{Table}
 use Rattle.planus_layout.specs.declared.schema.TableField.{TableField}
-use Rattle.planus_schema.specs.Names.{HeadV, type_named, setting, has, found, base_found}
+use Rattle.planus_schema.specs.Names.{HeadV, type_named, setting, has, found, base_found, is_set}
 use Rattle.planus_layout.specs.Slots.{is_union, slots_taken, AreSlots, Follow}
 use Rattle.planus_layout.specs.Distinct.{AreDistinct, Each2}
 use Rattle.planus_schema.specs.Structs.{literal_number, number_in}
@@ -69,11 +69,7 @@ is_bytes t = t.vector && is_ubyte t.base
 -- which fields may be `required`, a `key` and a nested buffer
 abbrev pub is_lawful : TableField → Bool
 is_lawful f = not (f.required && is_number f.kind) && (not f.key || may_be_key f.kind)
-    && (is_none f.nested || is_bytes f.kind)
-  where
-    is_none : Option ℕ → Bool
-    is_none None = true
-    is_none (Some i) = false
+    && (not (is_set f.nested) || is_bytes f.kind)
 
 pub record IsTable (t : Table) : Type 0 where
   pub slots : AreSlots (slots_taken t.fields.items)

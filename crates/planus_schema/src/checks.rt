@@ -1,24 +1,23 @@
 //! Checks of attributes and services.
 
-ghost use Rattle.std.specs.Prelude.{◌≡◌, ◌++◌, ◌∷◌, [], map, IfOk, OnOk};
+ghost use Rattle.planus_schema.specs.inner.Scopes.{scope_heads, scope_space};
+ghost use Rattle.std.specs.Prelude.{◌≡◌, ◌++◌, ◌∷◌, [], IfOk, OnOk};
 ghost use Rattle.planus_syntax.specs.Values.{names_of};
-ghost use Rattle.planus_layout.specs.Distinct.{is_in};
-ghost use Rattle.planus_schema.specs.Names.{head_of, space_of};
 ghost use Rattle.planus_schema.specs.Wrong.{Tells};
 ghost use Rattle.planus_schema.specs.WrongServices.{built_in as built_in_lem};
-ghost use Rattle.planus_schema.specs.WrongServices.{customs_at, customs_in};
+ghost use Rattle.planus_schema.specs.WrongServices.{customs_in};
 ghost use Rattle.planus_schema.specs.WrongServices.{known_attributes as known_attributes_lem};
 ghost use Rattle.planus_schema.specs.WrongServices.{wrong_attributes};
-ghost use Rattle.planus_schema.specs.WrongServices.{wrong_in_fields, wrong_in_record};
+ghost use Rattle.planus_schema.specs.WrongServices.{wrong_in_fields};
 ghost use Rattle.planus_schema.specs.WrongServices.{wrong_method, wrong_methods, wrong_item};
 
 use crate::fault::{Problem, Stop, or_return, wrong};
-use crate::heads::Heads;
 use crate::kind::table_at;
 use crate::names::take_name;
+use crate::scope::Scope;
 use crate::words::cut_words;
 use planus_layout::is_among;
-use planus_syntax::{Attribute, Declaration, Field, Item, Method, Path, Record};
+use planus_syntax::{Attribute, Declaration, Field, Item, Method};
 use std::alloc::{AllocError, Global};
 
 /// The attributes of the language, of printed code, of one language, and of services.
@@ -34,21 +33,6 @@ fn built_in(alloc: Global) -> Result<Vec<Vec<u8>>, AllocError>
     cut_words(alloc, BUILT_IN)
 }
 
-fn add_custom(
-    alloc: Global,
-    known: &mut Vec<Vec<u8>>,
-    declaration: &Declaration,
-) -> Result<(), AllocError>
-    ensures { OnOk result (names_of known.new.items
-        ≡ names_of known.old.items ++ customs_at declaration.now.item) }
-{
-    if let Item::Attribute(label) = &declaration.item {
-        let name = or_return!(Vec::from_slice(alloc, &label.name));
-        known.push(name)?;
-    }
-    Ok(())
-}
-
 fn add_customs(
     alloc: Global,
     known: &mut Vec<Vec<u8>>,
@@ -58,7 +42,10 @@ fn add_customs(
         ≡ names_of known.old.items ++ customs_in declarations.now) }
 {
     'declarations: for declaration in declarations {
-        or_return!(add_custom(alloc, known, declaration));
+        if let Item::Attribute(label) = &declaration.item {
+            let name = or_return!(Vec::from_slice(alloc, &label.name));
+            known.push(name)?;
+        }
     }
     Ok(())
 }
@@ -76,19 +63,12 @@ pub(crate) fn known_attributes(
     Ok(known)
 }
 
-#[tactic(auto, using(planus_layout::proofs::NameLemmas::in_items))]
-fn is_known(known: &[Vec<u8>], name: &[u8]) -> bool
-    ensures { result ≡ is_in (names_of known.now) name.now }
-{
-    is_among(known, name)
-}
-
 fn check_attributes(known: &[Vec<u8>], attributes: &[Attribute]) -> Result<(), Stop>
     ensures { Tells (wrong_attributes (names_of known.now) attributes.now) result }
 {
     'attributes: for attribute in attributes {
         let label = &attribute.label;
-        if !is_known(known, &label.name) {
+        if !is_among(known, &label.name) {
             return Err(wrong(Problem::UnknownAttribute, label.left));
         }
     }
@@ -104,68 +84,53 @@ fn check_fields(known: &[Vec<u8>], fields: &[Field]) -> Result<(), Stop>
     Ok(())
 }
 
-fn check_record(known: &[Vec<u8>], body: &Record) -> Result<(), Stop>
-    ensures { Tells (wrong_in_record (names_of known.now) body.now) result }
-{
-    or_return!(check_attributes(known, &body.attributes));
-    check_fields(known, &body.fields)
-}
-
 fn check_method(
-    alloc: Global,
-    heads: &Heads,
-    space: Option<&Path>,
+    scope: &Scope,
     known: &[Vec<u8>],
     names: &mut Vec<Vec<u8>>,
     method: &Method,
 ) -> Result<(), Stop>
     ensures added { OnOk result (names_of names.new.items
         ≡ names_of names.old.items ++ method.now.name.items ∷ []) }
-    ensures wrong { Tells (wrong_method (map head_of heads.now) (space_of space.entry)
+    ensures wrong { Tells (wrong_method (scope_heads scope.now) (scope_space scope.now)
         (names_of known.now) (names_of names.old.items) method.now) result }
 {
-    let new = or_return!(take_name(alloc, names, &method.name), Stop::OutOfMemory);
+    let new = or_return!(
+        take_name(scope.alloc, names, &method.name),
+        Stop::OutOfMemory
+    );
     if !new {
         return Err(wrong(Problem::MethodNameTaken, method.left));
     }
     let problem = Problem::MethodIsNoTable;
-    or_return!(table_at(alloc, heads, space, &method.request, problem));
-    or_return!(table_at(alloc, heads, space, &method.response, problem));
+    or_return!(table_at(scope, &method.request, problem));
+    or_return!(table_at(scope, &method.response, problem));
     check_attributes(known, &method.attributes)
 }
 
-fn check_methods(
-    alloc: Global,
-    heads: &Heads,
-    space: Option<&Path>,
-    known: &[Vec<u8>],
-    methods: &[Method],
-) -> Result<(), Stop>
-    ensures { Tells (wrong_methods (map head_of heads.now) (space_of space.entry)
+fn check_methods(scope: &Scope, known: &[Vec<u8>], methods: &[Method]) -> Result<(), Stop>
+    ensures { Tells (wrong_methods (scope_heads scope.now) (scope_space scope.now)
         (names_of known.now) [] methods.now) result }
 {
-    let mut names = Vec::new(alloc);
+    let mut names = Vec::new(scope.alloc);
     'methods: for method in methods {
-        or_return!(check_method(alloc, heads, space, known, &mut names, method));
+        or_return!(check_method(scope, known, &mut names, method));
     }
     Ok(())
 }
 
-pub(crate) fn check_item(
-    alloc: Global,
-    heads: &Heads,
-    space: Option<&Path>,
-    known: &[Vec<u8>],
-    item: &Item,
-) -> Result<(), Stop>
-    ensures { Tells (wrong_item (map head_of heads.now) (space_of space.entry)
+pub(crate) fn check_item(scope: &Scope, known: &[Vec<u8>], item: &Item) -> Result<(), Stop>
+    ensures { Tells (wrong_item (scope_heads scope.now) (scope_space scope.now)
         (names_of known.now) item.now) result }
 {
     match item {
-        Item::Table(body) | Item::Struct(body) => check_record(known, body),
+        Item::Table(body) | Item::Struct(body) => {
+            or_return!(check_attributes(known, &body.attributes));
+            check_fields(known, &body.fields)
+        }
         Item::Enum(body) => check_attributes(known, &body.attributes),
         Item::Union(body) => check_attributes(known, &body.attributes),
-        Item::Service(service) => check_methods(alloc, heads, space, known, &service.methods),
+        Item::Service(service) => check_methods(scope, known, &service.methods),
         _ => Ok(()),
     }
 }

@@ -4,18 +4,14 @@ ghost use Rattle.std.specs.Prelude.{◌≡◌, [], true, not, map, IfOk, Some, N
 ghost use Rattle.std.specs.Option.{option_map};
 ghost use Rattle.std.specs.List.{list_any};
 ghost use Rattle.planus_syntax.specs.Values.{path_of, literal_of, variant_of, enumeration_of};
-ghost use Rattle.planus_syntax.specs.Values.{named, numeral};
+ghost use Rattle.planus_syntax.specs.Values.{named};
 ghost use Rattle.planus_schema.specs.Names.{head_of, item_at, is_set};
 ghost use Rattle.planus_schema.specs.Wrong.{Tells, when};
 ghost use Rattle.planus_schema.specs.WrongTables.{wrong_default};
 ghost use Rattle.planus_schema.specs.Defaults.{some_default};
-ghost use Rattle.planus_layout.specs.Numbers.{zero_number};
 ghost use Rattle.planus_schema.specs.Enums.{same_number as same_number_lem, numbers_said};
 ghost use Rattle.planus_schema.specs.Defaults.{value_of, float, integer, is_word as is_word_lem};
-ghost use Rattle.planus_schema.specs.Defaults.{whole_number as whole_number_lem};
-ghost use Rattle.planus_schema.specs.Defaults.{named_bool as named_bool_lem, default_said};
-ghost use Rattle.planus_schema.specs.Defaults.{named_float as named_float_lem};
-ghost use Rattle.planus_schema.specs.Defaults.{float_number as float_number_lem};
+ghost use Rattle.planus_schema.specs.Defaults.{default_said};
 ghost use Rattle.planus_schema.specs.Defaults.{scalar_default as scalar_default_lem};
 ghost use Rattle.planus_schema.specs.Defaults.{value_named as value_named_lem};
 ghost use Rattle.planus_schema.specs.Defaults.{value_name as value_name_lem};
@@ -23,7 +19,6 @@ ghost use Rattle.planus_schema.specs.Defaults.{is_among_values as is_among_value
 ghost use Rattle.planus_schema.specs.Defaults.{enum_named as enum_named_lem};
 ghost use Rattle.planus_schema.specs.Defaults.{enum_default as enum_default_lem};
 ghost use Rattle.planus_schema.specs.Defaults.{enum_at as enum_at_lem};
-ghost use Rattle.planus_schema.specs.Defaults.{base_default as base_default_lem};
 ghost use Rattle.planus_schema.specs.Defaults.{zero_default as zero_default_lem};
 ghost use Rattle.planus_schema.specs.Defaults.{flags_named as flags_named_lem};
 ghost use Rattle.planus_schema.specs.Defaults.{flags_default as flags_default_lem};
@@ -31,7 +26,7 @@ ghost use Rattle.planus_syntax.specs.Values.{names_of};
 
 use crate::attributes::has;
 use crate::enums::{number_of, same_number, value_of as settled};
-use crate::fault::{Problem, Stop, wrong};
+use crate::fault::{Problem, Stop, or_return, wrong};
 use crate::heads::Heads;
 use crate::kind::item_of_head;
 use crate::scalar_names::scalar_named;
@@ -48,55 +43,11 @@ fn is_word(path: &Path, word: &[u8]) -> bool
     path.more.is_empty() && path.first.as_slice() == word
 }
 
-fn whole_number(scalar: Scalar, digits: &[u8]) -> Option<Value>
-    ensures { option_map value_of result ≡ whole_number_lem scalar digits.now }
-{
-    match integer(digits) {
-        Some(number) if scalar.fits(number) => Some(Value::Integer(number)),
-        _ => None,
-    }
-}
-
-fn named_bool(path: &Path) -> Option<Value>
-    ensures { option_map value_of result ≡ named_bool_lem (path_of path.now) }
-{
-    let magnitude = if is_word(path, b"true") {
-        1
-    } else if is_word(path, b"false") {
-        0
-    } else {
-        return None;
-    };
-    Some(Value::Integer(Number {
-        negative: false,
-        magnitude,
-    }))
-}
-
 fn float_of(alloc: Global, word: &[u8]) -> Result<Option<Value>, AllocError>
     ensures { IfOk result (λ o. option_map value_of o ≡ Some (float word.now)) }
 {
-    Ok(Some(Value::Float(Vec::from_slice(alloc, word)?)))
-}
-
-fn float_number(alloc: Global, digits: &[u8]) -> Result<Option<Value>, AllocError>
-    ensures { IfOk result (λ o. option_map value_of o ≡ float_number_lem digits.now) }
-{
-    if is_hexadecimal(without_sign(digits)) {
-        Ok(None)
-    } else {
-        float_of(alloc, digits)
-    }
-}
-
-fn named_float(alloc: Global, path: &Path) -> Result<Option<Value>, AllocError>
-    ensures { IfOk result (λ o. option_map value_of o ≡ named_float_lem (path_of path.now)) }
-{
-    if is_word(path, b"nan") || is_word(path, b"inf") {
-        float_of(alloc, &path.first)
-    } else {
-        Ok(None)
-    }
+    let word = or_return!(Vec::from_slice(alloc, word));
+    Ok(Some(Value::Float(word)))
 }
 
 fn named_scalar(alloc: Global, scalar: Scalar, path: &Path) -> Result<Option<Value>, AllocError>
@@ -106,9 +57,23 @@ fn named_scalar(alloc: Global, scalar: Scalar, path: &Path) -> Result<Option<Val
     if is_word(path, b"null") {
         Ok(Some(Value::Absent))
     } else if scalar.is_float() {
-        named_float(alloc, path)
-    } else if scalar.is_bool() {
-        Ok(named_bool(path))
+        if is_word(path, b"nan") || is_word(path, b"inf") {
+            float_of(alloc, &path.first)
+        } else {
+            Ok(None)
+        }
+    } else if !scalar.is_bool() {
+        Ok(None)
+    } else if is_word(path, b"true") {
+        Ok(Some(Value::Integer(Number {
+            negative: false,
+            magnitude: 1,
+        })))
+    } else if is_word(path, b"false") {
+        Ok(Some(Value::Integer(Number {
+            negative: false,
+            magnitude: 0,
+        })))
     } else {
         Ok(None)
     }
@@ -123,8 +88,17 @@ fn scalar_default(
         ≡ scalar_default_lem scalar (literal_of literal.now)) }
 {
     match literal {
-        Literal::Number(digits) if scalar.is_float() => float_number(alloc, digits),
-        Literal::Number(digits) => Ok(whole_number(scalar, digits)),
+        Literal::Number(digits) if scalar.is_float() => {
+            if is_hexadecimal(without_sign(digits)) {
+                Ok(None)
+            } else {
+                float_of(alloc, digits)
+            }
+        }
+        Literal::Number(digits) => match integer(digits) {
+            Some(number) if scalar.fits(number) => Ok(Some(Value::Integer(number))),
+            _ => Ok(None),
+        },
         Literal::Name(path) => named_scalar(alloc, scalar, path),
         _ => Ok(None),
     }
@@ -182,16 +156,6 @@ fn is_among_values(declared: &Enumeration, number: Number) -> bool
     }
 }
 
-fn enum_number(declared: &Enumeration, digits: &[u8]) -> Option<Value>
-    ensures { option_map value_of result
-        ≡ enum_default_lem (enumeration_of declared.now) (numeral digits.now) }
-{
-    match integer(digits) {
-        Some(number) if is_among_values(declared, number) => Some(Value::Integer(number)),
-        _ => None,
-    }
-}
-
 fn value_name<'a>(declared: &Enumeration, path: &'a Path) -> Option<&'a [u8]>
     ensures { option_map (λ w. w.now) result
         ≡ value_name_lem (enumeration_of declared.now) (path_of path.now) }
@@ -241,7 +205,7 @@ fn flags_default(
     if !has(&declared.attributes, b"bit_flags") {
         return Ok(None);
     }
-    let words = cut_words(alloc, text)?;
+    let words = or_return!(cut_words(alloc, text));
     match flags_named(declared, &words) {
         Some(magnitude) => Ok(Some(Value::Integer(Number {
             negative: false,
@@ -260,7 +224,10 @@ fn enum_default(
         ≡ enum_default_lem (enumeration_of declared.now) (literal_of literal.now)) }
 {
     match literal {
-        Literal::Number(digits) => Ok(enum_number(declared, digits)),
+        Literal::Number(digits) => match integer(digits) {
+            Some(number) if is_among_values(declared, number) => Ok(Some(Value::Integer(number))),
+            _ => Ok(None),
+        },
         Literal::Name(path) if is_word(path, b"null") => Ok(Some(Value::Absent)),
         Literal::Name(path) => Ok(enum_named(declared, path)),
         Literal::Text(text) => flags_default(alloc, declared, text),
@@ -278,26 +245,6 @@ fn enum_at<'b>(heads: &'b Heads, index: usize) -> Option<&'b Enumeration>
     }
 }
 
-fn base_default(
-    alloc: Global,
-    heads: &Heads,
-    base: Base,
-    literal: &Literal,
-) -> Result<Option<Value>, AllocError>
-    ensures { IfOk result (λ o. option_map value_of o
-        ≡ base_default_lem (map head_of heads.now) base (literal_of literal.now)) }
-{
-    match (base, literal) {
-        (Base::Scalar(scalar), _) => scalar_default(alloc, scalar, literal),
-        (Base::Text, Literal::Text(bytes)) => Ok(Some(Value::Text(Vec::from_slice(alloc, bytes)?))),
-        (Base::Enum(index), _) => match enum_at(heads, index) {
-            Some(declared) => enum_default(alloc, declared, literal),
-            None => Ok(None),
-        },
-        _ => Ok(None),
-    }
-}
-
 fn literal_default(
     alloc: Global,
     heads: &Heads,
@@ -307,30 +254,19 @@ fn literal_default(
     ensures { IfOk result (λ o. some_default (option_map value_of o)
         ≡ default_said (map head_of heads.now) kind (Some (literal_of literal.now))) }
 {
-    if kind.vector {
-        match literal {
-            Literal::EmptyVector => Ok(Some(Value::EmptyVector)),
-            _ => Ok(None),
+    match (kind.base, literal) {
+        (_, Literal::EmptyVector) if kind.vector => Ok(Some(Value::EmptyVector)),
+        _ if kind.vector => Ok(None),
+        (Base::Scalar(scalar), _) => scalar_default(alloc, scalar, literal),
+        (Base::Text, Literal::Text(bytes)) => {
+            let text = or_return!(Vec::from_slice(alloc, bytes));
+            Ok(Some(Value::Text(text)))
         }
-    } else {
-        base_default(alloc, heads, kind.base, literal)
-    }
-}
-
-fn enum_zero(heads: &Heads, index: usize) -> bool
-    ensures set { is_set (zero_default_lem (map head_of heads.now) (Base.Enum index)) ≡ result }
-    ensures zero { result ≡ true → zero_default_lem (map head_of heads.now) (Base.Enum index)
-        ≡ Some (Some (integer zero_number)) }
-{
-    match enum_at(heads, index) {
-        Some(declared) => is_among_values(
-            declared,
-            Number {
-                negative: false,
-                magnitude: 0,
-            },
-        ),
-        None => false,
+        (Base::Enum(index), _) => match enum_at(heads, index) {
+            Some(declared) => enum_default(alloc, declared, literal),
+            None => Ok(None),
+        },
+        _ => Ok(None),
     }
 }
 
@@ -345,15 +281,20 @@ fn zero_default(
     ensures wrong { Tells (when (not (is_set (zero_default_lem (map head_of heads.now) base)))
         Problem.UnknownValue left) result }
 {
+    let zero = Number {
+        negative: false,
+        magnitude: 0,
+    };
     match base {
         Base::Scalar(scalar) if scalar.is_float() => {
-            Ok(Some(Value::Float(Vec::from_slice(alloc, b"0")?)))
+            let zero = or_return!(Vec::from_slice(alloc, b"0"), Stop::OutOfMemory);
+            Ok(Some(Value::Float(zero)))
         }
-        Base::Enum(index) if !enum_zero(heads, index) => Err(wrong(Problem::UnknownValue, left)),
-        Base::Scalar(_) | Base::Enum(_) => Ok(Some(Value::Integer(Number {
-            negative: false,
-            magnitude: 0,
-        }))),
+        Base::Scalar(_) => Ok(Some(Value::Integer(zero))),
+        Base::Enum(index) => match enum_at(heads, index) {
+            Some(declared) if is_among_values(declared, zero) => Ok(Some(Value::Integer(zero))),
+            _ => Err(wrong(Problem::UnknownValue, left)),
+        },
         _ => Ok(None),
     }
 }
@@ -370,10 +311,16 @@ pub(crate) fn default_of(
     ensures wrong { Tells (wrong_default (map head_of heads.now) kind left literal.now) result }
 {
     match literal {
-        Some(literal) => match literal_default(alloc, heads, kind, literal)? {
-            Some(value) => Ok(Some(value)),
-            None => Err(wrong(Problem::WrongDefault, left)),
-        },
+        Some(literal) => {
+            let value = or_return!(
+                literal_default(alloc, heads, kind, literal),
+                Stop::OutOfMemory
+            );
+            match value {
+                Some(_) => Ok(value),
+                None => Err(wrong(Problem::WrongDefault, left)),
+            }
+        }
         None if kind.vector => Ok(None),
         None => zero_default(alloc, heads, kind.base, left),
     }

@@ -1,18 +1,16 @@
 //! Enums.
 
 ghost use Rattle.std.specs.Prelude.{◌≡◌, ◌^◌, ◌<◌, true, false, map, IfOk, IfSome, [], Some, None};
-ghost use Rattle.std.specs.List.{list_any, IsDistinct, list_all};
-ghost use Rattle.planus_syntax.specs.Values.{names_of, path_of, variant_of, enumeration_of};
-ghost use Rattle.planus_layout.specs.Numbers.{scalar_named as scalar_named_lem, fits};
-ghost use Rattle.planus_schema.specs.Enums.{number_of as number_of_lem, numbers_from, settled};
+ghost use Rattle.std.specs.List.{list_any};
+ghost use Rattle.planus_syntax.specs.Values.{path_of, variant_of, enumeration_of};
+ghost use Rattle.planus_schema.specs.Enums.{number_of as number_of_lem, settled};
 ghost use Rattle.planus_schema.specs.Enums.{same_number as same_number_lem, number_of_value};
-ghost use Rattle.planus_schema.specs.Enums.{enum_numbers, SaysEnum, IsEnum};
-ghost use Rattle.planus_schema.specs.Enums.{is_integer_type as is_integer_type_lem};
-ghost use Rattle.planus_schema.specs.Enums.{is_spelled, next_number as next_number_lem};
-ghost use Rattle.planus_schema.specs.Enums.{IsValueAdded, AreValues, next_said, number_said};
+ghost use Rattle.planus_schema.specs.Enums.{SaysEnum, IsEnum};
+ghost use Rattle.planus_schema.specs.Enums.{is_spelled};
+ghost use Rattle.planus_schema.specs.Enums.{IsValueAdded, AreValues, number_said};
 ghost use Rattle.planus_schema.specs.Enums.{settled_said, integer_type as integer_type_lem};
 ghost use Rattle.planus_schema.specs.Wrong.{Tells};
-ghost use Rattle.planus_schema.specs.WrongEnums.{wrong_integer, wrong_value, wrong_names};
+ghost use Rattle.planus_schema.specs.WrongEnums.{wrong_value, wrong_names};
 ghost use Rattle.planus_schema.specs.WrongEnums.{wrong_values, wrong_enum};
 ghost use Rattle.planus_layout.specs.Distinct.{AreDistinct};
 
@@ -24,35 +22,15 @@ use planus_layout::{Enum, EnumValue, Number, Scalar, following, integer};
 use planus_syntax::{Enumeration, Path, Variant};
 use std::alloc::Global;
 
-fn is_integer_type(scalar: Scalar) -> bool
-    ensures { result ≡ is_integer_type_lem scalar }
+fn integer_type(path: &Path) -> Option<Scalar>
+    ensures { result ≡ integer_type_lem (path_of path.now) }
 {
-    !scalar.is_float() && !scalar.is_bool()
-}
-
-fn integer_type(path: &Path) -> Result<Scalar, Stop>
-    ensures single { IfOk result (λ _. (path_of path.now).more ≡ []) }
-    ensures named { IfOk result (λ s. scalar_named_lem (path_of path.now).first ≡ Some s) }
-    ensures integer { IfOk result (λ s. is_integer_type_lem s ≡ true) }
-    ensures scalar { IfOk result (λ s. integer_type_lem (path_of path.now) ≡ Some s) }
-    ensures wrong { Tells (wrong_integer path.now) result }
-{
-    match scalar_named(&path.first) {
-        Some(scalar) if path.more.is_empty() && is_integer_type(scalar) => Ok(scalar),
-        _ => Err(wrong(Problem::NoIntegerType, path.left)),
+    if !path.more.is_empty() {
+        return None;
     }
-}
-
-fn next_number(previous: Option<Number>) -> Option<Number>
-    ensures value { IfSome result (λ n. n ≡ next_number_lem previous) }
-    ensures said { result ≡ next_said previous }
-{
-    match previous {
-        Some(number) => following(number),
-        None => Some(Number {
-            negative: false,
-            magnitude: 0,
-        }),
+    match scalar_named(&path.first) {
+        Some(scalar) if !scalar.is_float() && !scalar.is_bool() => Some(scalar),
+        _ => None,
     }
 }
 
@@ -64,15 +42,14 @@ pub(crate) fn number_of(previous: Option<Number>, variant: &Variant) -> Option<N
 {
     match &variant.value {
         Some(digits) => integer(digits),
-        None => next_number(previous),
+        None => match previous {
+            Some(number) => following(number),
+            None => Some(Number {
+                negative: false,
+                magnitude: 0,
+            }),
+        },
     }
-}
-
-fn power_of_two(n: u64) -> u64
-    requires { n < 64 }
-    ensures { result ≡ 2 ^ n }
-{
-    1 << n
 }
 
 pub(crate) fn value_of(flags: bool, number: Number) -> Option<Number>
@@ -84,7 +61,7 @@ pub(crate) fn value_of(flags: bool, number: Number) -> Option<Number>
     } else if !number.negative && number.magnitude < 64 {
         Some(Number {
             negative: false,
-            magnitude: power_of_two(number.magnitude),
+            magnitude: 1 << number.magnitude,
         })
     } else {
         None
@@ -100,7 +77,14 @@ pub(crate) fn same_number(a: Number, b: Number) -> bool
 fn has_number(values: &[EnumValue], number: Number) -> bool
     ensures { result ≡ list_any (λ v. same_number_lem v.number number) values.now }
 {
-    values.iter().any(|value| same_number(value.number, number))
+    let mut rest = values;
+    'values: while let Some((value, after)) = rest.split_first() {
+        if same_number(value.number, number) {
+            return true;
+        }
+        rest = after;
+    }
+    false
 }
 
 #[tactic(auto, using(crate::proofs::EnumLemmas::numbers_any))]
@@ -181,7 +165,10 @@ pub(crate) fn enum_of(alloc: Global, declared: &Enumeration) -> Result<Enum, Sto
     ensures wrong { Tells (wrong_enum declared.now) result }
 {
     let flags = has(&declared.attributes, b"bit_flags");
-    let scalar = or_return!(integer_type(&declared.base));
+    let scalar = match integer_type(&declared.base) {
+        Some(scalar) => scalar,
+        None => return Err(wrong(Problem::NoIntegerType, declared.base.left)),
+    };
     or_return!(check_names(alloc, &declared.variants));
     let values = or_return!(enum_values(alloc, scalar, flags, &declared.variants));
     Ok(Enum {

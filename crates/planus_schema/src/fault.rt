@@ -150,7 +150,6 @@ pub(crate) fn wrong(problem: Problem, left: usize) -> Stop
     Stop::Wrong { problem, left }
 }
 
-#[tactic(auto, using(crate::proofs::FaultLemmas::adds_one, crate::proofs::FaultLemmas::adds_full))]
 pub(crate) fn note(faults: &mut Vec<Fault>, file: usize, stop: Stop) -> Result<(), AllocError>
     requires { length faults.old.items ≤ 20 }
     ensures some { OnOk result (0 < length faults.new.items) }
@@ -162,14 +161,18 @@ pub(crate) fn note(faults: &mut Vec<Fault>, file: usize, stop: Stop) -> Result<(
     match stop {
         Stop::OutOfMemory => Err(AllocError),
         Stop::Wrong { problem, left } => {
-            if faults.len() < 20 {
-                faults.push(Fault {
-                    problem,
-                    file,
-                    left,
-                })?;
+            if faults.len() >= 20 {
+                return Ok(());
             }
-            Ok(())
+            let fault = Fault {
+                problem,
+                file,
+                left,
+            };
+            match faults.push(fault) {
+                Ok(()) => Ok(()),
+                Err(_) => Err(AllocError),
+            }
         }
     }
 }

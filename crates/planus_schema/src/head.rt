@@ -2,8 +2,8 @@
 
 ghost use Rattle.std.specs.Prelude.{◌≡◌, ◌++◌, ◌∷◌, [], map, fold, take, length, IfOk, OnOk, ◌≤◌};
 ghost use Rattle.std.specs.Option.{option_map};
-ghost use Rattle.planus_syntax.specs.Values.{names_of, path_of, item_of, declaration_of, schema_of};
-ghost use Rattle.planus_schema.specs.Names.{with_word, words_of, space_of, path_in, heads_at};
+ghost use Rattle.planus_syntax.specs.Values.{names_of, item_of, declaration_of, schema_of};
+ghost use Rattle.planus_schema.specs.Names.{with_word, space_of, path_in, heads_at};
 ghost use Rattle.planus_schema.specs.Names.{heads_in};
 ghost use Rattle.planus_schema.specs.Faults.{placed_of, placed_at, placed_in, placed_from};
 ghost use Rattle.planus_schema.specs.Names.{own_name as own_name_lem, head_of, heads_of, dotted};
@@ -22,30 +22,22 @@ pub(crate) struct Head<'a> {
     pub(crate) declaration: &'a Declaration,
 }
 
-pub(crate) fn put_word(out: &mut Vec<u8>, word: &[u8]) -> Result<(), AllocError>
+fn put_word(out: &mut Vec<u8>, word: &[u8]) -> Result<(), AllocError>
     ensures { OnOk result (out.new.items ≡ with_word out.old.items word.now) }
 {
     if !out.is_empty() {
-        out.push(b'.')?;
+        or_return!(out.push(b'.'), AllocError);
     }
     out.extend_from_slice(word)
 }
 
-pub(crate) fn put_words(out: &mut Vec<u8>, words: &[Vec<u8>]) -> Result<(), AllocError>
+fn put_words(out: &mut Vec<u8>, words: &[Vec<u8>]) -> Result<(), AllocError>
     ensures { OnOk result (out.new.items ≡ fold with_word out.old.items (names_of words.now)) }
 {
     'words: for word in words {
         or_return!(put_word(out, word));
     }
     Ok(())
-}
-
-pub(crate) fn put_path(out: &mut Vec<u8>, path: &Path) -> Result<(), AllocError>
-    ensures { OnOk result (out.new.items
-        ≡ fold with_word out.old.items (words_of (path_of path.now))) }
-{
-    or_return!(put_word(out, &path.first));
-    put_words(out, &path.more)
 }
 
 pub(crate) fn depth(space: Option<&Path>) -> usize
@@ -57,11 +49,7 @@ pub(crate) fn depth(space: Option<&Path>) -> usize
     }
 }
 
-pub(crate) fn put_space(
-    out: &mut Vec<u8>,
-    space: Option<&Path>,
-    count: usize,
-) -> Result<(), AllocError>
+fn put_space(out: &mut Vec<u8>, space: Option<&Path>, count: usize) -> Result<(), AllocError>
     requires { count ≤ length (space_of space) }
     ensures { OnOk result (out.new.items ≡ fold with_word out.old.items
         (take count (space_of space.entry))) }
@@ -75,6 +63,25 @@ pub(crate) fn put_space(
     }
 }
 
+/// Returns words with dots between them, after the first `count` words of a namespace.
+pub(crate) fn dotted_name(
+    alloc: Global,
+    space: Option<&Path>,
+    count: usize,
+    first: &[u8],
+    more: &[Vec<u8>],
+) -> Result<Vec<u8>, AllocError>
+    requires { count ≤ length (space_of space) }
+    ensures { IfOk result (λ v. v.items
+        ≡ dotted (take count (space_of space.entry) ++ first.now ∷ names_of more.now)) }
+{
+    let mut name = Vec::new(alloc);
+    or_return!(put_space(&mut name, space, count));
+    or_return!(put_word(&mut name, first));
+    or_return!(put_words(&mut name, more));
+    Ok(name)
+}
+
 fn own_name(item: &Item) -> Option<&[u8]>
     ensures { option_map (λ w. w.now) result ≡ own_name_lem (item_of item.now) }
 {
@@ -84,16 +91,6 @@ fn own_name(item: &Item) -> Option<&[u8]>
         Item::Union(body) => Some(&body.name),
         _ => None,
     }
-}
-
-fn full_name(alloc: Global, space: Option<&Path>, word: &[u8]) -> Result<Vec<u8>, AllocError>
-    ensures { IfOk result (λ v. v.items
-        ≡ dotted (space_of space.entry ++ word.now ∷ [])) }
-{
-    let mut name = Vec::new(alloc);
-    or_return!(put_space(&mut name, space, depth(space)));
-    or_return!(put_word(&mut name, word));
-    Ok(name)
 }
 
 fn add_head<'a>(
@@ -108,16 +105,17 @@ fn add_head<'a>(
     ensures placed { OnOk result (map placed_of heads.new.items ≡ map placed_of heads.old.items
         ++ placed_at file (path_in space.entry) declaration.now) }
 {
-    if let Some(word) = own_name(&declaration.item) {
-        let name = or_return!(full_name(alloc, space, word));
-        let head = Head {
-            file,
-            space,
-            name,
-            declaration,
-        };
-        heads.push(head)?;
-    }
+    let Some(word) = own_name(&declaration.item) else {
+        return Ok(());
+    };
+    let name = or_return!(dotted_name(alloc, space, depth(space), word, &[]));
+    let head = Head {
+        file,
+        space,
+        name,
+        declaration,
+    };
+    heads.push(head)?;
     Ok(())
 }
 

@@ -1,6 +1,6 @@
 //! Declarations, and the first of each full name.
 
-ghost use Rattle.std.specs.Prelude.{◌≡◌, map, slice_get, IfOk};
+ghost use Rattle.std.specs.Prelude.{◌≡◌, slice_get, map, IfOk};
 ghost use Rattle.std.specs.Option.{option_map};
 ghost use Rattle.planus_schema.specs.Names.{head_of, index_of as index_of_lem};
 ghost use Rattle.planus_schema.specs.Index.{IsIndex};
@@ -13,12 +13,12 @@ use std::marker::Model;
 /// The declarations of the files, in order. Contracts see the list; a full name is looked up in
 /// logarithmic time.
 #[derive(Drop)]
-pub(crate) struct Heads<'h, 'a> {
-    list: &'h [Head<'a>],
+pub(crate) struct Heads<'h> {
+    list: &'h [Head<'h>],
     first: BTreeMap<&'h [u8], usize>,
 }
 
-impl<'h, 'a> Model for Heads<'h, 'a> {
+impl<'h> Model for Heads<'h> {
     ghost use Rattle.std.specs.Prelude.{List, map};
     ghost use Rattle.planus_schema.specs.declared.head.Head.{Head};
     ghost use Rattle.planus_schema.specs.Names.{head_of};
@@ -31,34 +31,27 @@ impl<'h, 'a> Model for Heads<'h, 'a> {
     ghost invariant = { λ a. IsIndex a.first (map head_of a.list.now) };
 }
 
-fn index_names<'h>(alloc: Global, list: &'h [Head]) -> Result<BTreeMap<&'h [u8], usize>, AllocError>
-    ensures { IfOk result (λ first. IsIndex first (map head_of list.now)) }
-{
-    let mut first = BTreeMap::new(alloc);
-    let mut index = list.len();
-    // Backwards, since an insertion replaces the index of an equal name.
-    'heads: while index > 0 {
-        index -= 1;
-        first.insert(list[index].name.as_slice(), index)?;
-    }
-    Ok(first)
-}
-
-impl<'h, 'a> Heads<'h, 'a> {
-    pub(crate) fn new(alloc: Global, list: &'h [Head<'a>]) -> Result<Self, AllocError>
+impl<'h> Heads<'h> {
+    pub(crate) fn new(alloc: Global, list: &'h [Head<'h>]) -> Result<Self, AllocError>
         ensures { IfOk result (λ heads. heads ≡ list.now) }
     {
-        let first = index_names(alloc, list)?;
+        let mut first = BTreeMap::new(alloc);
+        let mut index = list.len();
+        // Backwards, since an insertion replaces the index of an equal name.
+        'heads: while index > 0 {
+            index -= 1;
+            first.insert(list[index].name.as_slice(), index)?;
+        }
         Ok(Heads { list, first })
     }
 
-    pub(crate) fn as_slice(&self) -> &[Head<'a>]
+    pub(crate) fn as_slice(&self) -> &[Head<'h>]
         ensures { result.now ≡ self.now }
     {
         self.list
     }
 
-    pub(crate) fn get(&self, index: usize) -> Option<&Head<'a>>
+    pub(crate) fn get(&self, index: usize) -> Option<&Head<'h>>
         ensures { option_map (λ h. h.now) result ≡ slice_get self.now index }
     {
         self.list.get(index)

@@ -14,6 +14,7 @@ mod lookup;
 mod meaning;
 mod names;
 mod scalar_names;
+mod scope;
 mod slots;
 mod statements;
 mod structs;

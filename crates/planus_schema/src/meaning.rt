@@ -1,20 +1,19 @@
 //! The meaning of files.
 
 ghost use Rattle.std.specs.Prelude.{◌≡◌, [], ◌∷◌, ◌++◌, ◌≤◌, map, length, Some, IfOk, IfErr, OnOk};
-ghost use Rattle.planus_syntax.specs.Values.{item_of, schema_of};
+ghost use Rattle.planus_syntax.specs.Values.{schema_of};
 ghost use Rattle.planus_schema.specs.Names.{head_of, heads_of, space_of, index_of};
 ghost use Rattle.planus_layout.specs.Distinct.{AreDistinct};
-ghost use Rattle.planus_layout.specs.Layouts.{body_in};
-ghost use Rattle.planus_schema.specs.Schemas.{IsBody, SaysBody, IsDeclared, AreDeclared, Means};
+ghost use Rattle.planus_schema.specs.inner.Read.{IsBodyRead, IsToldOf};
+ghost use Rattle.planus_schema.specs.Schemas.{IsDeclared, AreDeclared, Means};
 ghost use Rattle.planus_schema.specs.Schemas.{IsRefusal, IsAppended};
 ghost use Rattle.planus_schema.specs.Sound.{IsSound};
 ghost use Rattle.planus_layout.specs.Layouts.{measure_of_body};
 ghost use Rattle.planus_schema.specs.Wrong.{Tells};
 ghost use Rattle.planus_schema.specs.WrongStructs.{measures_of};
 ghost use Rattle.planus_schema.specs.Faults.{placed_of, placed_from, Adds, wrong_body};
-ghost use Rattle.planus_schema.specs.Faults.{sound_measure};
 ghost use Rattle.planus_schema.specs.Faults.{byte_measure, measure_placed, body_fault};
-ghost use Rattle.planus_schema.specs.Faults.{body_faults, name_fault, name_faults, AreInOrder};
+ghost use Rattle.planus_schema.specs.Faults.{body_faults, name_fault, name_faults};
 ghost use Rattle.planus_schema.specs.Faults.{faults_found, IsExact, AreWithin};
 ghost use Rattle.planus_schema.specs.Faults.{name_left as name_left_lem};
 
@@ -23,40 +22,35 @@ use crate::fault::{Fault, Problem, Refusal, Stop, note, or_return, wrong};
 use crate::head::{Head, heads};
 use crate::heads::Heads;
 use crate::names::copied;
+use crate::scope::Scope;
 use crate::statements::statements;
 use crate::structs::struct_of;
 use crate::tables::table_of;
 use crate::unions::union_of;
-use planus_layout::{Body, Declared, Enum, Scalar, Schema, Struct, Table, Union, is_first};
+use planus_layout::{Body, Declared, Schema, Struct, Table, is_first};
 use planus_syntax::{Declaration, Item};
 use std::alloc::{AllocError, Global};
 
-fn name_left(declaration: &Declaration) -> usize
-    ensures { result ≡ name_left_lem declaration.now }
-{
-    declaration.left.saturating_sub(1)
-}
-
 fn body_of(alloc: Global, heads: &Heads, declared: &[Declared], head: &Head) -> Result<Body, Stop>
-    ensures says { IfOk result (λ b. SaysBody (map head_of heads.now) (space_of head.now.space)
-        (map body_in declared.now) (item_of head.now.declaration.now.item) b) }
-    ensures sound { IfOk result (λ b. IsBody b) }
-    ensures measure { IfOk result (λ b. measure_of_body (Some b) ≡ sound_measure
-        (map head_of heads.now) (space_of head.now.space) (measures_of declared.now)
-        head.now.declaration.now.item) }
+    ensures read { IfOk result (λ b. IsBodyRead (map head_of heads.now) (space_of head.now.space)
+        declared.now head.now.declaration.now.item b) }
     ensures wrong { Tells (wrong_body (map head_of heads.now) (space_of head.now.space)
         (measures_of declared.now) (name_left_lem head.now.declaration.now)
         head.now.declaration.now.item) result }
 {
-    let left = name_left(head.declaration);
-    let space = head.space;
+    let left = head.declaration.left.saturating_sub(1);
+    let scope = Scope {
+        alloc,
+        heads,
+        space: head.space,
+    };
     match &head.declaration.item {
         Item::Table(record) => {
-            let table = or_return!(table_of(alloc, heads, space, record, left));
+            let table = or_return!(table_of(&scope, record, left));
             Ok(Body::Table(table))
         }
         Item::Struct(record) => {
-            let body = or_return!(struct_of(alloc, heads, declared, space, record, left));
+            let body = or_return!(struct_of(&scope, declared, record, left));
             Ok(Body::Struct(body))
         }
         Item::Enum(body) => {
@@ -64,7 +58,7 @@ fn body_of(alloc: Global, heads: &Heads, declared: &[Declared], head: &Head) -> 
             Ok(Body::Enum(body))
         }
         Item::Union(body) => {
-            let body = or_return!(union_of(alloc, heads, space, body));
+            let body = or_return!(union_of(&scope, &body.members));
             Ok(Body::Union(body))
         }
         _ => Err(wrong(Problem::UnknownType, left)),
@@ -76,18 +70,10 @@ fn stand_in(alloc: Global, item: &Item) -> Body
     ensures { measure_of_body (Some result) ≡ byte_measure item.now }
 {
     match item {
-        Item::Struct(_) => Body::Struct(Struct {
+        Item::Struct(_) | Item::Enum(_) => Body::Struct(Struct {
             fields: Vec::new(alloc),
             size: 1,
             alignment: 1,
-        }),
-        Item::Enum(_) => Body::Enum(Enum {
-            scalar: Scalar::Byte,
-            flags: false,
-            values: Vec::new(alloc),
-        }),
-        Item::Union(_) => Body::Union(Union {
-            members: Vec::new(alloc),
         }),
         _ => Body::Table(Table {
             fields: Vec::new(alloc),
@@ -187,7 +173,7 @@ fn check_name(
         note(
             faults,
             head.file,
-            wrong(Problem::NameTaken, name_left(head.declaration)),
+            wrong(Problem::NameTaken, head.declaration.left.saturating_sub(1)),
         )
     }
 }
@@ -209,12 +195,20 @@ fn check_names(heads: &Heads, faults: &mut Vec<Fault>) -> Result<(), AllocError>
     Ok(())
 }
 
-fn put_in_order(faults: &mut Vec<Fault>) -> Result<(), AllocError>
-    ensures length { OnOk result (length faults.new.items ≡ length faults.old.items) }
-    ensures order { OnOk result (AreInOrder faults.old.items faults.new.items) }
+/// Fails with these faults in order, if there are any.
+fn refuse(mut faults: Vec<Fault>) -> Result<(), Refusal>
+    requires { length faults.items ≤ 20 }
+    ensures none { OnOk result (faults.items ≡ []) }
+    ensures told { IfErr result (λ e. IsToldOf faults.items e) }
 {
-    faults.sort_by_key(|fault| (fault.file, usize::MAX - fault.left))?;
-    Ok(())
+    if faults.is_empty() {
+        return Ok(());
+    }
+    or_return!(
+        faults.sort_by_key(|fault| (fault.file, usize::MAX - fault.left)),
+        Refusal::OutOfMemory
+    );
+    Err(Refusal::Faults(faults))
 }
 
 /// Returns the meaning of files whose declarations are these.
@@ -236,26 +230,11 @@ fn meaning_of(alloc: Global, heads: &Heads, files: &[Vec<Declaration>]) -> Resul
         statements(alloc, heads, files, &mut faults),
         Refusal::OutOfMemory
     );
-    if faults.is_empty() {
-        Ok(Schema {
-            declarations,
-            statements,
-        })
-    } else {
-        or_return!(put_in_order(&mut faults), Refusal::OutOfMemory);
-        Err(Refusal::Faults(faults))
-    }
-}
-
-fn settle(alloc: Global, files: &[Vec<Declaration>]) -> Result<Schema, Refusal>
-    ensures means { IfOk result (λ s. Means (map (λ f. schema_of f.items) files.now) s) }
-    ensures none { OnOk result (faults_found files.now ≡ []) }
-    ensures faults { IfErr result (λ e. IsRefusal e) }
-    ensures exact { IfErr result (λ e. IsExact files.now e) }
-{
-    let list = or_return!(heads(alloc, files), Refusal::OutOfMemory);
-    let heads = or_return!(Heads::new(alloc, &list), Refusal::OutOfMemory);
-    meaning_of(alloc, &heads, files)
+    or_return!(refuse(faults));
+    Ok(Schema {
+        declarations,
+        statements,
+    })
 }
 
 /// Returns the meaning of files. An included file has to be before those that include it, since a
@@ -272,8 +251,7 @@ pub fn resolve(alloc: Global, files: &[Vec<Declaration>]) -> Result<Schema, Refu
     ensures exact { IfErr result (λ e. IsExact files.now e) }
     ensures within { IfErr result (λ e. AreWithin (length files.now) e) }
 {
-    match settle(alloc, files) {
-        Ok(schema) => Ok(schema),
-        Err(refusal) => Err(refusal),
-    }
+    let list = or_return!(heads(alloc, files), Refusal::OutOfMemory);
+    let heads = or_return!(Heads::new(alloc, &list), Refusal::OutOfMemory);
+    meaning_of(alloc, &heads, files)
 }

@@ -10,7 +10,7 @@ ghost use Rattle.planus_schema.specs.WrongTables.{wrong_slot, wrong_slots};
 ghost use Rattle.planus_schema.specs.WrongTables.{field_slot as field_slot_lem};
 
 use crate::attributes::{has, setting};
-use crate::fault::{Problem, Stop, wrong};
+use crate::fault::{Problem, Stop, or_return, wrong};
 use crate::structs::setting_number;
 use planus_layout::{FieldType, TableField, slot_of, slots_taken};
 use planus_syntax::Field;
@@ -80,11 +80,12 @@ pub(crate) fn check_slots(alloc: Global, fields: &[TableField], left: usize) -> 
     ensures sound { IfOk result (λ _. AreSlots (slots_taken_lem fields.now)) }
     ensures wrong { Tells (wrong_slots left (slots_taken_lem fields.now)) result }
 {
-    let slots = slots_taken(alloc, fields)?;
+    let slots = or_return!(slots_taken(alloc, fields), Stop::OutOfMemory);
     if slots.len() > 32765 {
         return Err(wrong(Problem::TooManySlots, left));
     }
-    if !are_whole(alloc, &slots)? {
+    let whole = or_return!(are_whole(alloc, &slots), Stop::OutOfMemory);
+    if !whole {
         return Err(wrong(Problem::IdsWithGap, left));
     }
     Ok(())

@@ -1,14 +1,16 @@
 //! The root, the identifier and the extension.
 
 ghost use Rattle.std.specs.Prelude.{◌≡◌, [], ◌≤◌, map, length, IfOk, OnOk, Some, None};
-ghost use Rattle.planus_syntax.specs.Values.{path_of, item_of, schema_of};
-ghost use Rattle.planus_schema.specs.Names.{head_of, space_of, path_in, base_named};
+ghost use Rattle.planus_syntax.specs.Values.{item_of, schema_of};
+ghost use Rattle.planus_schema.specs.inner.Read.{AreStated};
+ghost use Rattle.planus_schema.specs.inner.Scopes.{scope_heads, scope_space};
+ghost use Rattle.planus_schema.specs.Names.{head_of, path_in};
 ghost use Rattle.planus_schema.specs.Schemas.{said_of, after, after_file, after_files, IsFour};
 ghost use Rattle.planus_schema.specs.Schemas.{no_statements};
 ghost use Rattle.planus_syntax.specs.Values.{names_of};
 ghost use Rattle.planus_schema.specs.Wrong.{Tells};
 ghost use Rattle.planus_schema.specs.WrongServices.{known_attributes as known_attributes_lem};
-ghost use Rattle.planus_schema.specs.Faults.{Adds, fault_in, wrong_said, statement_faults};
+ghost use Rattle.planus_schema.specs.Faults.{Adds, wrong_said, statement_faults};
 ghost use Rattle.planus_schema.specs.Faults.{file_faults};
 
 use crate::checks::{check_item, known_attributes};
@@ -16,76 +18,44 @@ use crate::fault::{Fault, Problem, Stop, note, or_return, wrong};
 use crate::head::space_after;
 use crate::heads::Heads;
 use crate::kind::table_at;
+use crate::scope::Scope;
 use planus_layout::Statements;
-use planus_syntax::{Declaration, Item, Path};
+use planus_syntax::{Declaration, Item};
 use std::alloc::{AllocError, Global};
 
 fn state(
-    alloc: Global,
-    heads: &Heads,
-    space: Option<&Path>,
+    scope: &Scope,
     known: &[Vec<u8>],
     declaration: &Declaration,
     statements: &mut Statements,
 ) -> Result<(), Stop>
-    ensures said { OnOk result (said_of statements.new ≡ after (map head_of heads.now)
-        (path_in space.entry) (said_of statements.old) (item_of declaration.now.item)) }
-    ensures four { OnOk result (IsFour (said_of statements.old).identifier
-        → IsFour (said_of statements.new).identifier) }
-    ensures wrong { Tells (wrong_said (map head_of heads.now) (space_of space.entry)
+    ensures said { OnOk result ((said_of statements.new ≡ after (scope_heads scope.now)
+        (path_in scope.now.space) (said_of statements.old) (item_of declaration.now.item))
+        × (IsFour (said_of statements.old).identifier
+        → IsFour (said_of statements.new).identifier)) }
+    ensures wrong { Tells (wrong_said (scope_heads scope.now) (scope_space scope.now)
         (names_of known.now) declaration.now) result }
 {
-    or_return!(check_item(alloc, heads, space, known, &declaration.item));
+    or_return!(check_item(scope, known, &declaration.item));
     match &declaration.item {
         Item::RootType(path) => {
-            let table = or_return!(table_at(alloc, heads, space, path, Problem::RootIsNoTable));
+            let table = or_return!(table_at(scope, path, Problem::RootIsNoTable));
             statements.root = Some(table);
         }
         Item::FileIdentifier(word) => {
             if word.len() != 4 {
                 return Err(wrong(Problem::WrongIdentifier, declaration.left));
             }
-            let identifier = or_return!(Vec::from_slice(alloc, word), Stop::OutOfMemory);
+            let identifier = or_return!(Vec::from_slice(scope.alloc, word), Stop::OutOfMemory);
             statements.identifier = Some(identifier);
         }
         Item::FileExtension(word) => {
-            let extension = or_return!(Vec::from_slice(alloc, word), Stop::OutOfMemory);
+            let extension = or_return!(Vec::from_slice(scope.alloc, word), Stop::OutOfMemory);
             statements.extension = Some(extension);
         }
         _ => {}
     }
     Ok(())
-}
-
-fn state_or_note(
-    alloc: Global,
-    heads: &Heads,
-    space: Option<&Path>,
-    known: &[Vec<u8>],
-    declaration: &Declaration,
-    file: usize,
-    statements: &mut Statements,
-    faults: &mut Vec<Fault>,
-) -> Result<(), AllocError>
-    requires { length faults.old.items ≤ 20 }
-    ensures said { OnOk result (faults.new.items ≡ [] → said_of statements.new
-        ≡ after (map head_of heads.now) (path_in space.entry) (said_of statements.old)
-        (item_of declaration.now.item)) }
-    ensures four { OnOk result (faults.new.items ≡ [] → IsFour (said_of statements.old).identifier
-        → IsFour (said_of statements.new).identifier) }
-    ensures kept { OnOk result (faults.new.items ≡ [] → faults.old.items ≡ []) }
-    ensures most { OnOk result (length faults.new.items ≤ 20) }
-    ensures adds { OnOk result (Adds (fault_in file (wrong_said (map head_of heads.now)
-        (space_of space.entry) (names_of known.now) declaration.now)) faults.old.items
-        faults.new.items) }
-{
-    match state(alloc, heads, space, known, declaration, statements) {
-        Ok(()) => Ok(()),
-        Err(stop) => {
-            or_return!(note(faults, file, stop));
-            Ok(())
-        }
-    }
 }
 
 fn state_file(
@@ -98,28 +68,22 @@ fn state_file(
     faults: &mut Vec<Fault>,
 ) -> Result<(), AllocError>
     requires { length faults.old.items ≤ 20 }
-    ensures said { OnOk result (faults.new.items ≡ [] → said_of statements.new
-        ≡ after_file (map head_of heads.now) None (said_of statements.old)
-        (schema_of declarations.now)) }
-    ensures four { OnOk result (faults.new.items ≡ [] → IsFour (said_of statements.old).identifier
-        → IsFour (said_of statements.new).identifier) }
-    ensures kept { OnOk result (faults.new.items ≡ [] → faults.old.items ≡ []) }
-    ensures most { OnOk result (length faults.new.items ≤ 20) }
-    ensures adds { OnOk result (Adds (statement_faults (map head_of heads.now)
-        (names_of known.now) file None declarations.now) faults.old.items faults.new.items) }
+    ensures { OnOk result (AreStated (after_file (map head_of heads.now) None
+        (said_of statements.old) (schema_of declarations.now)) (statement_faults
+        (map head_of heads.now) (names_of known.now) file None declarations.now) statements.old
+        statements.new faults.old.items faults.new.items) }
 {
     let mut space = None;
     'declarations: for declaration in declarations {
-        or_return!(state_or_note(
+        let scope = Scope {
             alloc,
             heads,
             space,
-            known,
-            declaration,
-            file,
-            statements,
-            faults,
-        ));
+        };
+        match state(&scope, known, declaration, statements) {
+            Ok(()) => {}
+            Err(stop) => or_return!(note(faults, file, stop)),
+        }
         space = space_after(space, declaration);
     }
     Ok(())
@@ -151,8 +115,8 @@ pub(crate) fn statements(
     ensures adds { OnOk result (Adds (file_faults (map head_of heads.now)
         (known_attributes_lem files.now) 0 files.now) faults.old.items faults.new.items) }
 {
-    let mut statements = nothing_stated();
     let known = or_return!(known_attributes(alloc, files));
+    let mut statements = nothing_stated();
     let mut file = 0;
     'files: for declarations in files {
         statements = nothing_stated();

@@ -1,13 +1,12 @@
 //! The places of a struct's fields.
 
 ghost use Rattle.std.specs.Prelude.{◌≡◌, ◌≤◌, ◌<◌, ◌+◌, true, false, map, IfOk, IfSome, Some};
-ghost use Rattle.std.specs.Prelude.{[], codes, slice_get, max};
-ghost use Rattle.std.specs.Option.{option_map};
-ghost use Rattle.planus_syntax.specs.Values.{kind_of, field_of, record_of, attribute_of};
-ghost use Rattle.planus_schema.specs.Names.{space_of, head_of, type_named, setting as setting_lem};
-ghost use Rattle.planus_layout.specs.Layouts.{measure_in, measure_of_body as measure_of_body_lem};
-ghost use Rattle.planus_layout.specs.Layouts.{IsNext, IsStruct};
-ghost use Rattle.planus_schema.specs.Structs.{SaysStruct, SaysStructField};
+ghost use Rattle.std.specs.Prelude.{[], codes};
+ghost use Rattle.planus_syntax.specs.Values.{field_of, attribute_of};
+ghost use Rattle.planus_schema.specs.inner.Read.{IsMeasureRead, IsStructFieldRead};
+ghost use Rattle.planus_schema.specs.inner.Read.{IsLayoutRead, IsStructRead};
+ghost use Rattle.planus_schema.specs.inner.Scopes.{scope_heads, scope_space};
+ghost use Rattle.planus_schema.specs.Names.{type_named, setting as setting_lem};
 ghost use Rattle.planus_layout.specs.Layouts.{is_alignment as is_alignment_lem};
 ghost use Rattle.planus_schema.specs.Structs.{is_plain};
 ghost use Rattle.planus_schema.specs.Structs.{alignment_said, literal_number, number_in};
@@ -15,35 +14,26 @@ ghost use Rattle.planus_schema.specs.Names.{attribute_named};
 ghost use Rattle.planus_schema.specs.Wrong.{Tells};
 ghost use Rattle.planus_schema.specs.WrongStructs.{wrong_plain, wrong_measure, wrong_struct};
 ghost use Rattle.planus_schema.specs.WrongStructs.{wrong_struct_field, wrong_struct_fields};
-ghost use Rattle.planus_schema.specs.WrongStructs.{measure_among, measures_of, field_measure};
-ghost use Rattle.planus_schema.specs.WrongStructs.{end_of, end_after, greatest_after};
-ghost use Rattle.planus_schema.specs.WrongStructs.{alignment_in, struct_measure, wrong_alignment};
-ghost use Rattle.planus_layout.specs.Layouts.{Laid};
-ghost use Rattle.planus_layout.specs.Layouts.{greatest_alignment, body_in};
-ghost use Rattle.planus_layout.specs.Distinct.{AreDistinct, Each2};
+ghost use Rattle.planus_schema.specs.WrongStructs.{measure_among, measures_of};
+ghost use Rattle.planus_schema.specs.WrongStructs.{wrong_alignment};
 
 use crate::attributes::{has, setting};
 use crate::fault::{Problem, Stop, or_return, wrong};
-use crate::heads::Heads;
 use crate::kind::type_of;
 use crate::names::{copied, take_name};
+use crate::scope::Scope;
 use planus_layout::{
     Base, Declared, Layout, Measure, Struct, StructField, greater, integer, is_alignment,
     measure_of, next_multiple,
 };
-use planus_syntax::{Attribute, Field, Literal, Path, Record};
+use planus_syntax::{Attribute, Field, Literal, Record};
 use std::alloc::Global;
 
-fn base_in_struct(
-    alloc: Global,
-    heads: &Heads,
-    space: Option<&Path>,
-    field: &Field,
-) -> Result<Base, Stop>
-    ensures kind { IfOk result (λ b. type_named (map head_of heads.now) (space_of space.entry)
+fn base_in_struct(scope: &Scope, field: &Field) -> Result<Base, Stop>
+    ensures kind { IfOk result (λ b. type_named (scope_heads scope.now) (scope_space scope.now)
         (field_of field.now).kind ≡ Some (record { vector = false; base = b })) }
     ensures plain { IfOk result (λ _. is_plain (field_of field.now) ≡ true) }
-    ensures wrong { Tells (wrong_plain (map head_of heads.now) (space_of space.entry) field.now)
+    ensures wrong { Tells (wrong_plain (scope_heads scope.now) (scope_space scope.now) field.now)
         result }
 {
     if field.default.is_some() {
@@ -52,7 +42,7 @@ fn base_in_struct(
     if has(&field.attributes, b"required") || has(&field.attributes, b"deprecated") {
         return Err(wrong(Problem::AttributeInStruct, field.left));
     }
-    let kind = or_return!(type_of(alloc, heads, space, &field.kind));
+    let kind = or_return!(type_of(scope, &field.kind));
     if kind.vector {
         return Err(wrong(Problem::NoStructField, field.left));
     }
@@ -61,11 +51,7 @@ fn base_in_struct(
 
 #[tactic(auto, using(crate::proofs::MeasureLemmas::among))]
 fn measure_in_struct(bodies: &[Declared], base: Base, left: usize) -> Result<Measure, Stop>
-    ensures measure { IfOk result (λ m. measure_in (map body_in bodies.now) base ≡ Some m) }
-    ensures among { IfOk result (λ m. measure_among (measures_of bodies.now) base ≡ Some m) }
-    ensures some { IfOk result (λ m. 0 < m.alignment) }
-    ensures small { IfOk result (λ m. m.alignment ≤ 32) }
-    ensures fits { IfOk result (λ m. m.size ≤ 65535) }
+    ensures read { IfOk result (λ m. IsMeasureRead bodies.now base m) }
     ensures wrong { Tells (wrong_measure base left (measure_among (measures_of bodies.now) base))
         result }
 {
@@ -83,33 +69,25 @@ fn measure_in_struct(bodies: &[Declared], base: Base, left: usize) -> Result<Mea
 }
 
 fn struct_field(
-    alloc: Global,
-    heads: &Heads,
+    scope: &Scope,
     bodies: &[Declared],
-    space: Option<&Path>,
     field: &Field,
     at: usize,
 ) -> Result<StructField, Stop>
     requires { at ≤ 65535 }
-    ensures says { IfOk result (λ f. SaysStructField (map head_of heads.now) (space_of space.entry)
-        (map body_in bodies.now) (field_of field.now) f) }
-    ensures placed { IfOk result (λ f. IsNext f.alignment at f.distance) }
-    ensures within { IfOk result (λ f. f.distance + f.size ≤ 65535) }
-    ensures next { IfOk result (λ f. f.distance + f.size ≡ end_of at (field_measure
-        (map head_of heads.now) (space_of space.entry) (measures_of bodies.now) field.now)) }
-    ensures alignment { IfOk result (λ f. f.alignment ≡ alignment_in (field_measure
-        (map head_of heads.now) (space_of space.entry) (measures_of bodies.now) field.now)) }
-    ensures wrong { Tells (wrong_struct_field (map head_of heads.now) (space_of space.entry)
+    ensures read { IfOk result (λ f. IsStructFieldRead (scope_heads scope.now)
+        (scope_space scope.now) bodies.now at field.now f) }
+    ensures wrong { Tells (wrong_struct_field (scope_heads scope.now) (scope_space scope.now)
         (measures_of bodies.now) at field.now) result }
 {
-    let base = or_return!(base_in_struct(alloc, heads, space, field));
+    let base = or_return!(base_in_struct(scope, field));
     let measure = or_return!(measure_in_struct(bodies, base, field.left));
     let distance = next_multiple(at, measure.alignment);
     if distance + measure.size > 65535 {
         return Err(wrong(Problem::StructTooLarge, field.left));
     }
-    let name = or_return!(Vec::from_slice(alloc, &field.name), Stop::OutOfMemory);
-    let docs = or_return!(copied(alloc, &field.docs), Stop::OutOfMemory);
+    let name = or_return!(Vec::from_slice(scope.alloc, &field.name), Stop::OutOfMemory);
+    let docs = or_return!(copied(scope.alloc, &field.docs), Stop::OutOfMemory);
     Ok(StructField {
         name,
         docs,
@@ -120,34 +98,22 @@ fn struct_field(
     })
 }
 
-fn struct_fields(
-    alloc: Global,
-    heads: &Heads,
-    bodies: &[Declared],
-    space: Option<&Path>,
-    declared: &[Field],
-) -> Result<Layout, Stop>
-    ensures says { IfOk result (λ l. Each2 (SaysStructField (map head_of heads.now)
-        (space_of space.entry) (map body_in bodies.now)) (map field_of declared.now)
-        l.fields.items) }
-    ensures laid { IfOk result (λ l. Laid 0 l.fields.items l.end) }
-    ensures within { IfOk result (λ l. l.end ≤ 65535) }
-    ensures greatest { IfOk result (λ l. l.alignment ≡ greatest_alignment l.fields.items) }
-    ensures names { IfOk result (λ l. AreDistinct (map (λ f. f.name.items) l.fields.items)) }
-    ensures end { IfOk result (λ l. l.end ≡ end_after (map head_of heads.now)
-        (space_of space.entry) (measures_of bodies.now) 0 declared.now) }
-    ensures alignment { IfOk result (λ l. l.alignment ≡ greatest_after (map head_of heads.now)
-        (space_of space.entry) (measures_of bodies.now) 1 declared.now) }
-    ensures wrong { Tells (wrong_struct_fields (map head_of heads.now) (space_of space.entry)
+fn struct_fields(scope: &Scope, bodies: &[Declared], declared: &[Field]) -> Result<Layout, Stop>
+    ensures read { IfOk result (λ l. IsLayoutRead (scope_heads scope.now) (scope_space scope.now)
+        bodies.now declared.now l) }
+    ensures wrong { Tells (wrong_struct_fields (scope_heads scope.now) (scope_space scope.now)
         (measures_of bodies.now) 0 [] declared.now) result }
 {
-    let mut fields = Vec::new(alloc);
-    let mut names = Vec::new(alloc);
+    let mut fields = Vec::new(scope.alloc);
+    let mut names = Vec::new(scope.alloc);
     let mut end = 0;
     let mut alignment = 1;
     'fields: for declaration in declared {
-        let field = or_return!(struct_field(alloc, heads, bodies, space, declaration, end));
-        let new = or_return!(take_name(alloc, &mut names, &field.name), Stop::OutOfMemory);
+        let field = or_return!(struct_field(scope, bodies, declaration, end));
+        let new = or_return!(
+            take_name(scope.alloc, &mut names, &field.name),
+            Stop::OutOfMemory
+        );
         if !new {
             return Err(wrong(Problem::FieldNameTaken, declaration.left));
         }
@@ -198,26 +164,20 @@ fn alignment_of(attributes: &[Attribute], greatest: usize, left: usize) -> Resul
 }
 
 pub(crate) fn struct_of(
-    alloc: Global,
-    heads: &Heads,
+    scope: &Scope,
     bodies: &[Declared],
-    space: Option<&Path>,
     declared: &Record,
     left: usize,
 ) -> Result<Struct, Stop>
-    ensures says { IfOk result (λ s. SaysStruct (map head_of heads.now) (space_of space.entry)
-        (map body_in bodies.now) (record_of declared.now) s) }
-    ensures sound { IfOk result (λ s. IsStruct s) }
-    ensures measure { IfOk result (λ s. record { size = s.size; alignment = s.alignment }
-        ≡ struct_measure (map head_of heads.now) (space_of space.entry) (measures_of bodies.now)
-        declared.now) }
-    ensures wrong { Tells (wrong_struct (map head_of heads.now) (space_of space.entry)
+    ensures read { IfOk result (λ s. IsStructRead (scope_heads scope.now) (scope_space scope.now)
+        bodies.now declared.now s) }
+    ensures wrong { Tells (wrong_struct (scope_heads scope.now) (scope_space scope.now)
         (measures_of bodies.now) declared.now left) result }
 {
     if declared.fields.is_empty() {
         return Err(wrong(Problem::EmptyStruct, left));
     }
-    let layout = or_return!(struct_fields(alloc, heads, bodies, space, &declared.fields));
+    let layout = or_return!(struct_fields(scope, bodies, &declared.fields));
     let alignment = or_return!(alignment_of(&declared.attributes, layout.alignment, left));
     Ok(layout.finished(alignment))
 }

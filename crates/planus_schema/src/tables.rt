@@ -1,40 +1,35 @@
 //! Tables.
 
-ghost use Rattle.std.specs.Prelude.{◌≡◌, ◌≤◌, ◌+◌, ◌∷◌, [], ℕ, true, false, not, ◌&&◌, ◌||◌, map};
+ghost use Rattle.std.specs.Prelude.{◌≡◌, ◌≤◌, ◌+◌, ◌∷◌, [], true, false, not, ◌&&◌, ◌||◌, map};
 ghost use Rattle.std.specs.Prelude.{IfOk, Some, codes};
-ghost use Rattle.std.specs.Option.{option_map};
-ghost use Rattle.std.specs.List.{list_all};
-ghost use Rattle.planus_syntax.specs.Values.{names_of, field_of, record_of, attribute_of, path_of};
-ghost use Rattle.planus_schema.specs.Names.{head_of, space_of, setting as setting_lem, base_found};
-ghost use Rattle.planus_schema.specs.Names.{found as found_lem, words_of};
-ghost use Rattle.planus_layout.specs.Distinct.{AreDistinct, Each2};
-ghost use Rattle.planus_schema.specs.Tables.{is_lawful as is_lawful_lem, NestedIs};
-ghost use Rattle.planus_schema.specs.Tables.{is_required as is_required_lem, is_text_base};
+ghost use Rattle.planus_syntax.specs.Values.{names_of, field_of, record_of, attribute_of};
+ghost use Rattle.planus_schema.specs.inner.Read.{IsFieldRead, AreFieldsRead, AreNamesRead};
+ghost use Rattle.planus_schema.specs.inner.Scopes.{scope_heads, scope_space};
+ghost use Rattle.planus_schema.specs.Names.{setting as setting_lem, base_found};
+ghost use Rattle.planus_schema.specs.Names.{found as found_lem};
+ghost use Rattle.planus_schema.specs.Tables.{NestedIs};
+ghost use Rattle.planus_schema.specs.Tables.{is_required as is_required_lem};
 ghost use Rattle.planus_schema.specs.Tables.{is_number as is_number_lem};
 ghost use Rattle.planus_schema.specs.Tables.{may_be_key as may_be_key_lem};
 ghost use Rattle.planus_schema.specs.Tables.{is_bytes as is_bytes_lem};
-ghost use Rattle.planus_schema.specs.Tables.{names_taken, all_names, SaysField, SaysTable};
+ghost use Rattle.planus_schema.specs.Tables.{names_taken, SaysTable};
 ghost use Rattle.planus_schema.specs.Tables.{IsTable, AreNamed};
-ghost use Rattle.planus_layout.specs.Slots.{Follow, width as width_lem};
-ghost use Rattle.planus_layout.specs.Slots.{slots_taken as slots_taken_lem};
 ghost use Rattle.planus_schema.specs.Names.{has as has_lem, is_set, table_in, attribute_named};
 ghost use Rattle.planus_schema.specs.Tables.{table_found};
 ghost use Rattle.planus_schema.specs.Wrong.{Tells, first, when};
 ghost use Rattle.planus_schema.specs.WrongTables.{wrong_law, wrong_nested, wrong_field};
 ghost use Rattle.planus_schema.specs.WrongTables.{wrong_fields, wrong_table_body, are_among};
-ghost use Rattle.planus_schema.specs.WrongTables.{field_type, slots_from};
-ghost use Rattle.planus_schema.specs.WrongTables.{field_slot as field_slot_lem};
 
 use crate::attributes::{has, setting};
 use crate::defaults::default_of;
 use crate::fault::{Problem, Stop, or_return, wrong};
-use crate::heads::Heads;
 use crate::kind::{head_base, type_of};
 use crate::lookup::found;
 use crate::names::{copied, take_name};
+use crate::scope::Scope;
 use crate::slots::{check_slots, field_slot, has_ids};
 use planus_layout::{Base, FieldType, Scalar, Table, TableField, is_union, width};
-use planus_syntax::{Attribute, Field, Literal, Path, Record};
+use planus_syntax::{Attribute, Field, Literal, Record};
 use std::alloc::{AllocError, Global};
 
 fn is_number(kind: FieldType) -> bool
@@ -64,61 +59,45 @@ fn is_bytes(kind: FieldType) -> bool
     }
 }
 
-fn is_text(base: Base) -> bool
-    ensures { result ≡ is_text_base base }
-{
-    matches!(base, Base::Text)
-}
-
 fn is_required(kind: FieldType, field: &Field) -> bool
     ensures { result ≡ is_required_lem kind (field_of field.now) }
 {
-    has(&field.attributes, b"required") || (has(&field.attributes, b"key") && is_text(kind.base))
+    has(&field.attributes, b"required")
+        || (has(&field.attributes, b"key") && matches!(kind.base, Base::Text))
 }
 
-fn check_lawful(field: &TableField, left: usize) -> Result<(), Stop>
-    ensures lawful { IfOk result (λ _. is_lawful_lem field.now ≡ true) }
-    ensures wrong { Tells (wrong_law field.now.required field.now.key (is_set field.now.nested)
-        field.now.kind left) result }
+fn check_lawful(
+    kind: FieldType,
+    required: bool,
+    key: bool,
+    nested: Option<usize>,
+    left: usize,
+) -> Result<(), Stop>
+    ensures lawful { IfOk result (λ _. (not (required && is_number_lem kind)
+        && (not key || may_be_key_lem kind) && (not (is_set nested) || is_bytes_lem kind)) ≡ true) }
+    ensures wrong { Tells (wrong_law required key (is_set nested) kind left) result }
 {
-    if field.required && is_number(field.kind) {
+    if required && is_number(kind) {
         Err(wrong(Problem::RequiredScalar, left))
-    } else if field.key && !may_be_key(field.kind) {
+    } else if key && !may_be_key(kind) {
         Err(wrong(Problem::WrongKey, left))
-    } else if field.nested.is_some() && !is_bytes(field.kind) {
+    } else if nested.is_some() && !is_bytes(kind) {
         Err(wrong(Problem::WrongNested, left))
     } else {
         Ok(())
     }
 }
 
-fn path_of_text(alloc: Global, text: &[u8], left: usize) -> Result<Path, AllocError>
-    ensures { IfOk result (λ p. words_of (path_of p) ≡ text.now ∷ []) }
-{
-    Ok(Path {
-        left,
-        first: Vec::from_slice(alloc, text)?,
-        more: Vec::new(alloc),
-    })
-}
-
-fn table_named(
-    alloc: Global,
-    heads: &Heads,
-    space: Option<&Path>,
-    text: &[u8],
-    left: usize,
-) -> Result<usize, Stop>
-    ensures named { IfOk result (λ i. base_found (map head_of heads.now)
-        (found_lem (map head_of heads.now) (space_of space.entry) (text.now ∷ []))
+fn table_named(scope: &Scope, text: &[u8], left: usize) -> Result<usize, Stop>
+    ensures named { IfOk result (λ i. base_found (scope_heads scope.now)
+        (found_lem (scope_heads scope.now) (scope_space scope.now) (text.now ∷ []))
         ≡ Some (Base.Table i)) }
-    ensures wrong { Tells (when (not (is_set (table_in (table_found (map head_of heads.now)
-        (space_of space.entry) (Some text.now))))) Problem.NestedIsNoTable left) result }
+    ensures wrong { Tells (when (not (is_set (table_in (table_found (scope_heads scope.now)
+        (scope_space scope.now) (Some text.now))))) Problem.NestedIsNoTable left) result }
 {
-    let path = or_return!(path_of_text(alloc, text, left), Stop::OutOfMemory);
-    let index = or_return!(found(alloc, heads, space, &path), Stop::OutOfMemory);
+    let index = or_return!(found(scope, text, &[]), Stop::OutOfMemory);
     match index {
-        Some(index) => match head_base(heads, index) {
+        Some(index) => match head_base(scope.heads, index) {
             Some(Base::Table(table)) => Ok(table),
             _ => Err(wrong(Problem::NestedIsNoTable, left)),
         },
@@ -126,29 +105,18 @@ fn table_named(
     }
 }
 
-fn nested_of(
-    alloc: Global,
-    heads: &Heads,
-    space: Option<&Path>,
-    attributes: &[Attribute],
-) -> Result<Option<usize>, Stop>
-    ensures says { IfOk result (λ o. NestedIs (map head_of heads.now) (space_of space.entry)
+fn nested_of(scope: &Scope, attributes: &[Attribute]) -> Result<Option<usize>, Stop>
+    ensures says { IfOk result (λ o. NestedIs (scope_heads scope.now) (scope_space scope.now)
         (setting_lem (codes "nested_flatbuffer") (map attribute_of attributes.now)) o) }
     ensures set { IfOk result (λ o. is_set o
         ≡ has_lem (codes "nested_flatbuffer") (map attribute_of attributes.now)) }
-    ensures wrong { Tells (wrong_nested (map head_of heads.now) (space_of space.entry)
+    ensures wrong { Tells (wrong_nested (scope_heads scope.now) (scope_space scope.now)
         (attribute_named (codes "nested_flatbuffer") attributes.now)) result }
 {
     match setting(attributes, b"nested_flatbuffer") {
         Some(attribute) => match &attribute.value {
             Some(Literal::Text(text)) => {
-                let table = or_return!(table_named(
-                    alloc,
-                    heads,
-                    space,
-                    text,
-                    attribute.label.left
-                ));
+                let table = or_return!(table_named(scope, text, attribute.label.left));
                 Ok(Some(table))
             }
             _ => Err(wrong(Problem::NestedIsNoTable, attribute.label.left)),
@@ -157,45 +125,41 @@ fn nested_of(
     }
 }
 
-fn table_field(
-    alloc: Global,
-    heads: &Heads,
-    space: Option<&Path>,
-    field: &Field,
-    ids: bool,
-    next: usize,
-) -> Result<TableField, Stop>
+fn table_field(scope: &Scope, field: &Field, ids: bool, next: usize) -> Result<TableField, Stop>
     requires { next ≤ 65535 }
-    ensures says { IfOk result (λ f. SaysField (map head_of heads.now) (space_of space.entry) ids
-        (field_of field.now) f) }
-    ensures order { ids ≡ false → IfOk result (λ f. f.slot + 1 ≡ next + width_lem f.kind) }
-    ensures lawful { IfOk result (λ f. is_lawful_lem f ≡ true) }
-    ensures kind { IfOk result (λ f. f.kind ≡ field_type (map head_of heads.now)
-        (space_of space.entry) field.now) }
-    ensures slot { IfOk result (λ f. f.slot ≡ field_slot_lem f.kind ids next field.now) }
-    ensures wrong { Tells (wrong_field (map head_of heads.now) (space_of space.entry) ids next
+    ensures read { IfOk result (λ f. IsFieldRead (scope_heads scope.now) (scope_space scope.now)
+        ids next field.now f) }
+    ensures wrong { Tells (wrong_field (scope_heads scope.now) (scope_space scope.now) ids next
         field.now) result }
 {
     let attributes = field.attributes.as_slice();
-    let kind = or_return!(type_of(alloc, heads, space, &field.kind));
+    let kind = or_return!(type_of(scope, &field.kind));
     let slot = or_return!(field_slot(field, kind, ids, next));
-    let default = or_return!(default_of(alloc, heads, kind, &field.default, field.left));
-    let nested = or_return!(nested_of(alloc, heads, space, attributes));
-    let name = or_return!(Vec::from_slice(alloc, &field.name), Stop::OutOfMemory);
-    let docs = or_return!(copied(alloc, &field.docs), Stop::OutOfMemory);
-    let settled = TableField {
+    let default = or_return!(default_of(
+        scope.alloc,
+        scope.heads,
+        kind,
+        &field.default,
+        field.left
+    ));
+    let nested = or_return!(nested_of(scope, attributes));
+    let required = is_required(kind, field);
+    let key = has(attributes, b"key");
+    or_return!(check_lawful(kind, required, key, nested, field.left));
+    let deprecated = has(attributes, b"deprecated");
+    let name = or_return!(Vec::from_slice(scope.alloc, &field.name), Stop::OutOfMemory);
+    let docs = or_return!(copied(scope.alloc, &field.docs), Stop::OutOfMemory);
+    Ok(TableField {
         name,
         docs,
         kind,
         slot,
         default,
-        required: is_required(kind, field),
-        deprecated: has(attributes, b"deprecated"),
-        key: has(attributes, b"key"),
+        required,
+        deprecated,
+        key,
         nested,
-    };
-    or_return!(check_lawful(&settled, field.left));
-    Ok(settled)
+    })
 }
 
 /// Adds the name of a field, and before it that of a union's type; returns whether they were new.
@@ -227,12 +191,8 @@ fn add_names(
     field: &TableField,
     left: usize,
 ) -> Result<bool, Stop>
-    ensures named { IfOk result (λ _. AreNamed (names_of names.old.items) (names_taken field.now)
-        (names_of names.new.items)) }
-    ensures new { IfOk result (λ _. are_among (names_of names.old.items) (names_taken field.now)
-        ≡ false) }
-    ensures key { IfOk result (λ k. k ≡ (key || field.now.key)) }
-    ensures first { IfOk result (λ _. (field.now.key && key) ≡ false) }
+    ensures read { IfOk result (λ k. AreNamesRead (names_of names.old.items)
+        (names_of names.new.items) field.now key k) }
     ensures wrong { Tells (first
         (when (are_among (names_of names.old.items) (names_taken field.now))
         Problem.FieldNameTaken left) (when (field.now.key && key) Problem.SecondKey left)) result }
@@ -247,54 +207,37 @@ fn add_names(
     Ok(key || field.key)
 }
 
-fn table_fields(
-    alloc: Global,
-    heads: &Heads,
-    space: Option<&Path>,
-    declared: &[Field],
-    ids: bool,
-) -> Result<Vec<TableField>, Stop>
-    ensures says { IfOk result (λ v. Each2 (SaysField (map head_of heads.now)
-        (space_of space.entry) ids) (map field_of declared.now) v.items) }
-    ensures order { ids ≡ false → IfOk result (λ v. (end : ℕ) × Follow 0 v.items end) }
-    ensures lawful { IfOk result (λ v. list_all is_lawful_lem v.items ≡ true) }
-    ensures names { IfOk result (λ v. AreDistinct (all_names v.items)) }
-    ensures slots { IfOk result (λ v. slots_taken_lem v.items ≡ slots_from (map head_of heads.now)
-        (space_of space.entry) ids 0 declared.now) }
-    ensures wrong { Tells (wrong_fields (map head_of heads.now) (space_of space.entry) ids 0 false
+fn table_fields(scope: &Scope, declared: &[Field], ids: bool) -> Result<Vec<TableField>, Stop>
+    ensures read { IfOk result (λ v. AreFieldsRead (scope_heads scope.now) (scope_space scope.now)
+        ids declared.now v.items) }
+    ensures wrong { Tells (wrong_fields (scope_heads scope.now) (scope_space scope.now) ids 0 false
         [] declared.now) result }
 {
-    let mut fields = Vec::new(alloc);
-    let mut names = Vec::new(alloc);
+    let mut fields = Vec::new(scope.alloc);
+    let mut names = Vec::new(scope.alloc);
     let mut next = 0;
     let mut key = false;
     'fields: for declaration in declared {
         if next > 65535 {
             return Err(wrong(Problem::TooManySlots, declaration.left));
         }
-        let field = or_return!(table_field(alloc, heads, space, declaration, ids, next));
-        key = or_return!(add_names(alloc, &mut names, key, &field, declaration.left));
+        let field = or_return!(table_field(scope, declaration, ids, next));
+        key = or_return!(add_names(scope.alloc, &mut names, key, &field, declaration.left));
         next += width(field.kind);
         fields.push(field)?;
     }
     Ok(fields)
 }
 
-pub(crate) fn table_of(
-    alloc: Global,
-    heads: &Heads,
-    space: Option<&Path>,
-    declared: &Record,
-    left: usize,
-) -> Result<Table, Stop>
-    ensures says { IfOk result (λ t. SaysTable (map head_of heads.now) (space_of space.entry)
+pub(crate) fn table_of(scope: &Scope, declared: &Record, left: usize) -> Result<Table, Stop>
+    ensures says { IfOk result (λ t. SaysTable (scope_heads scope.now) (scope_space scope.now)
         (record_of declared.now) t) }
     ensures sound { IfOk result (λ t. IsTable t) }
-    ensures wrong { Tells (wrong_table_body (map head_of heads.now) (space_of space.entry)
+    ensures wrong { Tells (wrong_table_body (scope_heads scope.now) (scope_space scope.now)
         declared.now left) result }
 {
     let ids = has_ids(&declared.fields);
-    let fields = or_return!(table_fields(alloc, heads, space, &declared.fields, ids));
-    or_return!(check_slots(alloc, &fields, left));
+    let fields = or_return!(table_fields(scope, &declared.fields, ids));
+    or_return!(check_slots(scope.alloc, &fields, left));
     Ok(Table { fields })
 }

@@ -2,25 +2,25 @@
 
 ghost use Rattle.std.specs.Prelude.{◌≡◌, true, false, map, IfOk, IfSome, Some, nat_eq, codes, ◌∷◌};
 ghost use Rattle.std.specs.Prelude.{[]};
-ghost use Rattle.std.specs.List.{list_any, list_all, IsDistinct};
-ghost use Rattle.planus_syntax.specs.Values.{path_of, member_of, union_of as declared_of};
-ghost use Rattle.planus_schema.specs.Names.{head_of, space_of, words_of, dotted, base_named};
+ghost use Rattle.std.specs.List.{list_any};
+ghost use Rattle.planus_syntax.specs.Values.{path_of, member_of};
+ghost use Rattle.planus_layout.specs.Distinct.{is_in};
+ghost use Rattle.planus_schema.specs.inner.Read.{names_of_members};
+ghost use Rattle.planus_schema.specs.inner.Read.{IsMemberRead, IsUnionRead};
+ghost use Rattle.planus_schema.specs.inner.Scopes.{scope_heads, scope_space};
 ghost use Rattle.planus_schema.specs.Unions.{tag_of as tag_of_lem, target_of as target_of_lem};
-ghost use Rattle.planus_schema.specs.Unions.{SaysMember, SaysUnion, IsUnion, tags_from, tag_in};
+ghost use Rattle.planus_schema.specs.Unions.{SaysMember, tag_in};
 ghost use Rattle.planus_schema.specs.Unions.{is_tag, tag_said};
 ghost use Rattle.planus_schema.specs.Wrong.{Tells, wrong_table};
 ghost use Rattle.planus_schema.specs.WrongUnions.{target_path, wrong_member, wrong_members};
-ghost use Rattle.planus_schema.specs.WrongUnions.{wrong_union};
-ghost use Rattle.planus_layout.specs.Distinct.{AreDistinct, Each2};
 
 use crate::fault::{Problem, Stop, or_return, wrong};
-use crate::head::put_path;
-use crate::heads::Heads;
+use crate::head::dotted_name;
 use crate::kind::table_at;
-use crate::names::{copied, take_name};
+use crate::names::copied;
+use crate::scope::Scope;
 use planus_layout::{Union, UnionMember, integer};
-use planus_syntax::{Member, Path, UnionBody};
-use std::alloc::{AllocError, Global};
+use planus_syntax::{Member, Path};
 
 fn target_of(member: &Member) -> &Path
     ensures path { path_of result.now ≡ target_of_lem (member_of member.now) }
@@ -37,45 +37,36 @@ fn tag_of(previous: u8, member: &Member) -> Option<u8>
     ensures within { IfSome result (λ n. is_tag n ≡ true) }
     ensures said { result ≡ tag_said previous (member_of member.now).value }
 {
-    let tag = match &member.value {
+    match &member.value {
         Some(digits) => match integer(digits) {
-            Some(number) if !number.negative => number.magnitude,
-            _ => return None,
+            Some(number) if !number.negative && 1 <= number.magnitude && number.magnitude <= 255 =>
+                { Some(number.magnitude as u8) }
+            _ => None,
         },
-        None => u64::from(previous) + 1,
-    };
-    if 1 <= tag && tag <= 255 {
-        Some(tag as u8)
-    } else {
-        None
+        None if previous < 255 => Some(previous + 1),
+        None => None,
     }
 }
 
-fn name_of(alloc: Global, path: &Path) -> Result<Vec<u8>, AllocError>
-    ensures { IfOk result (λ v. v.items ≡ dotted (words_of (path_of path.now))) }
-{
-    let mut name = Vec::new(alloc);
-    put_path(&mut name, path)?;
-    Ok(name)
-}
-
-fn member(
-    alloc: Global,
-    heads: &Heads,
-    space: Option<&Path>,
-    declared: &Member,
-    tag: u8,
-) -> Result<UnionMember, Stop>
-    ensures says { IfOk result (λ m. SaysMember (map head_of heads.now) (space_of space.entry)
-        (member_of declared.now) m) }
-    ensures tag { IfOk result (λ m. m.tag ≡ tag) }
-    ensures wrong { Tells (wrong_table Problem.MemberIsNoTable (map head_of heads.now)
-        (space_of space.entry) (target_path declared.now)) result }
+fn member(scope: &Scope, declared: &Member, tag: u8) -> Result<UnionMember, Stop>
+    ensures read { IfOk result (λ m. SaysMember (scope_heads scope.now) (scope_space scope.now)
+        (member_of declared.now) m × m.tag ≡ tag) }
+    ensures wrong { Tells (wrong_table Problem.MemberIsNoTable (scope_heads scope.now)
+        (scope_space scope.now) (target_path declared.now)) result }
 {
     let path = target_of(declared);
-    let table = or_return!(table_at(alloc, heads, space, path, Problem::MemberIsNoTable));
-    let name = or_return!(name_of(alloc, &declared.path), Stop::OutOfMemory);
-    let docs = or_return!(copied(alloc, &declared.docs), Stop::OutOfMemory);
+    let table = or_return!(table_at(scope, path, Problem::MemberIsNoTable));
+    let name = or_return!(
+        dotted_name(
+            scope.alloc,
+            None,
+            0,
+            &declared.path.first,
+            &declared.path.more
+        ),
+        Stop::OutOfMemory
+    );
+    let docs = or_return!(copied(scope.alloc, &declared.docs), Stop::OutOfMemory);
     Ok(UnionMember {
         name,
         docs,
@@ -87,23 +78,42 @@ fn member(
 fn has_tag(members: &[UnionMember], tag: u8) -> bool
     ensures { result ≡ list_any (λ m. nat_eq m.tag tag) members.now }
 {
-    members.iter().any(|member| member.tag == tag)
+    let mut rest = members;
+    'members: while let Some((member, after)) = rest.split_first() {
+        if member.tag == tag {
+            return true;
+        }
+        rest = after;
+    }
+    false
+}
+
+/// Returns whether one of these has this name, or it is `NONE`.
+fn is_taken(members: &[UnionMember], name: &[u8]) -> bool
+    ensures { result ≡ is_in (names_of_members members.now) name.now }
+{
+    if b"NONE".as_slice() == name {
+        return true;
+    }
+    let mut rest = members;
+    'members: while let Some((member, after)) = rest.split_first() {
+        if member.name.as_slice() == name {
+            return true;
+        }
+        rest = after;
+    }
+    false
 }
 
 fn next_member(
-    alloc: Global,
-    heads: &Heads,
-    space: Option<&Path>,
+    scope: &Scope,
     declared: &Member,
     previous: u8,
     members: &[UnionMember],
 ) -> Result<UnionMember, Stop>
-    ensures says { IfOk result (λ m. SaysMember (map head_of heads.now) (space_of space.entry)
-        (member_of declared.now) m) }
-    ensures tag { IfOk result (λ m. m.tag ≡ tag_of_lem previous (member_of declared.now).value) }
-    ensures within { IfOk result (λ m. is_tag m.tag ≡ true) }
-    ensures new { IfOk result (λ m. list_any (λ x. nat_eq x.tag m.tag) members.now ≡ false) }
-    ensures wrong { Tells (wrong_member (map head_of heads.now) (space_of space.entry) previous
+    ensures read { IfOk result (λ m. IsMemberRead (scope_heads scope.now) (scope_space scope.now)
+        previous members.now declared.now m) }
+    ensures wrong { Tells (wrong_member (scope_heads scope.now) (scope_space scope.now) previous
         (map tag_in members.now) declared.now) result }
 {
     let tag = match tag_of(previous, declared) {
@@ -113,55 +123,24 @@ fn next_member(
     if has_tag(members, tag) {
         return Err(wrong(Problem::TagTaken, declared.path.left));
     }
-    member(alloc, heads, space, declared, tag)
+    member(scope, declared, tag)
 }
 
-fn union_members(
-    alloc: Global,
-    heads: &Heads,
-    space: Option<&Path>,
-    declared: &[Member],
-) -> Result<Vec<UnionMember>, Stop>
-    ensures says { IfOk result (λ v. Each2 (SaysMember (map head_of heads.now)
-        (space_of space.entry)) (map member_of declared.now) v.items) }
-    ensures tags { IfOk result (λ v. map tag_in v.items
-        ≡ tags_from 0 (map member_of declared.now)) }
-    ensures within { IfOk result (λ v. list_all is_tag (map tag_in v.items) ≡ true) }
-    ensures distinct { IfOk result (λ v. IsDistinct nat_eq (map tag_in v.items)) }
-    ensures names { IfOk result (λ v. AreDistinct
-        (codes "NONE" ∷ map (λ m. m.name.items) v.items)) }
-    ensures wrong { Tells (wrong_members (map head_of heads.now) (space_of space.entry) 0 []
+pub(crate) fn union_of(scope: &Scope, declared: &[Member]) -> Result<Union, Stop>
+    ensures read { IfOk result (λ u. IsUnionRead (scope_heads scope.now) (scope_space scope.now)
+        declared.now u) }
+    ensures wrong { Tells (wrong_members (scope_heads scope.now) (scope_space scope.now) 0 []
         (codes "NONE" ∷ []) declared.now) result }
 {
-    let mut members = Vec::new(alloc);
-    let mut names = Vec::new(alloc);
+    let mut members = Vec::new(scope.alloc);
     let mut previous = 0;
-    let none = or_return!(Vec::from_slice(alloc, b"NONE"), Stop::OutOfMemory);
-    names.push(none)?;
     'members: for member in declared {
-        let next = or_return!(next_member(alloc, heads, space, member, previous, &members));
-        let new = or_return!(take_name(alloc, &mut names, &next.name), Stop::OutOfMemory);
-        if !new {
+        let next = or_return!(next_member(scope, member, previous, &members));
+        if is_taken(&members, &next.name) {
             return Err(wrong(Problem::MemberNameTaken, member.path.left));
         }
         previous = next.tag;
         members.push(next)?;
     }
-    Ok(members)
-}
-
-pub(crate) fn union_of(
-    alloc: Global,
-    heads: &Heads,
-    space: Option<&Path>,
-    declared: &UnionBody,
-) -> Result<Union, Stop>
-    ensures says { IfOk result (λ u. SaysUnion (map head_of heads.now) (space_of space.entry)
-        (declared_of declared.now) u) }
-    ensures sound { IfOk result (λ u. IsUnion u) }
-    ensures wrong { Tells (wrong_union (map head_of heads.now) (space_of space.entry) declared.now)
-        result }
-{
-    let members = or_return!(union_members(alloc, heads, space, &declared.members));
     Ok(Union { members })
 }

@@ -4,6 +4,7 @@ ghost use Rattle.std.specs.Prelude.{◌≡◌, [], IfOk};
 ghost use Rattle.planus_syntax.specs.Values.{names_of};
 ghost use Rattle.planus_schema.specs.Names.{cut_words as cut_words_lem};
 
+use crate::fault::or_return;
 use std::alloc::{AllocError, Global};
 
 pub(crate) fn cut_words(alloc: Global, text: &[u8]) -> Result<Vec<Vec<u8>>, AllocError>
@@ -16,7 +17,7 @@ pub(crate) fn cut_words(alloc: Global, text: &[u8]) -> Result<Vec<Vec<u8>>, Allo
             words.push(word)?;
             word = Vec::new(alloc);
         } else {
-            word.push(*b)?;
+            or_return!(word.push(*b), AllocError);
         }
     }
     words.push(word)?;

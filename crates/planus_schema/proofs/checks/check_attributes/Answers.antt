@@ -1,8 +1,9 @@
-use Rattle.std.proofs.Common.{◌≡◌, true, false, refl, ap, sym, ◌∙◌, arith}
+use Rattle.std.proofs.Common.{◌≡◌, true, false, refl, ap, sym, ◌∙◌}
 use Rattle.std.specs.Prelude.{not}
 use Rattle.std.proofs.lemmas.List.{drop_all}
 use Rattle.planus_syntax.specs.Values.{names_of}
 use Rattle.planus_layout.specs.Distinct.{is_in}
+use Rattle.planus_layout.proofs.NameLemmas.{in_items}
 use Rattle.planus_schema.specs.declared.fault.Problem.TheVariants as problem
 use Rattle.planus_schema.specs.WrongServices.{wrong_attributes}
 use Rattle.planus_schema.proofs.StructLemmas.{drop_next}
@@ -13,19 +14,19 @@ pub attributes-preserved : goal.attributes-preserved
 attributes-preserved c =
     let known = names_of c.args.known.now in
     let a = c.attribute-item.result in
-    let r = drop_next c.args.attributes.now c.attributes.attribute-index c.attribute-item.result (omega arith) c.attribute-item.is in
-    let found : is_in known a.label.name.items ≡ true = ap (is_in known) (sym c.deref.ensures.value) ∙ sym c.if-not-is_known.ensures in
+    let r = drop_next c.args.attributes.now c.attributes.attribute-index c.attribute-item.result c.attributes-test.true c.attribute-item.is in
+    let found : is_in known a.label.name.items ≡ true = ap (is_in known) (sym c.deref.ensures.value) ∙ in_items c.args.known.now c.deref.result.now ∙ sym c.if-not-is_among.ensures in
     next_is (wrong_attributes known) _ _ _ a _ _ r refl c.attributes.invariant (passes _ problem.UnknownAttribute a.label.left (ap not found))
 
-pub returns-then-not-is_known : goal.returns-then-not-is_known
-returns-then-not-is_known c =
+pub returns-then-not-is_among : goal.returns-then-not-is_among
+returns-then-not-is_among c =
     let known = names_of c.args.known.now in
     let a = c.attribute-item.result in
-    let r = drop_next c.args.attributes.now c.attributes.attribute-index c.attribute-item.result (omega arith) c.attribute-item.is in
-    let found : is_in known a.label.name.items ≡ false = ap (is_in known) (sym c.deref.ensures.value) ∙ sym c.if-not-is_known.ensures in
+    let r = drop_next c.args.attributes.now c.attributes.attribute-index c.attribute-item.result c.attributes-test.true c.attribute-item.is in
+    let found : is_in known a.label.name.items ≡ false = ap (is_in known) (sym c.deref.ensures.value) ∙ in_items c.args.known.now c.deref.result.now ∙ sym c.if-not-is_among.ensures in
     rw c.wrong.ensures (told_now (wrong_attributes known) _ problem.UnknownAttribute a.label.left _ _ a _ _ r refl c.attributes.invariant (ap not found))
 
 pub returns : goal.returns
 returns c =
-    let d = drop_all c.attributes.attribute-index c.args.attributes.now (omega arith) in
+    let d = drop_all c.attributes.attribute-index c.args.attributes.now c.attributes-test.false in
     sym (rw d at c.attributes.invariant)

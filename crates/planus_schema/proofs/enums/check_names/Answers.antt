@@ -1,4 +1,4 @@
-use Rattle.std.proofs.Common.{◌++◌, ◌∷◌, [], ap, sym, subst, ◌∙◌, take, map, arith}
+use Rattle.std.proofs.Common.{◌++◌, ◌∷◌, [], ap, sym, subst, ◌∙◌, take, map}
 use Rattle.std.proofs.lemmas.List.{map_push, take_all, drop_all}
 use Rattle.planus_syntax.specs.Values.{VariantV, variant_of, names_of}
 use Rattle.planus_layout.specs.Distinct.{AreDistinct, is_in}
@@ -23,8 +23,8 @@ variants-preserved c =
     let name = c.deref.ensures.value in
     let names = names_of c.variants.names.items in
     let before = map variant_of (take c.variants.variant-index c.args.variants.now) in
-    let t = map_next variant_of c.args.variants.now c.variants.variant-index v (omega arith) c.variant-item.is in
-    let r = drop_next c.args.variants.now c.variants.variant-index c.variant-item.result (omega arith) c.variant-item.is in
+    let t = map_next variant_of c.args.variants.now c.variants.variant-index v c.variants-test.true c.variant-item.is in
+    let r = drop_next c.args.variants.now c.variants.variant-index c.variant-item.result c.variants-test.true c.variant-item.is in
     let a = taken c.in-Ok.value names c.deref.result.now (names_of c.take_name.new.names.items) c.if-not-new.false c.in-Ok.ensures.taken in
     let added = a.added ∙ ap (λ w. names ++ w ∷ []) name in
     record {
@@ -36,16 +36,16 @@ variants-preserved c =
 pub returns-then-not-new-clause-wrong : goal.returns-then-not-new-clause-wrong
 returns-then-not-new-clause-wrong c =
     let names = names_of c.variants.names.items in
-    let r = drop_next c.args.variants.now c.variants.variant-index c.variant-item.result (omega arith) c.variant-item.is in
+    let r = drop_next c.args.variants.now c.variants.variant-index c.variant-item.result c.variants-test.true c.variant-item.is in
     rw c.wrong.ensures (value_name_stops names _ c.variant-item.result _ _ r c.variants.invariant.wrong
     (ap (is_in names) (sym c.deref.ensures.value) ∙ name_used _ _ c.if-not-new.true c.in-Ok.ensures.new))
 
 pub returns-clause-distinct : goal.returns-clause-distinct
 returns-clause-distinct c =
-    let t = take_all c.variants.variant-index c.args.variants.now (omega arith) in
+    let t = take_all c.variants.variant-index c.args.variants.now c.variants-test.false in
     subst AreDistinct (rw t at c.variants.invariant.names) c.variants.invariant.distinct
 
 pub returns-clause-wrong : goal.returns-clause-wrong
 returns-clause-wrong c =
-    let d = drop_all c.variants.variant-index c.args.variants.now (omega arith) in
+    let d = drop_all c.variants.variant-index c.args.variants.now c.variants-test.false in
     sym (rw d at c.variants.invariant.wrong)

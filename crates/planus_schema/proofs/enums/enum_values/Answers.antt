@@ -1,4 +1,4 @@
-use Rattle.std.proofs.Common.{◌++◌, ◌∷◌, [], refl, ap, sym, ◌∙◌, take, map, arith}
+use Rattle.std.proofs.Common.{◌++◌, ◌∷◌, [], refl, ap, sym, ◌∙◌, take, map}
 use Rattle.std.specs.Prelude.{Some}
 use Rattle.std.proofs.lemmas.List.{append-nil, map_push, take_all, drop_all}
 use Rattle.planus_syntax.specs.Values.{VariantV, variant_of, names_of}
@@ -22,8 +22,8 @@ variants-init c = let e = c.new-values.ensures.items in record {
 pub returns-clause-says : goal.returns-clause-says
 returns-clause-says c =
     let i = c.variants.invariant in
-    let t = take_all c.variants.variant-index c.args.variants.now (omega arith) in
-    let d = drop_all c.variants.variant-index c.args.variants.now (omega arith) in
+    let t = take_all c.variants.variant-index c.args.variants.now c.variants-test.false in
+    let d = drop_all c.variants.variant-index c.args.variants.now c.variants-test.false in
     record {
       names = rw t at i.names;
       docs = rw t at i.docs;
@@ -39,9 +39,9 @@ variants-preserved c =
     let a = c.in-Ok.ensures.added in
     let v = c.variant-item.result in
     let before = map variant_of (take c.variants.variant-index c.args.variants.now) in
-    let t = map_next variant_of c.args.variants.now c.variants.variant-index v (omega arith) c.variant-item.is in
-    let m = map_rest variant_of c.args.variants.now c.variants.variant-index v (omega arith) c.variant-item.is in
-    let r = drop_next c.args.variants.now c.variants.variant-index c.variant-item.result (omega arith) c.variant-item.is in
+    let t = map_next variant_of c.args.variants.now c.variants.variant-index v c.variants-test.true c.variant-item.is in
+    let m = map_rest variant_of c.args.variants.now c.variants.variant-index v c.variants-test.true c.variant-item.is in
+    let r = drop_next c.args.variants.now c.variants.variant-index c.variant-item.result c.variants-test.true c.variant-item.is in
     record {
       names = rw t (a.names ∙ ap (λ ns. ns ++ v.name.items ∷ []) i.names ∙ sym (map_push (λ (w : VariantV). w.name) before (variant_of v)));
       docs = rw t (a.docs ∙ ap (λ ns. ns ++ names_of v.docs.items ∷ []) i.docs ∙ sym (map_push (λ (w : VariantV). w.docs) before (variant_of v)));
@@ -56,23 +56,23 @@ variants-preserved c =
 
 pub returns-in-None-clause-wrong : goal.returns-in-None-clause-wrong
 returns-in-None-clause-wrong c =
-    let r = drop_next c.args.variants.now c.variants.variant-index c.variant-item.result (omega arith) c.variant-item.is in
+    let r = drop_next c.args.variants.now c.variants.variant-index c.variant-item.result c.variants-test.true c.variant-item.is in
     rw c.wrong.ensures (no_value_stops c.args.scalar c.args.flags c.variants.previous (map number_of_value c.variants.values.items) _ c.variant-item.result _ _ r c.variants.invariant.wrong (ap (value_said c.args.flags) (sym c.in-None.ensures.said)))
 
 pub returns-in-None-value_of-clause-wrong : goal.returns-in-None-value_of-clause-wrong
 returns-in-None-value_of-clause-wrong c =
-    let r = drop_next c.args.variants.now c.variants.variant-index c.variant-item.result (omega arith) c.variant-item.is in
+    let r = drop_next c.args.variants.now c.variants.variant-index c.variant-item.result c.variants-test.true c.variant-item.is in
     rw c.wrong-in-None-value_of.ensures (no_value_stops c.args.scalar c.args.flags c.variants.previous (map number_of_value c.variants.values.items) _ c.variant-item.result _ _ r c.variants.invariant.wrong
     (ap (value_said c.args.flags) (sym c.in-Some.ensures.said) ∙ sym c.in-None-value_of.ensures.said))
 
 pub returns-in-Err-clause-wrong : goal.returns-in-Err-clause-wrong
 returns-in-Err-clause-wrong c =
-    let r = drop_next c.args.variants.now c.variants.variant-index c.variant-item.result (omega arith) c.variant-item.is in
+    let r = drop_next c.args.variants.now c.variants.variant-index c.variant-item.result c.variants-test.true c.variant-item.is in
     value_stops c.args.scalar c.args.flags c.variants.previous (map number_of_value c.variants.values.items) _ c.variant-item.result _ _ (Some c.in-Some-value_of.value) _ r c.variants.invariant.wrong
     (value_is c.args.flags c.variants.previous (variant_of c.variant-item.result).value c.in-Some.number c.in-Some-value_of.value c.in-Some.ensures.said c.in-Some-value_of.ensures.said)
     c.in-Err.ensures.wrong
 
 pub returns-clause-wrong : goal.returns-clause-wrong
 returns-clause-wrong c =
-    let d = drop_all c.variants.variant-index c.args.variants.now (omega arith) in
+    let d = drop_all c.variants.variant-index c.args.variants.now c.variants-test.false in
     sym (rw d at c.variants.invariant.wrong)

@@ -8,12 +8,15 @@ use Rattle.planus_schema.specs.Faults.{placed_of, placed_from}
 use Rattle.planus_schema.proofs.StructLemmas.{drop_next}
 use Rattle.planus_schema.proofs.head.heads.Goals as goal
 
+pub overflow_add-file : goal.overflow_add-file
+overflow_add-file c = omega arith
+
 pub files-preserved : goal.files-preserved
 files-preserved c =
     let i = c.files.invariant in
     let heads = map head_of c.files.heads.items in
     let placed = map placed_of c.files.heads.items in
-    let r = drop_next c.args.files.now c.files.declarations-index c.declarations-item.result (omega arith) c.declarations-item.is in
+    let r = drop_next c.args.files.now c.files.declarations-index c.declarations-item.result c.files-test.true c.declarations-item.is in
     record {
       index = ap (λ n. n + 1) i.index;
       all = rw (c.in-Ok.ensures.heads, c.deref.ensures.value) (append_assoc heads _ _
@@ -24,10 +27,10 @@ files-preserved c =
 
 pub returns-clause-heads : goal.returns-clause-heads
 returns-clause-heads c =
-    let d = drop_all c.files.declarations-index c.args.files.now (omega arith) in
+    let d = drop_all c.files.declarations-index c.args.files.now c.files-test.false in
     sym (append-nil (map head_of c.files.heads.items)) ∙ rw d at c.files.invariant.all
 
 pub returns-clause-placed : goal.returns-clause-placed
 returns-clause-placed c =
-    let d = drop_all c.files.declarations-index c.args.files.now (omega arith) in
+    let d = drop_all c.files.declarations-index c.args.files.now c.files-test.false in
     sym (append-nil (map placed_of c.files.heads.items)) ∙ rw d at c.files.invariant.placed

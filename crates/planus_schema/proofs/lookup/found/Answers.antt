@@ -1,13 +1,16 @@
-use Rattle.std.proofs.Common.{map, arith, ◌∙◌}
-use Rattle.planus_syntax.specs.Values.{path_of}
-use Rattle.planus_schema.specs.Names.{words_of, space_of, head_of}
+use Rattle.std.proofs.Common.{◌∷◌, arith, ◌∙◌}
+use Rattle.planus_syntax.specs.Values.{names_of}
+use Rattle.planus_schema.specs.inner.Scopes.{scope_heads, scope_space}
 use Rattle.planus_schema.proofs.Lists.{further_out}
 use Rattle.planus_schema.proofs.lookup.found.Goals as goal
+
+pub overflow_sub-count : goal.overflow_sub-count
+overflow_sub-count c = omega arith
 
 pub spaces-preserved : goal.spaces-preserved
 spaces-preserved c = record {
   within = omega (arith, c.spaces.invariant.within);
-  rest = further_out (map head_of c.args.heads.now) (space_of c.args.space)
-      (words_of (path_of c.args.path.now)) c.spaces.count _ (omega arith) c.in_default.is
-      c.in_ok-index.ensures ∙ c.spaces.invariant.rest;
+  rest = further_out (scope_heads c.args.scope.now) (scope_space c.args.scope.now)
+      (c.args.first.now ∷ names_of c.args.more.now) c.spaces.count _ (omega arith) c.in_default.is
+      c.in-Ok.ensures ∙ c.spaces.invariant.rest;
 }

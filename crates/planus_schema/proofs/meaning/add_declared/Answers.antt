@@ -1,13 +1,13 @@
 use Rattle.std.proofs.Common.{◌≡◌, ◌++◌, ◌∷◌, [], subst, map, ap, sym, ◌∙◌}
-use Rattle.std.specs.Prelude.{None}
+use Rattle.std.specs.Prelude.{None, Some}
 use Rattle.std.proofs.lemmas.Result.{on_ok_weaker}
 use Rattle.planus_schema.specs.Wrong.{Stops}
 use Rattle.planus_schema.specs.WrongStructs.{measures_of}
 use Rattle.planus_schema.specs.Faults.{name_left, wrong_body, sound_measure, byte_measure}
-use Rattle.planus_schema.proofs.FaultLemmas.{ok_anyway, adds_nothing, adds_told, no_fault, byte_told}
+use Rattle.planus_schema.proofs.FaultLemmas.{no_faults, ok_anyway, adds_nothing, adds_told, no_fault, byte_told, sound_told}
 use Rattle.planus_syntax.specs.Values.{item_of}
 use Rattle.planus_schema.specs.Names.{head_of, space_of}
-use Rattle.planus_layout.specs.Layouts.{body_in}
+use Rattle.planus_layout.specs.Layouts.{body_in, measure_of_body}
 use Rattle.planus_schema.specs.Schemas.{SaysBody}
 use Rattle.planus_schema.proofs.SchemaLemmas.{declared_by}
 use Rattle.planus_schema.proofs.meaning.add_declared.Goals as goal
@@ -16,9 +16,9 @@ pub returns-in-Ok-clause-says : goal.returns-in-Ok-clause-says
 returns-in-Ok-clause-says c =
     let hs = map head_of c.args.heads.now in
     let h = c.args.head.now in
-    let said = subst (λ ds. SaysBody hs (space_of h.space) (map body_in ds) (item_of h.declaration.now.item) c.in-Ok.body) c.deref.ensures.value c.in-Ok.ensures.says in
+    let said = subst (λ ds. SaysBody hs (space_of h.space) (map body_in ds) (item_of h.declaration.now.item) c.in-Ok.body) c.deref.ensures.value c.in-Ok.ensures.read.says in
     on_ok_weaker c.add_body.result
-    (λ added _. declared_by hs (head_of h) c.in-Ok.body c.args.declared.now.items c.add_body.new.declared.items added c.in-Ok.ensures.sound said)
+    (λ added _. declared_by hs (head_of h) c.in-Ok.body c.args.declared.now.items c.add_body.new.declared.items added c.in-Ok.ensures.read.sound said)
     c.add_body.ensures.appended
 
 pub returns-in-Ok-clause-adds : goal.returns-in-Ok-clause-adds
@@ -27,6 +27,35 @@ returns-in-Ok-clause-adds c =
     let h = c.args.head.now in
     let n = subst (λ ds. wrong_body hs (space_of h.space) (measures_of ds) (name_left h.declaration.now) h.declaration.now.item ≡ None) c.deref.ensures.value c.in-Ok.ensures.wrong in
     ok_anyway c.add_body.result _ (adds_nothing c.args.faults.now.items _ c.requires (no_fault h.file _ n))
+
+pub returns-in-Ok-clause-kept : goal.returns-in-Ok-clause-kept
+returns-in-Ok-clause-kept c = ok_anyway c.add_body.result _ (λ e. e)
+
+pub returns-in-Ok-clause-most : goal.returns-in-Ok-clause-most
+returns-in-Ok-clause-most c = ok_anyway c.add_body.result _ c.requires
+
+pub returns-in-Ok-clause-measures : goal.returns-in-Ok-clause-measures
+returns-in-Ok-clause-measures c =
+    let hs = map head_of c.args.heads.now in
+    let h = c.args.head.now in
+    let old = measures_of c.args.declared.now.items in
+    let item = h.declaration.now.item in
+    let n = subst (λ ds. wrong_body hs (space_of h.space) (measures_of ds) (name_left h.declaration.now) item ≡ None) c.deref.ensures.value c.in-Ok.ensures.wrong in
+    let m = subst (λ ds. measure_of_body (Some c.in-Ok.body) ≡ sound_measure hs (space_of h.space) (measures_of ds) item) c.deref.ensures.value c.in-Ok.ensures.read.measure in
+    on_ok_weaker c.add_body.result
+    (λ e. e ∙ ap (λ x. old ++ x ∷ []) (m ∙ sym (sound_told (wrong_body hs (space_of h.space) old (name_left h.declaration.now) item) (sound_measure hs (space_of h.space) old item) (byte_measure item) n)))
+    c.add_body.ensures.measures
+
+pub returns-in-Ok-note-clause-says : goal.returns-in-Ok-note-clause-says
+returns-in-Ok-note-clause-says c =
+    ok_anyway c.add_body-in-Err.result _ (λ e. no_faults c.note.new.faults.items c.in-Ok-note.ensures.some e)
+
+pub returns-in-Ok-note-clause-kept : goal.returns-in-Ok-note-clause-kept
+returns-in-Ok-note-clause-kept c =
+    ok_anyway c.add_body-in-Err.result _ (λ e. no_faults c.note.new.faults.items c.in-Ok-note.ensures.some e)
+
+pub returns-in-Ok-note-clause-most : goal.returns-in-Ok-note-clause-most
+returns-in-Ok-note-clause-most c = ok_anyway c.add_body-in-Err.result _ c.in-Ok-note.ensures.most
 
 pub returns-in-Ok-note-clause-measures : goal.returns-in-Ok-note-clause-measures
 returns-in-Ok-note-clause-measures c =

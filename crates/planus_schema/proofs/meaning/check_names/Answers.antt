@@ -11,6 +11,9 @@ use Rattle.std.specs.Str.{bytes_eq}
 use Rattle.planus_schema.proofs.IndexLemmas.{first_is_new}
 use Rattle.planus_schema.proofs.meaning.check_names.Goals as goal
 
+pub overflow_add-index : goal.overflow_add-index
+overflow_add-index c = omega arith
+
 pub heads-init : goal.heads-init
 heads-init c = record {
   index = refl;
@@ -26,7 +29,7 @@ heads-preserved c =
     let hs = c.args.heads.now in
     let n = c.heads.head-index in
     let h = c.head-item.result in
-    let within : n < length hs = subst (λ xs. n < length xs) c.as_slice-head-items.ensures (omega arith) in
+    let within : n < length hs = subst (λ xs. n < length xs) c.as_slice-head-items.ensures c.heads-test.true in
     let is : h ≡ get_or hs n h = subst (λ xs. h ≡ get_or xs n h) c.as_slice-head-items.ensures c.head-item.is in
     record {
       index = omega (arith, i.index);
@@ -41,7 +44,7 @@ heads-preserved c =
 pub returns-clause-adds : goal.returns-clause-adds
 returns-clause-adds c =
     let i = c.heads.invariant in
-    let d : drop c.heads.head-index c.args.heads.now ≡ [] = subst (λ hs. drop c.heads.head-index hs ≡ []) c.as_slice-head-items.ensures (drop_all c.heads.head-index c.as_slice-head-items.result.now (omega arith)) in
+    let d : drop c.heads.head-index c.args.heads.now ≡ [] = subst (λ hs. drop c.heads.head-index hs ≡ []) c.as_slice-head-items.ensures (drop_all c.heads.head-index c.as_slice-head-items.result.now c.heads-test.false) in
     adds_none c.heads.faults.items i.most
     ∙ ap (λ hs. first_twenty (c.heads.faults.items ++ name_faults (map head_of c.args.heads.now) c.heads.index (map placed_of hs))) (sym d) ∙ i.adds
 
@@ -49,5 +52,5 @@ pub returns-clause-distinct : goal.returns-clause-distinct
 returns-clause-distinct c =
     let hs = c.args.heads.now in
     let t : take c.heads.head-index hs ≡ hs =
-    subst (λ xs. take c.heads.head-index xs ≡ xs) c.as_slice-head-items.ensures (take_all c.heads.head-index c.as_slice-head-items.result.now (omega arith)) in
+    subst (λ xs. take c.heads.head-index xs ≡ xs) c.as_slice-head-items.ensures (take_all c.heads.head-index c.as_slice-head-items.result.now c.heads-test.false) in
     λ none. subst (λ xs. AreDistinct (map (λ (h : HeadV). h.name) (map head_of xs))) t (c.heads.invariant.distinct none)

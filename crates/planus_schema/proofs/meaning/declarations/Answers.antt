@@ -1,4 +1,4 @@
-use Rattle.std.proofs.Common.{◌≡◌, ◌<◌, ◌+◌, ◌++◌, [], length, get_or, map, take, drop, ap, sym, ◌∙◌, subst, arith}
+use Rattle.std.proofs.Common.{◌≡◌, ◌<◌, ◌+◌, ◌++◌, [], length, get_or, map, take, drop, ap, sym, ◌∙◌, subst}
 use Rattle.std.proofs.lemmas.List.{take_all, drop_all}
 use Rattle.planus_schema.specs.Schemas.{AreDeclared}
 use Rattle.planus_schema.specs.WrongStructs.{measures_of}
@@ -15,7 +15,7 @@ heads-preserved c =
     let hs = c.args.heads.now in
     let n = c.heads.head-index in
     let h = c.head-item.result in
-    let within : n < length hs = subst (λ xs. n < length xs) c.as_slice-head-items.ensures (omega arith) in
+    let within : n < length hs = subst (λ xs. n < length xs) c.as_slice-head-items.ensures c.heads-test.true in
     let is : h ≡ get_or hs n h = subst (λ xs. h ≡ get_or xs n h) c.as_slice-head-items.ensures c.head-item.is in
     let t = map_next head_of hs n h within is in
     record {
@@ -32,7 +32,7 @@ pub returns-clause-adds : goal.returns-clause-adds
 returns-clause-adds c =
     let i = c.heads.invariant in
     let d : drop c.heads.head-index c.args.heads.now ≡ [] =
-    subst (λ hs. drop c.heads.head-index hs ≡ []) c.as_slice-head-items.ensures (drop_all c.heads.head-index c.as_slice-head-items.result.now (omega arith)) in
+    subst (λ hs. drop c.heads.head-index hs ≡ []) c.as_slice-head-items.ensures (drop_all c.heads.head-index c.as_slice-head-items.result.now c.heads-test.false) in
     adds_none c.heads.faults.items i.most
     ∙ ap (λ hs. first_twenty (c.heads.faults.items ++ body_faults (map head_of c.args.heads.now) (measures_of c.heads.declared.items) (map placed_of hs))) (sym d) ∙ i.adds
 
@@ -40,7 +40,7 @@ pub returns-clause-says : goal.returns-clause-says
 returns-clause-says c =
     let hs = c.args.heads.now in
     let t : take c.heads.head-index hs ≡ hs =
-    subst (λ xs. take c.heads.head-index xs ≡ xs) c.as_slice-head-items.ensures (take_all c.heads.head-index c.as_slice-head-items.result.now (omega arith)) in
+    subst (λ xs. take c.heads.head-index xs ≡ xs) c.as_slice-head-items.ensures (take_all c.heads.head-index c.as_slice-head-items.result.now c.heads-test.false) in
     λ none. subst (λ xs. AreDeclared (map head_of hs) (map head_of xs) c.heads.declared.items) t (c.heads.invariant.says none)
 
 pub returns-clause-kept : goal.returns-clause-kept

@@ -1,35 +1,35 @@
-use Rattle.std.proofs.Common.{◌≡◌, [], map, ap, sym, subst, ◌∙◌, arith}
-use Rattle.std.proofs.lemmas.Grind.{common_steps}
+use Rattle.std.proofs.Common.{map, ap, sym, subst, ◌∙◌}
 use Rattle.std.specs.Global.{Vec}
 use Rattle.planus_syntax.specs.Values.{schema_of}
 use Rattle.planus_syntax.specs.declared.value.Declaration.{Declaration}
 use Rattle.planus_layout.specs.Distinct.{AreDistinct}
 use Rattle.planus_schema.specs.Schemas.{AreDeclared, after_files, no_statements}
 use Rattle.planus_schema.specs.Names.{HeadV}
-use Rattle.planus_schema.specs.Faults.{AreInOrder}
-use Rattle.planus_schema.proofs.FaultLemmas.{all_found}
+use Rattle.planus_schema.proofs.FaultLemmas.{all_found, exactly_told, refusal_told}
 use Rattle.planus_schema.proofs.meaning.meaning_of.Goals as goal
 
-pub returns-then-is_empty-clause-none : goal.returns-then-is_empty-clause-none
-returns-then-is_empty-clause-none c =
+pub returns-clause-none : goal.returns-clause-none
+returns-clause-none c =
     let found = all_found c.args.files.now c.args.heads.now c.new-faults.result.items _ _ c.statements.new.faults.items
     c.new-faults.ensures.items c.requires.heads
     c.requires.placed c.in-Ok.ensures.adds
     c.in-Ok-declarations.ensures.adds c.in-Ok-statements.ensures.adds in
-    let none : c.statements.new.faults.items ≡ [] = grind (arith, common_steps) in
-    sym found ∙ none
+    sym found ∙ c.in-Ok-refuse.ensures.none
 
-pub returns-in-Ok-put_in_order-clause-exact : goal.returns-in-Ok-put_in_order-clause-exact
-returns-in-Ok-put_in_order-clause-exact c =
+pub returns-in-Err-refuse-clause-exact : goal.returns-in-Err-refuse-clause-exact
+returns-in-Err-refuse-clause-exact c =
     let found = all_found c.args.files.now c.args.heads.now c.new-faults.result.items _ _ c.statements.new.faults.items
     c.new-faults.ensures.items c.requires.heads
     c.requires.placed c.in-Ok.ensures.adds
     c.in-Ok-declarations.ensures.adds c.in-Ok-statements.ensures.adds in
-    subst (λ fs. AreInOrder fs c.put_in_order.new.faults.items) found c.in-Ok-put_in_order.ensures.order
+    exactly_told c.args.files.now c.statements.new.faults.items c.in-Err-refuse.error found c.in-Err-refuse.ensures.told
 
-pub returns-then-is_empty-clause-means : goal.returns-then-is_empty-clause-means
-returns-then-is_empty-clause-means c =
-    let none : c.statements.new.faults.items ≡ [] = grind (arith, common_steps) in
+pub returns-in-Err-refuse-clause-faults : goal.returns-in-Err-refuse-clause-faults
+returns-in-Err-refuse-clause-faults c = refusal_told c.statements.new.faults.items c.in-Err-refuse.error c.in-Err-refuse.ensures.told
+
+pub returns-clause-means : goal.returns-clause-means
+returns-clause-means c =
+    let none = c.in-Ok-refuse.ensures.none in
     let before = c.in-Ok-statements.ensures.kept none in
     record {
       declared = subst (λ hs. AreDeclared hs hs c.in-Ok-declarations.value.items) c.requires.heads (c.in-Ok-declarations.ensures.says before);

@@ -16,38 +16,41 @@ pub files-preserved : goal.files-preserved
 files-preserved c =
     let i = c.files.invariant in
     let none = c.nothing_stated-statements-in-files.ensures in
-    let r = drop_next c.args.files.now c.files.declarations-index c.declarations-item.result (omega arith) c.declarations-item.is in
+    let r = drop_next c.args.files.now c.files.declarations-index c.declarations-item.result c.files-test.true c.declarations-item.is in
     let hs = map head_of c.args.heads.now in
     let old = c.files.faults.items in
     let new = c.state_file.new.faults.items in
     let file = c.files.file in
     let d = c.declarations-item.result in
     let a = subst (λ cs. Adds (statement_faults hs cs file None d.items) old new) (ap names_of c.deref.ensures.value ∙ c.files.invariant.known)
-    (subst (λ ds. Adds (statement_faults hs (names_of c.deref.result.now) file None ds) old new) c.deref-in-files.ensures.value c.in-Ok-state_file.ensures.adds) in
+    (subst (λ ds. Adds (statement_faults hs (names_of c.deref.result.now) file None ds) old new) c.deref-in-files.ensures.value c.in-Ok-state_file.ensures.noted.adds) in
     record {
       index = ap (λ n. n + 1) i.index;
       said = λ e. ap (λ s. after_files hs s (map (λ (f : Vec Declaration). schema_of f.items) (drop (c.files.declarations-index + 1) c.args.files.now)))
-          (c.in-Ok-state_file.ensures.said e ∙ ap (λ s. after_file hs None s (schema_of c.deref-in-files.result.now)) none
+          (c.in-Ok-state_file.ensures.said_now e ∙ ap (λ s. after_file hs None s (schema_of c.deref-in-files.result.now)) none
           ∙ ap (λ ds. after_file hs None no_statements (schema_of ds)) c.deref-in-files.ensures.value)
-          ∙ ap (λ fs. after_files hs (said_of c.files.statements) (map (λ (f : Vec Declaration). schema_of f.items) fs)) (sym r) ∙ i.said (c.in-Ok-state_file.ensures.kept e);
+          ∙ ap (λ fs. after_files hs (said_of c.files.statements) (map (λ (f : Vec Declaration). schema_of f.items) fs)) (sym r) ∙ i.said (c.in-Ok-state_file.ensures.noted.kept e);
       four = λ e. c.in-Ok-state_file.ensures.four e (subst (λ (s : StatementsV). IsFour s.identifier) (sym none) tt);
-      kept = λ e. i.kept (c.in-Ok-state_file.ensures.kept e);
-      most = c.in-Ok-state_file.ensures.most;
+      kept = λ e. i.kept (c.in-Ok-state_file.ensures.noted.kept e);
+      most = c.in-Ok-state_file.ensures.noted.most;
       adds = adds_next old (statement_faults hs (known_attributes c.args.files.now) file None d.items) new _ _ a
           (ap (λ fs. first_twenty (old ++ file_faults hs (known_attributes c.args.files.now) file fs)) (sym r) ∙ c.files.invariant.adds);
       known = c.files.invariant.known;
     }
 
+pub overflow_add-file : goal.overflow_add-file
+overflow_add-file c = omega arith
+
 pub returns-clause-adds : goal.returns-clause-adds
 returns-clause-adds c =
     let i = c.files.invariant in
-    let d = drop_all c.files.declarations-index c.args.files.now (omega arith) in
+    let d = drop_all c.files.declarations-index c.args.files.now c.files-test.false in
     adds_none c.files.faults.items i.most
     ∙ ap (λ fs. first_twenty (c.files.faults.items ++ file_faults (map head_of c.args.heads.now) (known_attributes c.args.files.now) c.files.file fs)) (sym d) ∙ i.adds
 
 pub returns-clause-said : goal.returns-clause-said
 returns-clause-said c =
-    let d = drop_all c.files.declarations-index c.args.files.now (omega arith) in
+    let d = drop_all c.files.declarations-index c.args.files.now c.files-test.false in
     λ e. rw d at c.files.invariant.said e
 
 pub returns-clause-four : goal.returns-clause-four

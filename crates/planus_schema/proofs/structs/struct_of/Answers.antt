@@ -1,4 +1,4 @@
-use Rattle.std.proofs.Common.{◌≡◌, false, length, map, ap, sym, subst, ◌∙◌, arith}
+use Rattle.std.proofs.Common.{rules, ◌≡◌, false, length, map, ap, sym, subst, ◌∙◌, arith}
 use Rattle.std.specs.Prelude.{codes, vec_len, ◌==◌}
 use Rattle.planus_syntax.specs.Values.{attribute_of}
 use Rattle.planus_layout.specs.Layouts.{greatest_alignment}
@@ -32,14 +32,18 @@ returns-in-Err-alignment_of-clause-wrong c =
     stops_next _ _ e (passes _ problem.EmptyStruct c.args.left some)
     (stops_next _ _ e (rw c.deref.ensures.value at c.in-Ok.ensures.wrong)
     (subst (λ n. Stops (wrong_alignment n c.args.left (attribute_named (codes "force_align") c.args.declared.now.attributes.items)) e)
-    (rw c.deref.ensures.value at c.in-Ok.ensures.alignment) (rw c.deref-2.ensures.value at c.in-Err-alignment_of.ensures.wrong)))
+    (rw c.deref.ensures.value at c.in-Ok.ensures.read.alignment) (rw c.deref-2.ensures.value at c.in-Err-alignment_of.ensures.wrong)))
 
-pub returns-clause-says : goal.returns-clause-says
-returns-clause-says c = record {
-  fields = rw c.finished.ensures.fields (rw c.deref.ensures.value at c.in-Ok.ensures.says);
-  alignment = c.finished.ensures.alignment ∙ (rw c.deref-2.ensures.value at c.in-Ok-alignment_of.ensures.said)
-      ∙ ap (alignment_said (setting (codes "force_align") (map attribute_of c.args.declared.now.attributes.items)))
-      (c.in-Ok.ensures.greatest ∙ ap greatest_alignment (sym c.finished.ensures.fields));
+pub returns-clause-read : goal.returns-clause-read
+returns-clause-read c = record {
+  says = record {
+    fields = rw c.finished.ensures.fields (rw c.deref.ensures.value at c.in-Ok.ensures.read.says);
+    alignment = c.finished.ensures.alignment ∙ (rw c.deref-2.ensures.value at c.in-Ok-alignment_of.ensures.said)
+        ∙ ap (alignment_said (setting (codes "force_align") (map attribute_of c.args.declared.now.attributes.items)))
+        (c.in-Ok.ensures.read.greatest ∙ ap greatest_alignment (sym c.finished.ensures.fields));
+  };
+  sound = search rules;
+  measure = search rules;
 }
 
 pub returns-clause-wrong : goal.returns-clause-wrong
@@ -49,5 +53,5 @@ returns-clause-wrong c =
     skip _ _ (passes _ problem.EmptyStruct c.args.left some)
     ∙ skip _ _ (rw c.deref.ensures.value at c.in-Ok.ensures.wrong)
     ∙ ap (λ n. wrong_alignment n c.args.left (attribute_named (codes "force_align") c.args.declared.now.attributes.items))
-    (sym (rw c.deref.ensures.value at c.in-Ok.ensures.alignment))
+    (sym (rw c.deref.ensures.value at c.in-Ok.ensures.read.alignment))
     ∙ (rw c.deref-2.ensures.value at c.in-Ok-alignment_of.ensures.wrong)

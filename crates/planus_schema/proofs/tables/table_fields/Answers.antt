@@ -8,8 +8,8 @@ use Rattle.std.proofs.lemmas.Bool.{le-leb, lt-leb}
 use Rattle.planus_schema.specs.Tables.{all_names, names_taken}
 use Rattle.planus_layout.proofs.NameLemmas.{no_names}
 use Rattle.planus_schema.proofs.StructLemmas.{each2_push, map_next, drop_next}
-use Rattle.planus_schema.proofs.TableLemmas.{names_are, after_is, nothing_wrong, slots_next, follow_push, names_push, lawful_push, slot_stops, field_stops, names_stop}
-use Rattle.planus_schema.specs.Names.{head_of, space_of}
+use Rattle.planus_schema.proofs.TableLemmas.{width_small, names_are, after_is, nothing_wrong, slots_next, follow_push, names_push, lawful_push, slot_stops, field_stops, names_stop}
+use Rattle.planus_schema.specs.inner.Scopes.{scope_heads, scope_space}
 use Rattle.planus_schema.specs.WrongTables.{field_type}
 use Rattle.planus_schema.proofs.tables.table_fields.Goals as goal
 
@@ -33,62 +33,59 @@ fields-preserved c =
     let e = c.in_ok-push.ensures.items in
     let f = c.in-Ok.value in
     let fs = c.fields.fields.items in
-    let t = map_next field_of c.args.declared.now c.fields.declaration-index c.declaration-item.result (omega arith) c.declaration-item.is in
-    let r = drop_next c.args.declared.now c.fields.declaration-index c.declaration-item.result (omega arith) c.declaration-item.is in
-    let a = c.in-Ok-add_names.ensures.named in
-    let after = after_is (map head_of c.args.heads.now) (space_of c.args.space) c.args.ids c.fields.next c.fields.key (names_of c.fields.names.items) (drop c.fields.declaration-index c.args.declared.now) c.declaration-item.result (drop (c.fields.declaration-index + 1) c.args.declared.now) _ f
+    let t = map_next field_of c.args.declared.now c.fields.declaration-index c.declaration-item.result c.fields-test.true c.declaration-item.is in
+    let r = drop_next c.args.declared.now c.fields.declaration-index c.declaration-item.result c.fields-test.true c.declaration-item.is in
+    let a = c.in-Ok-add_names.ensures.read.named in
+    let after = after_is (scope_heads c.args.scope.now) (scope_space c.args.scope.now) c.args.ids c.fields.next c.fields.key (names_of c.fields.names.items) (drop c.fields.declaration-index c.args.declared.now) c.declaration-item.result (drop (c.fields.declaration-index + 1) c.args.declared.now) _ f
     (record { here = r; low = le-leb c.fields.next 65535 c.if-next-gt65535.false; field = c.in-Ok.ensures.wrong; same = i.wrong })
-    c.in-Ok.ensures.kind c.in-Ok.ensures.says.key (names_are f c.declaration-item.result (field_type (map head_of c.args.heads.now) (space_of c.args.space) c.declaration-item.result) c.in-Ok.ensures.kind c.in-Ok.ensures.says.name) in
+    c.in-Ok.ensures.read.kind c.in-Ok.ensures.read.says.key (names_are f c.declaration-item.result (field_type (scope_heads c.args.scope.now) (scope_space c.args.scope.now) c.declaration-item.result) c.in-Ok.ensures.read.kind c.in-Ok.ensures.read.says.name) in
     record {
-      says = rw (t, e) (each2_push _ (map field_of (take c.fields.declaration-index c.args.declared.now)) fs (field_of c.declaration-item.result) f i.says c.in-Ok.ensures.says);
-      order = λ no. rw (e, c.width-next.ensures) (follow_push 0 fs c.fields.next f (i.order no) (c.in-Ok.ensures.order no));
-      lawful = rw e (lawful_push fs f i.lawful c.in-Ok.ensures.lawful);
-      slots = rw (e, c.width-next.ensures) (slots_next (map head_of c.args.heads.now) (space_of c.args.space) c.args.ids c.fields.next fs f c.declaration-item.result (drop c.fields.declaration-index c.args.declared.now) (drop (c.fields.declaration-index + 1) c.args.declared.now) _ r c.in-Ok.ensures.kind c.in-Ok.ensures.slot i.slots);
-      wrong = nothing_wrong (map head_of c.args.heads.now) (space_of c.args.space) c.args.ids c.fields.next c.fields.key (names_of c.fields.names.items) c.declaration-item.result (drop (c.fields.declaration-index + 1) c.args.declared.now) _ f _ _ _
-          after c.in-Ok-add_names.ensures.new c.in-Ok-add_names.ensures.first a.added c.in-Ok-add_names.ensures.key (ap (λ n. c.fields.next + n) c.width-next.ensures);
+      says = rw (t, e) (each2_push _ (map field_of (take c.fields.declaration-index c.args.declared.now)) fs (field_of c.declaration-item.result) f i.says c.in-Ok.ensures.read.says);
+      order = λ no. rw (e, c.width-next.ensures) (follow_push 0 fs c.fields.next f (i.order no) (c.in-Ok.ensures.read.order no));
+      lawful = rw e (lawful_push fs f i.lawful c.in-Ok.ensures.read.lawful);
+      slots = rw (e, c.width-next.ensures) (slots_next (scope_heads c.args.scope.now) (scope_space c.args.scope.now) c.args.ids c.fields.next fs f c.declaration-item.result (drop c.fields.declaration-index c.args.declared.now) (drop (c.fields.declaration-index + 1) c.args.declared.now) _ r c.in-Ok.ensures.read.kind c.in-Ok.ensures.read.slot i.slots);
+      wrong = nothing_wrong (scope_heads c.args.scope.now) (scope_space c.args.scope.now) c.args.ids c.fields.next c.fields.key (names_of c.fields.names.items) c.declaration-item.result (drop (c.fields.declaration-index + 1) c.args.declared.now) _ f _ _ _
+          after c.in-Ok-add_names.ensures.read.new c.in-Ok-add_names.ensures.read.first a.added c.in-Ok-add_names.ensures.read.key (ap (λ n. c.fields.next + n) c.width-next.ensures);
       names = a.added ∙ ap (λ ns. ns ++ names_taken f) i.names ∙ sym (names_push fs f) ∙ ap all_names (sym e);
       distinct = a.distinct i.distinct;
     }
 
+pub overflow_add-next : goal.overflow_add-next
+overflow_add-next c =
+    let small = width_small c.in-Ok.value.kind in
+    omega (arith, c.width-next.ensures, small)
+
 pub returns-then-next-gt65535-clause-wrong : goal.returns-then-next-gt65535-clause-wrong
 returns-then-next-gt65535-clause-wrong c =
-    let r = drop_next c.args.declared.now c.fields.declaration-index c.declaration-item.result (omega arith) c.declaration-item.is in
+    let r = drop_next c.args.declared.now c.fields.declaration-index c.declaration-item.result c.fields-test.true c.declaration-item.is in
     let high : nat_le c.fields.next 65535 ≡ false = lt-leb c.fields.next 65535 c.if-next-gt65535.true in
-    rw c.wrong.ensures (slot_stops (map head_of c.args.heads.now) (space_of c.args.space) c.args.ids c.fields.next c.fields.key (names_of c.fields.names.items) _ c.declaration-item.result _ _ r high c.fields.invariant.wrong)
+    rw c.wrong.ensures (slot_stops (scope_heads c.args.scope.now) (scope_space c.args.scope.now) c.args.ids c.fields.next c.fields.key (names_of c.fields.names.items) _ c.declaration-item.result _ _ r high c.fields.invariant.wrong)
 
 pub returns-in-Err-clause-wrong : goal.returns-in-Err-clause-wrong
 returns-in-Err-clause-wrong c =
-    let r = drop_next c.args.declared.now c.fields.declaration-index c.declaration-item.result (omega arith) c.declaration-item.is in
-    field_stops (map head_of c.args.heads.now) (space_of c.args.space) c.args.ids c.fields.next c.fields.key (names_of c.fields.names.items) _ c.declaration-item.result _ _ _ r (le-leb c.fields.next 65535 c.if-next-gt65535.false) c.fields.invariant.wrong c.in-Err.ensures.wrong
+    let r = drop_next c.args.declared.now c.fields.declaration-index c.declaration-item.result c.fields-test.true c.declaration-item.is in
+    field_stops (scope_heads c.args.scope.now) (scope_space c.args.scope.now) c.args.ids c.fields.next c.fields.key (names_of c.fields.names.items) _ c.declaration-item.result _ _ _ r (le-leb c.fields.next 65535 c.if-next-gt65535.false) c.fields.invariant.wrong c.in-Err.ensures.wrong
 
 pub returns-in-Err-add_names-clause-wrong : goal.returns-in-Err-add_names-clause-wrong
 returns-in-Err-add_names-clause-wrong c =
-    let r = drop_next c.args.declared.now c.fields.declaration-index c.declaration-item.result (omega arith) c.declaration-item.is in
-    let after = after_is (map head_of c.args.heads.now) (space_of c.args.space) c.args.ids c.fields.next c.fields.key (names_of c.fields.names.items) (drop c.fields.declaration-index c.args.declared.now) c.declaration-item.result (drop (c.fields.declaration-index + 1) c.args.declared.now) _ c.in-Ok.value
+    let r = drop_next c.args.declared.now c.fields.declaration-index c.declaration-item.result c.fields-test.true c.declaration-item.is in
+    let after = after_is (scope_heads c.args.scope.now) (scope_space c.args.scope.now) c.args.ids c.fields.next c.fields.key (names_of c.fields.names.items) (drop c.fields.declaration-index c.args.declared.now) c.declaration-item.result (drop (c.fields.declaration-index + 1) c.args.declared.now) _ c.in-Ok.value
     (record { here = r; low = le-leb c.fields.next 65535 c.if-next-gt65535.false; field = c.in-Ok.ensures.wrong; same = c.fields.invariant.wrong })
-    c.in-Ok.ensures.kind c.in-Ok.ensures.says.key (names_are c.in-Ok.value c.declaration-item.result (field_type (map head_of c.args.heads.now) (space_of c.args.space) c.declaration-item.result) c.in-Ok.ensures.kind c.in-Ok.ensures.says.name) in
-    names_stop (map head_of c.args.heads.now) (space_of c.args.space) c.args.ids c.fields.next c.fields.key (names_of c.fields.names.items) c.in-Ok.value c.declaration-item.result _ _ _ after c.in-Err-add_names.ensures.wrong
+    c.in-Ok.ensures.read.kind c.in-Ok.ensures.read.says.key (names_are c.in-Ok.value c.declaration-item.result (field_type (scope_heads c.args.scope.now) (scope_space c.args.scope.now) c.declaration-item.result) c.in-Ok.ensures.read.kind c.in-Ok.ensures.read.says.name) in
+    names_stop (scope_heads c.args.scope.now) (scope_space c.args.scope.now) c.args.ids c.fields.next c.fields.key (names_of c.fields.names.items) c.in-Ok.value c.declaration-item.result _ _ _ after c.in-Err-add_names.ensures.wrong
 
-pub returns-clause-says : goal.returns-clause-says
-returns-clause-says c =
-    let t = take_all c.fields.declaration-index c.args.declared.now (omega arith) in
-    rw t at c.fields.invariant.says
-
-pub returns-clause-order : goal.returns-clause-order
-returns-clause-order c = λ no. (c.fields.next, c.fields.invariant.order no)
-
-pub returns-clause-lawful : goal.returns-clause-lawful
-returns-clause-lawful c = c.fields.invariant.lawful
-
-pub returns-clause-names : goal.returns-clause-names
-returns-clause-names c = subst AreDistinct c.fields.invariant.names c.fields.invariant.distinct
-
-pub returns-clause-slots : goal.returns-clause-slots
-returns-clause-slots c =
-    let d = drop_all c.fields.declaration-index c.args.declared.now (omega arith) in
-    sym (append-nil (slots_taken c.fields.fields.items)) ∙ rw d at c.fields.invariant.slots
+pub returns-clause-read : goal.returns-clause-read
+returns-clause-read c = record {
+  says = let t = take_all c.fields.declaration-index c.args.declared.now c.fields-test.false in
+      rw t at c.fields.invariant.says;
+  order = λ no. (c.fields.next, c.fields.invariant.order no);
+  lawful = c.fields.invariant.lawful;
+  names = subst AreDistinct c.fields.invariant.names c.fields.invariant.distinct;
+  slots = let d = drop_all c.fields.declaration-index c.args.declared.now c.fields-test.false in
+      sym (append-nil (slots_taken c.fields.fields.items)) ∙ rw d at c.fields.invariant.slots;
+}
 
 pub returns-clause-wrong : goal.returns-clause-wrong
 returns-clause-wrong c =
-    let d = drop_all c.fields.declaration-index c.args.declared.now (omega arith) in
+    let d = drop_all c.fields.declaration-index c.args.declared.now c.fields-test.false in
     sym (rw d at c.fields.invariant.wrong)

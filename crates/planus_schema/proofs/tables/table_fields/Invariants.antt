@@ -2,7 +2,7 @@ use Rattle.std.proofs.Common.{◌≡◌, ◌++◌, [], true, false, take, drop, 
 use Rattle.std.specs.List.{list_all}
 use Rattle.planus_syntax.specs.Values.{names_of, field_of}
 use Rattle.planus_layout.specs.Distinct.{AreDistinct, Each2}
-use Rattle.planus_schema.specs.Names.{head_of, space_of}
+use Rattle.planus_schema.specs.inner.Scopes.{scope_heads, scope_space}
 use Rattle.planus_schema.specs.Tables.{SaysField, is_lawful, all_names}
 use Rattle.planus_layout.specs.Slots.{Follow}
 use Rattle.planus_layout.specs.Slots.{slots_taken}
@@ -11,16 +11,16 @@ use Rattle.planus_schema.proofs.tables.table_fields.Given as goal
 
 abbrev pub invariant-fields : goal.invariant-fields
 invariant-fields l = record {
-  says : Each2 (SaysField (map head_of l.heads) (space_of l.space) l.ids)
+  says : Each2 (SaysField (scope_heads l.scope) (scope_space l.scope) l.ids)
       (map field_of (take l.declaration-index l.declared)) l.fields.items;
   order : l.ids ≡ false → Follow 0 l.fields.items l.next;
   lawful : list_all is_lawful l.fields.items ≡ true;
-  slots : slots_taken l.fields.items ++ slots_from (map head_of l.heads) (space_of l.space) l.ids
+  slots : slots_taken l.fields.items ++ slots_from (scope_heads l.scope) (scope_space l.scope) l.ids
       l.next (drop l.declaration-index l.declared)
-      ≡ slots_from (map head_of l.heads) (space_of l.space) l.ids 0 l.declared;
-  wrong : wrong_fields (map head_of l.heads) (space_of l.space) l.ids l.next l.key
+      ≡ slots_from (scope_heads l.scope) (scope_space l.scope) l.ids 0 l.declared;
+  wrong : wrong_fields (scope_heads l.scope) (scope_space l.scope) l.ids l.next l.key
       (names_of l.names.items) (drop l.declaration-index l.declared)
-      ≡ wrong_fields (map head_of l.heads) (space_of l.space) l.ids 0 false [] l.declared;
+      ≡ wrong_fields (scope_heads l.scope) (scope_space l.scope) l.ids 0 false [] l.declared;
   names : names_of l.names.items ≡ all_names l.fields.items;
   distinct : AreDistinct (names_of l.names.items);
 }

@@ -3,7 +3,7 @@ use Rattle.std.specs.Prelude.{nat_eq}
 use Rattle.std.specs.List.{list_any}
 use Rattle.std.proofs.lemmas.Result.{IfOk-weaker}
 use Rattle.planus_layout.specs.declared.schema.UnionMember.{UnionMember}
-use Rattle.planus_schema.specs.Names.{head_of, space_of}
+use Rattle.planus_schema.specs.inner.Scopes.{scope_heads, scope_space}
 use Rattle.planus_schema.specs.Wrong.{Tells}
 use Rattle.planus_schema.specs.Unions.{tag_in, is_tag}
 use Rattle.planus_schema.proofs.UnionLemmas.{tags_any, tag_missing, tag_used, tag_free}
@@ -11,28 +11,24 @@ use Rattle.planus_schema.proofs.unions.next_member.Goals as goal
 
 pub returns-in-None-clause-wrong : goal.returns-in-None-clause-wrong
 returns-in-None-clause-wrong c =
-    rw c.wrong.ensures (tag_missing (map head_of c.args.heads.now) (space_of c.args.space) c.args.previous (map tag_in c.args.members.now) c.args.declared.now (sym c.in-None.ensures.said))
+    rw c.wrong.ensures (tag_missing (scope_heads c.args.scope.now) (scope_space c.args.scope.now) c.args.previous (map tag_in c.args.members.now) c.args.declared.now (sym c.in-None.ensures.said))
 
 pub returns-then-has_tag-clause-wrong : goal.returns-then-has_tag-clause-wrong
 returns-then-has_tag-clause-wrong c =
-    rw c.wrong-then-has_tag.ensures (tag_used (map head_of c.args.heads.now) (space_of c.args.space) c.args.previous (map tag_in c.args.members.now) c.args.declared.now _ (sym c.in-Some.ensures.said)
+    rw c.wrong-then-has_tag.ensures (tag_used (scope_heads c.args.scope.now) (scope_space c.args.scope.now) c.args.previous (map tag_in c.args.members.now) c.args.declared.now _ (sym c.in-Some.ensures.said)
     (tags_any c.args.members.now _ ∙ sym c.has_tag.ensures ∙ c.if-has_tag.true))
-
-pub returns-clause-says : goal.returns-clause-says
-returns-clause-says c = c.member.ensures.says
 
 pub returns-clause-wrong : goal.returns-clause-wrong
 returns-clause-wrong c =
-    subst (λ o. Tells o c.member.result) (sym (tag_free (map head_of c.args.heads.now) (space_of c.args.space) c.args.previous (map tag_in c.args.members.now) c.args.declared.now _ (sym c.in-Some.ensures.said)
+    subst (λ o. Tells o c.member.result) (sym (tag_free (scope_heads c.args.scope.now) (scope_space c.args.scope.now) c.args.previous (map tag_in c.args.members.now) c.args.declared.now _ (sym c.in-Some.ensures.said)
     (tags_any c.args.members.now _ ∙ sym c.has_tag.ensures ∙ c.if-has_tag.false))) c.member.ensures.wrong
 
-pub returns-clause-tag : goal.returns-clause-tag
-returns-clause-tag c = IfOk-weaker c.member.result _ _ (λ m e. e ∙ c.in-Some.ensures.tag) c.member.ensures.tag
-
-pub returns-clause-within : goal.returns-clause-within
-returns-clause-within c = IfOk-weaker c.member.result _ _ (λ m e. ap is_tag e ∙ c.in-Some.ensures.within) c.member.ensures.tag
-
-pub returns-clause-new : goal.returns-clause-new
-returns-clause-new c =
-    IfOk-weaker c.member.result _ _
-    (λ m e. ap (λ n. list_any (λ (x : UnionMember). nat_eq x.tag n) c.args.members.now) e ∙ sym c.has_tag.ensures ∙ c.if-has_tag.false) c.member.ensures.tag
+pub returns-clause-read : goal.returns-clause-read
+returns-clause-read c =
+    let apart = sym c.has_tag.ensures ∙ c.if-has_tag.false in
+    IfOk-weaker c.member.result _ _ (λ m r. record {
+      says = r.0;
+      tag = r.1 ∙ c.in-Some.ensures.tag;
+      within = ap is_tag r.1 ∙ c.in-Some.ensures.within;
+      new = ap (λ n. list_any (λ (x : UnionMember). nat_eq x.tag n) c.args.members.now) r.1 ∙ apart;
+    }) c.member.ensures.read
