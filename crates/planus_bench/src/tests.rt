@@ -28,12 +28,6 @@ mod without_memory;
 
 use planus::{BuildError, Builder, Caches};
 use std::alloc::Global;
-use std::process::Abort;
-
-// An assertion is slow to prove, so many tests use this.
-fn check(rt: &impl Abort, holds: bool, what: &str) {
-    assert!(rt; holds, "{what}");
-}
 
 // In a box, since the type of an owned value is written out at each step of a proof, and that of a
 // builder is long.
@@ -44,13 +38,9 @@ fn boxed(alloc: Global, builder: Builder) -> Result<Box<Builder>, BuildError> {
     }
 }
 
-fn with_caches(alloc: Global, caches: Caches) -> Result<Box<Builder>, BuildError> {
-    match Builder::with_caches(alloc, 0, caches) {
+fn new_builder(alloc: Global) -> Result<Box<Builder>, BuildError> {
+    match Builder::with_caches(alloc, 0, Caches::all()) {
         Ok(builder) => boxed(alloc, builder),
         Err(error) => Err(error),
     }
-}
-
-fn new_builder(alloc: Global) -> Result<Box<Builder>, BuildError> {
-    with_caches(alloc, Caches::all())
 }

@@ -1,5 +1,7 @@
+use crate::asserting::{Test, check};
 use std::alloc::{AllocError, Global};
-use std::io;
+
+const LEFT: &str = "memory was left: this test does not apply";
 
 // A sanitizer's malloc keeps a freed block's addresses for a while.
 const SPARE: usize = 1 << 25;
@@ -40,13 +42,43 @@ pub fn exhaust_all_but(
     Ok(exhausted)
 }
 
-/// Returns whether what was tried holds. `None` says that memory was left: prints that, and returns
-/// true.
-pub fn holds_or_says(rt: &HostRuntime, found: Option<bool>) -> io::Result<bool> {
-    if found.is_none() {
-        println!(rt; "memory was left: this test does not apply")?;
+/// Makes the calls while no memory can be allocated. Returns `None`, and says so, where some was
+/// left.
+pub fn without_memory<A: Drop, F: FnOnce(&Test<'_>) -> A>(test: &Test<'_>, calls: F) -> Option<A>
+    requires { F.IsAlwaysCallable calls }
+{
+    match answer_without_memory(test, calls) {
+        Ok((true, answer)) => Some(answer),
+        Ok((false, _)) => {
+            test.say(LEFT);
+            None
+        }
+        Err(_) => {
+            check(test, false, "memory for what takes all memory");
+            None
+        }
     }
-    Ok(found != Some(false))
+}
+
+fn answer_without_memory<A, F: FnOnce(&Test<'_>) -> A>(
+    test: &Test<'_>,
+    calls: F,
+) -> Result<(bool, A), AllocError>
+    requires { F.IsAlwaysCallable calls }
+{
+    let mut held: Vec<Vec<u8>> = Vec::with_capacity(test.alloc(), 262144)?;
+    let exhausted = exhaust(test.alloc(), &mut held)?;
+    let answer = calls(test);
+    drop(held);
+    Ok((exhausted, answer))
+}
+
+/// Checks what was tried without memory. `None`, which is said, is that memory was left.
+pub fn check_tried(test: &Test<'_>, found: Option<bool>, row: &str) {
+    match found {
+        Some(holds) => check(test, holds, row),
+        None => test.say(LEFT),
+    }
 }
 
 fn take_all(alloc: Global, held: &mut Vec<Vec<u8>>) -> bool {

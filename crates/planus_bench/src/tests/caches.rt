@@ -3,9 +3,8 @@
 use super::runs::{add, add_field, add_finish};
 use super::settings::CacheSettings;
 use super::tables::{ONE_VTABLE, TWO_VTABLES, put};
-use crate::tests::check;
 use planus::{BuildError, Builder, ByteList, Caches, FieldValue, Step, replay};
-use planus_testing::{exhaust, holds_or_says};
+use planus_testing::{Test, check, check_bytes, check_done, check_eq, check_tried, exhaust};
 use std::alloc::{AllocError, Global};
 use std::test::Fail;
 
@@ -15,10 +14,13 @@ fn one_number(alloc: Global, value: u64) -> Result<Step, AllocError> {
     Ok(Step::Table(fields))
 }
 
-fn replays_to(alloc: Global, caches: Caches, steps: &[Step], want: &[u8]) -> bool {
-    match replay(alloc, caches, steps) {
-        Ok(got) => matches!(got.as_slice(), [finished] if finished.bytes.as_slice() == want),
-        Err(_) => false,
+fn check_replay(test: &Test<'_>, caches: Caches, steps: &[Step], want: &[u8], row: &str) {
+    match replay(test.alloc(), caches, steps) {
+        Ok(got) => match got.as_slice() {
+            [finished] => check_bytes(test, finished.bytes.as_slice(), want, row),
+            all => check_eq(test, &all.len(), &1, row),
+        },
+        Err(error) => check_eq(test, &Some(error), &None, row),
     }
 }
 
@@ -28,30 +30,27 @@ fn push_equal_tables(alloc: Global, steps: &mut Vec<Step>) -> Result<(), AllocEr
     add_finish(steps, 1)
 }
 
-fn vtables_are_shared(alloc: Global, steps: &[Step]) -> bool {
-    replays_to(
-        alloc,
-        CacheSettings::of(7).caches(u64::MAX),
-        steps,
-        ONE_VTABLE,
-    ) && replays_to(
-        alloc,
-        CacheSettings::of(6).caches(u64::MAX),
+fn check_equal_tables(test: &Test<'_>) -> Result<(), AllocError> {
+    let mut steps = Vec::new(test.alloc());
+    push_equal_tables(test.alloc(), &mut steps)?;
+    let (all, others) = (CacheSettings::of(7), CacheSettings::of(6));
+    let steps = steps.as_slice();
+    check_replay(test, all.caches(u64::MAX), steps, ONE_VTABLE, "one vtable");
+    check_replay(
+        test,
+        others.caches(u64::MAX),
         steps,
         TWO_VTABLES,
-    )
-}
-
-fn equal_vtables_in(alloc: Global) -> Result<bool, AllocError> {
-    let mut steps = Vec::new(alloc);
-    push_equal_tables(alloc, &mut steps)?;
-    Ok(vtables_are_shared(alloc, steps.as_slice()))
+        "two vtables",
+    );
+    Ok(())
 }
 
 #[test]
 fn equal_vtables(rt: HostRuntime) -> Result<(), Fail> {
-    check(&rt, equal_vtables_in(rt.alloc())?, "equal vtables");
-    Ok(())
+    let test = Test::new(&rt);
+    check(&test, check_equal_tables(&test).is_ok(), "memory for steps");
+    test.end()
 }
 
 type Three = [Result<u32, BuildError>; 3];
@@ -87,13 +86,6 @@ fn write_three(builder: &mut Builder, letters: &str, wide: bool) -> Three {
     ]
 }
 
-fn are_at(three: Three, want: [u32; 3]) -> bool {
-    let [text, bytes, table] = three;
-    matches!(text, Ok(at) if at == want[0])
-        && matches!(bytes, Ok(at) if at == want[1])
-        && matches!(table, Ok(at) if at == want[2])
-}
-
 // With one more of a kind, its cache is used.
 const OTHERS: [&str; 15] = [
     "",
@@ -113,39 +105,51 @@ const OTHERS: [&str; 15] = [
     "abcdefghijklmn",
 ];
 
-fn have_others(builder: &mut Builder, len: usize) -> bool {
+fn check_others(test: &Test<'_>, builder: &mut Builder, len: usize) {
     for letters in OTHERS {
-        if text_at(builder, letters).is_err() || bytes_at(builder, letters).is_err() {
-            return false;
-        }
+        check(test, text_at(builder, letters).is_ok(), letters);
+        check(test, bytes_at(builder, letters).is_ok(), letters);
     }
-    builder.len() == len
+    check_eq(test, &builder.len(), &len, "the bytes with all others");
 }
 
-fn is_refused(at: Result<u32, BuildError>) -> bool {
-    at == Err(BuildError::OutOfMemory)
-}
+const REFUSED: Result<u32, BuildError> = Err(BuildError::OutOfMemory);
 
-fn only_equal_contents_are_found(builder: &mut Builder, before: &[u8]) -> bool {
+// Only equal contents are found.
+fn check_found(test: &Test<'_>, builder: &mut Builder, before: &[u8]) {
     let room = builder.room();
-    is_refused(text_at(builder, "Hi"))
-        && is_refused(bytes_at(builder, "Hi"))
-        && have_others(builder, 424)
-        && builder.as_slice() == before
-        && builder.room() == room
-        && are_at(write_three(builder, "Axe", false), [8, 16, 432])
+    check_eq(test, &text_at(builder, "Hi"), &REFUSED, "a refused string");
+    check_eq(
+        test,
+        &bytes_at(builder, "Hi"),
+        &REFUSED,
+        "a refused byte vector",
+    );
+    check_others(test, builder, 424);
+    check_bytes(test, builder.as_slice(), before, "the bytes after refusals");
+    check_eq(test, &builder.room(), &room, "the room after refusals");
+    let three = write_three(builder, "Axe", false);
+    check_eq(
+        test,
+        &three,
+        &[Ok(8), Ok(16), Ok(432)],
+        "three that are found",
+    );
 }
 
-fn found_without_memory(
-    alloc: Global,
+// Returns whether all memory was taken.
+fn check_without_memory(
+    test: &Test<'_>,
     builder: &mut Builder,
     before: &[u8],
-) -> Result<Option<bool>, AllocError> {
-    let mut held: Vec<Vec<u8>> = Vec::with_capacity(alloc, 262144)?;
-    let exhausted = exhaust(alloc, &mut held)?;
-    let found = only_equal_contents_are_found(builder, before);
+) -> Result<bool, AllocError> {
+    let mut held: Vec<Vec<u8>> = Vec::with_capacity(test.alloc(), 262144)?;
+    let exhausted = exhaust(test.alloc(), &mut held)?;
+    if exhausted {
+        check_found(test, builder, before);
+    }
     drop(held);
-    Ok(if exhausted { Some(found) } else { None })
+    Ok(exhausted)
 }
 
 // In reverse order. The second of the three tables has the vtable of the first.
@@ -153,36 +157,50 @@ const IN_FRONT: &[u8] = b"\xf8\xff\xff\xff\x07\0\0\0\x08\0\x08\0\0\0\x04\0\
     \x02\0\0\0Hi\0\0\x02\0\0\0Hi\0\0\
     \x68\xfe\xff\xff\x07\0\0\0";
 
-fn written_again(builder: &mut Builder, before: &[u8]) -> bool {
-    are_at(write_three(builder, "Hi", true), [440, 448, 464])
-        && have_others(builder, 464)
-        && builder.as_slice().starts_with(IN_FRONT)
-        && builder.as_slice().ends_with(before)
+fn check_again(test: &Test<'_>, builder: &mut Builder, before: &[u8]) {
+    let three = write_three(builder, "Hi", true);
+    check_eq(
+        test,
+        &three,
+        &[Ok(440), Ok(448), Ok(464)],
+        "three with memory again",
+    );
+    check_others(test, builder, 464);
+    check(
+        test,
+        builder.as_slice().starts_with(IN_FRONT),
+        "what is in front",
+    );
+    check(
+        test,
+        builder.as_slice().ends_with(before),
+        "what was before",
+    );
 }
 
-fn entries_are_refused(alloc: Global, builder: &mut Builder) -> Result<Option<bool>, AllocError> {
-    let first = are_at(write_three(builder, "Axe", false), [8, 16, 32]);
-    let others = have_others(builder, 424);
-    let before = Vec::from_slice(alloc, builder.as_slice())?;
-    match found_without_memory(alloc, builder, before.as_slice())? {
-        Some(found) => {
-            let written = written_again(builder, before.as_slice());
-            Ok(Some(first && others && found && written))
-        }
-        None => Ok(None),
+fn check_entries(test: &Test<'_>, builder: &mut Builder) -> Result<(), AllocError> {
+    let three = write_three(builder, "Axe", false);
+    check_eq(test, &three, &[Ok(8), Ok(16), Ok(32)], "the first three");
+    check_others(test, builder, 424);
+    let before = Vec::from_slice(test.alloc(), builder.as_slice())?;
+    if check_without_memory(test, builder, before.as_slice())? {
+        check_again(test, builder, before.as_slice());
+    } else {
+        check_tried(test, None, "entries");
     }
+    Ok(())
 }
 
-fn entries_in_1024_bytes(alloc: Global, caches: Caches) -> Result<Option<bool>, AllocError> {
-    match Builder::with_caches(alloc, 1024, caches) {
-        Ok(mut builder) => entries_are_refused(alloc, &mut builder),
-        Err(_) => Err(AllocError),
-    }
+fn check_in_1024_bytes(test: &Test<'_>, caches: Caches) -> Result<(), BuildError> {
+    let mut builder = Builder::with_caches(test.alloc(), 1024, caches)?;
+    check_entries(test, &mut builder)?;
+    Ok(())
 }
 
 #[test]
 fn entries_with_refused_memory(rt: HostRuntime) -> Result<(), Fail> {
-    let refused = entries_in_1024_bytes(rt.alloc(), CacheSettings::of(7).caches(0))?;
-    check(&rt, holds_or_says(&rt, refused)?, "refused entries");
-    Ok(())
+    let test = Test::new(&rt);
+    let done = check_in_1024_bytes(&test, CacheSettings::of(7).caches(0));
+    check_done(&test, done, "a builder of 1024 bytes");
+    test.end()
 }

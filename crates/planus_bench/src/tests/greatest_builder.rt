@@ -1,55 +1,72 @@
 use super::caches::text_at;
 use super::parts::{Repeated, finish_last};
-use crate::tests::check;
 use planus::{BuildError, Builder};
-use std::alloc::Global;
+use planus_testing::{Test, check, check_done, check_eq};
 use std::test::Fail;
 
 const GREATEST: usize = 2147483647;
 
-fn fills(builder: &mut Builder) -> bool {
-    builder
-        .write_with(GREATEST - 4, 0, &Repeated { byte: 7 })
-        .is_ok()
-        && finish_last(builder).is_ok()
+fn fill(builder: &mut Builder) -> Result<(), BuildError> {
+    builder.write_with(GREATEST - 4, 0, &Repeated { byte: 7 })?;
+    finish_last(builder)?;
+    Ok(())
 }
 
-fn is_full(builder: &Builder) -> bool {
+fn check_full(test: &Test<'_>, builder: &Builder, row: &str) {
     let bytes = builder.as_slice();
-    bytes.len() == GREATEST
-        && bytes.starts_with(b"\x04\0\0\0\x07\x07")
-        && bytes.ends_with(b"\x07\x07\x07\x07")
-        && builder.room() == 0
+    check_eq(test, &bytes.len(), &GREATEST, row);
+    check_eq(test, &builder.room(), &0, row);
+    check(test, bytes.starts_with(b"\x04\0\0\0\x07\x07"), row);
+    check(test, bytes.ends_with(b"\x07\x07\x07\x07"), row);
 }
 
-fn no_more_is_written(builder: &mut Builder) -> bool {
-    let root = builder.current_offset::<()>();
-    builder.write_with(1, 0, &Repeated { byte: 8 }) == Err(BuildError::TooLarge)
-        && matches!(builder.create_string(""), Err(BuildError::TooLarge))
-        && matches!(builder.finish(root, None), Err(BuildError::TooLarge))
-        && builder.write_with(0, 0, &Repeated { byte: 8 }) == Ok(())
-        && is_full(builder)
+fn finish_again(builder: &mut Builder) -> Result<usize, BuildError> {
+    Ok(finish_last(builder)?.len())
 }
 
-fn is_filled(builder: &mut Builder) -> bool {
-    let full = fills(builder) && is_full(builder) && no_more_is_written(builder);
+fn check_no_more(test: &Test<'_>, builder: &mut Builder) {
+    let one = builder.write_with(1, 0, &Repeated { byte: 8 });
+    let none = builder.write_with(0, 0, &Repeated { byte: 8 });
+    check_eq(test, &one, &Err(BuildError::TooLarge), "one byte more");
+    check_eq(
+        test,
+        &text_at(builder, ""),
+        &Err(BuildError::TooLarge),
+        "a string more",
+    );
+    check_eq(
+        test,
+        &finish_again(builder),
+        &Err(BuildError::TooLarge),
+        "a finish more",
+    );
+    check_eq(test, &none, &Ok(()), "no byte more");
+    check_full(test, builder, "full as before");
+}
+
+fn check_filled(test: &Test<'_>, builder: &mut Builder) -> Result<(), BuildError> {
+    fill(builder)?;
+    check_full(test, builder, "full");
+    check_no_more(test, builder);
     builder.clear();
-    full && text_at(builder, "Axe") == Ok(8) && builder.room() == GREATEST - 8
-}
-
-fn new_is_filled(alloc: Global) -> Option<bool> {
-    match Builder::with_capacity(alloc, GREATEST) {
-        Ok(mut builder) => Some(is_filled(&mut builder)),
-        Err(_) => None,
-    }
+    check_eq(test, &text_at(builder, "Axe"), &Ok(8), "after a clear");
+    check_eq(
+        test,
+        &builder.room(),
+        &(GREATEST - 8),
+        "the room after a clear",
+    );
+    Ok(())
 }
 
 #[test]
 fn the_greatest_number_of_bytes(rt: HostRuntime) -> Result<(), Fail> {
-    let filled = new_is_filled(rt.alloc());
-    if filled.is_none() {
-        println!(rt; "there is no memory for it: this test does not apply")?;
+    let test = Test::new(&rt);
+    match Builder::with_capacity(rt.alloc(), GREATEST) {
+        Ok(mut builder) => check_done(&test, check_filled(&test, &mut builder), "a builder"),
+        Err(_) => {
+            let _ = println!(rt; "there is no memory for it: this test does not apply");
+        }
     }
-    check(&rt, filled != Some(false), "a filled builder");
-    Ok(())
+    test.end()
 }

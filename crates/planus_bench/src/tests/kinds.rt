@@ -8,6 +8,8 @@ use planus::{
     TableReadUnionVector, VectorReadInner, VectorReadUnion,
 };
 use planus_read::errors::ErrorKind;
+use planus_testing::{Test, check_eq};
+use std::fmt::Debug;
 
 // Returns where it was to read, counted from the buffer's start.
 #[derive(Clone, Copy)]
@@ -29,6 +31,21 @@ pub fn position(place: Place<'_>) -> usize {
         Ok(Spotted(at)) => at,
         Err(_) => usize::MAX,
     }
+}
+
+pub fn check_slot<'a, T: TableRead<'a> + PartialEq + Debug + Drop>(
+    test: &Test<'_>,
+    table: Table<'a>,
+    slot: usize,
+    want: Option<T>,
+    row: &str,
+) {
+    check_eq(
+        test,
+        &table.access::<T>(slot, "Table", "field"),
+        &Ok(want),
+        row,
+    );
 }
 
 pub fn slot_has<'a, T: TableRead<'a> + PartialEq + Drop>(

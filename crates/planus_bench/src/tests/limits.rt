@@ -6,19 +6,16 @@ ghost use Rattle.planus_back.proofs.Multiples.{divides_multiple};
 ghost use Rattle.planus_read.specs.Values.{plain};
 ghost use Rattle.planus_write.specs.lemmas.FieldItemLaws.{plain_is_item};
 
-use super::agreement::same_kind;
-use super::kinds::{Pair, slot_has};
-use super::new_builder;
+use super::kinds::{Pair, check_slot};
 use super::tables::One;
-use crate::tests::check;
 use planus::table_reader::Table;
 use planus::{
-    BuildError, Builder, Primitive, SliceWithStartOffset, TableWriter, TaggedPlace,
+    BuildError, Builder, Caches, Primitive, SliceWithStartOffset, TableWriter, TaggedPlace,
     WriteAsPrimitive,
 };
 use planus_back::{Promises, TooLarge};
 use planus_read::errors::ErrorKind;
-use std::alloc::Global;
+use planus_testing::{Test, check, check_bytes, check_eq, in_builder};
 use std::marker::PhantomData;
 use std::test::Fail;
 
@@ -75,36 +72,40 @@ fn put_largest<'b>(builder: &'b mut Builder, field: Bytes<'_>) -> Result<&'b [u8
     builder.finish(root, None)
 }
 
-fn stands_largest(bytes: &[u8], item: &[u8]) -> bool {
-    bytes.len() == 65546
-        && bytes.starts_with(b"\x04\0\0\0\0\0\xff\xff")
-        && bytes[8..].starts_with(item)
-        && bytes.ends_with(b"\0\x06\0\xff\xff\x04\0")
+fn check_largest_bytes(test: &Test<'_>, bytes: &[u8], item: &[u8]) {
+    check_eq(test, &bytes.len(), &65546, "the largest table's bytes");
+    check(
+        test,
+        bytes.starts_with(b"\x04\0\0\0\0\0\xff\xff"),
+        "its front",
+    );
+    check(
+        test,
+        bytes.ends_with(b"\0\x06\0\xff\xff\x04\0"),
+        "its vtable",
+    );
+    match bytes.get(8..65539) {
+        Some(object) => check_bytes(test, object, item, "its object"),
+        None => check(test, false, "its object"),
+    }
 }
 
-fn the_largest_object_is_written(builder: &mut Builder, item: &[u8]) -> bool {
+fn check_largest(test: &Test<'_>, builder: &mut Builder) -> Result<(), BuildError> {
+    let item = vec![in test.alloc(); 0xa5; 65531]?;
+    let item = item.as_slice();
     if item.len() != 65531 {
-        return false;
+        check_eq(test, &item.len(), &65531, "the largest object");
+        return Ok(());
     }
-    match put_largest(builder, Bytes { bytes: item }) {
-        Ok(bytes) => stands_largest(bytes, item),
-        Err(_) => false,
-    }
-}
-
-fn the_largest_object_is_written_in(alloc: Global, item: &[u8]) -> bool {
-    match new_builder(alloc) {
-        Ok(mut builder) => the_largest_object_is_written(&mut builder, item),
-        Err(_) => false,
-    }
+    check_largest_bytes(test, put_largest(builder, Bytes { bytes: item })?, item);
+    Ok(())
 }
 
 #[test]
 fn the_largest_object(rt: HostRuntime) -> Result<(), Fail> {
-    let item = vec![in rt.alloc(); 0xa5; 65531]?;
-    let written = the_largest_object_is_written_in(rt.alloc(), item.as_slice());
-    check(&rt, written, "the largest object is written");
-    Ok(())
+    let test = Test::new(&rt);
+    in_builder(&test, Caches::all(), check_largest);
+    test.end()
 }
 
 fn put_greatest_slot(builder: &mut Builder) -> Result<&[u8], BuildError> {
@@ -122,74 +123,84 @@ fn put_greatest_slot(builder: &mut Builder) -> Result<&[u8], BuildError> {
     builder.finish(root, None)
 }
 
-fn reads_greatest_slot(bytes: &[u8]) -> bool {
+fn check_slots(test: &Test<'_>, bytes: &[u8]) {
     match Table::from_buffer(SliceWithStartOffset::new(bytes, 0), 0) {
-        Ok(table) => { slot_has(table, 32764, Some(5u8)) && slot_has::<u8>(table, 32765, None) }
-        Err(_) => false,
-    }
-}
-
-fn the_greatest_slot_is_written(builder: &mut Builder) -> bool {
-    match put_greatest_slot(builder) {
-        Ok(bytes) => {
-            bytes.len() == 65544
-                && bytes.starts_with(b"\x04\0\0\0\xfa\xff\xff\xff\x05\0\xfe\xff\x05\0")
-                && reads_greatest_slot(bytes)
+        Ok(table) => {
+            check_slot(test, table, 32764, Some(5u8), "the greatest slot");
+            check_slot::<u8>(test, table, 32765, None, "the slot behind it");
         }
-        Err(_) => false,
+        Err(kind) => check_eq(test, &Some(kind), &None, "a table of 32765 slots"),
     }
 }
 
-fn the_greatest_slot_is_written_in(alloc: Global) -> bool {
-    match new_builder(alloc) {
-        Ok(mut builder) => the_greatest_slot_is_written(&mut builder),
-        Err(_) => false,
-    }
+fn check_greatest_slot(test: &Test<'_>, builder: &mut Builder) -> Result<(), BuildError> {
+    let front = b"\x04\0\0\0\xfa\xff\xff\xff\x05\0\xfe\xff\x05\0";
+    let bytes = put_greatest_slot(builder)?;
+    check_eq(test, &bytes.len(), &65544, "a table of 32765 slots");
+    check(test, bytes.starts_with(front), "its front");
+    check_slots(test, bytes);
+    Ok(())
 }
 
 #[test]
-fn the_greatest_slot(rt: HostRuntime) {
-    let written = the_greatest_slot_is_written_in(rt.alloc());
-    check(&rt, written, "the greatest slot is written");
+fn the_greatest_slot(rt: HostRuntime) -> Result<(), Fail> {
+    let test = Test::new(&rt);
+    in_builder(&test, Caches::all(), check_greatest_slot);
+    test.end()
 }
 
 const NUMBER: [u8; 16] = [4, 0, 0, 0, 0xfa, 0xff, 0xff, 0xff, 24, 0, 6, 0, 6, 0, 4, 0];
 
-fn slot_is_none(table: Table<'_>, slot: usize) -> bool {
-    slot_has::<u16>(table, slot, None)
-        && matches!(
-            table.access_union::<TaggedPlace<'_>>(slot, "T", "m"),
-            Ok(None)
-        )
-        && matches!(
-            table.access_union_vector::<Pair<'_>>(slot, "T", "m"),
-            Ok(None)
-        )
+fn has_no_union(table: Table<'_>, slot: usize) -> bool {
+    matches!(
+        table.access_union::<TaggedPlace<'_>>(slot, "T", "m"),
+        Ok(None)
+    )
 }
 
-fn far_slot_is_none(slot: usize) -> bool {
+fn has_no_unions(table: Table<'_>, slot: usize) -> bool {
+    matches!(
+        table.access_union_vector::<Pair<'_>>(slot, "T", "m"),
+        Ok(None)
+    )
+}
+
+fn check_far_slot(test: &Test<'_>, slot: usize, row: &str) {
     match Table::from_buffer(SliceWithStartOffset::new(&NUMBER, 0), 0) {
-        Ok(table) => slot_has(table, 0, Some(24u16)) && slot_is_none(table, slot),
-        Err(_) => false,
+        Ok(table) => {
+            check_slot(test, table, 0, Some(24u16), "the first slot");
+            check_slot::<u16>(test, table, slot, None, row);
+            check(test, has_no_union(table, slot), row);
+            check(test, has_no_unions(table, slot), row);
+        }
+        Err(kind) => check_eq(test, &Some(kind), &None, row),
     }
 }
 
 #[test]
-fn slots_far_behind_a_vtable(rt: HostRuntime) {
+fn slots_far_behind_a_vtable(rt: HostRuntime) -> Result<(), Fail> {
+    let test = Test::new(&rt);
     let half = usize::MAX / 2;
-    check(&rt, far_slot_is_none(usize::MAX), "the last slot");
-    check(&rt, far_slot_is_none(half), "half of it");
-    check(&rt, far_slot_is_none(half + 1), "half of it and one");
+    check_far_slot(&test, usize::MAX, "the last slot");
+    check_far_slot(&test, half, "half of it");
+    check_far_slot(&test, half + 1, "half of it and one");
+    test.end()
+}
+
+fn padding(size: usize) -> Result<usize, TooLarge> {
+    match Promises::new().request(2147483647, size, 0) {
+        Ok((_, padding)) => Ok(padding),
+        Err(TooLarge) => Err(TooLarge),
+    }
 }
 
 // At the greatest place there is no room for one more byte.
 #[test]
-fn promises_at_the_greatest_place(rt: HostRuntime) {
-    let promises = Promises::new();
-    let none = promises.request(2147483647, 0, 0);
-    let one = promises.request(2147483647, 1, 0);
-    check(&rt, matches!(none, Ok((_, 0))), "no byte");
-    check(&rt, matches!(one, Err(TooLarge)), "one byte");
+fn promises_at_the_greatest_place(rt: HostRuntime) -> Result<(), Fail> {
+    let test = Test::new(&rt);
+    check_eq(&test, &padding(0), &Ok(0), "no byte");
+    check_eq(&test, &padding(1), &Err(TooLarge), "one byte");
+    test.end()
 }
 
 // The weapon Axe with one byte changed.
@@ -202,37 +213,40 @@ fn weapon(at: usize, byte: u8) -> [u8; 32] {
     bytes
 }
 
-fn root_fails(bytes: &[u8], kind: ErrorKind) -> bool {
-    match Table::from_buffer(SliceWithStartOffset::new(bytes, 0), 0) {
-        Ok(_) => false,
-        Err(read) => same_kind(read, kind),
-    }
+fn root_error(bytes: &[u8]) -> Option<ErrorKind> {
+    Table::from_buffer(SliceWithStartOffset::new(bytes, 0), 0).err()
 }
 
 #[test]
-fn damaged_roots_of_a_weapon(rt: HostRuntime) {
-    for (at, byte, kind) in [
-        (0, 0x20, ErrorKind::InvalidOffset),
-        (0, 0x21, ErrorKind::InvalidOffset),
-        (4, 0xf5, ErrorKind::InvalidLength),
-        (7, 0x00, ErrorKind::InvalidOffset),
-        (16, 0x09, ErrorKind::InvalidVtableLength { length: 9 }),
+fn damaged_roots_of_a_weapon(rt: HostRuntime) -> Result<(), Fail> {
+    let test = Test::new(&rt);
+    for (at, byte, kind, row) in [
+        (0, 0x20, ErrorKind::InvalidOffset, "byte 0 made 0x20"),
+        (0, 0x21, ErrorKind::InvalidOffset, "byte 0 made 0x21"),
+        (4, 0xf5, ErrorKind::InvalidLength, "byte 4 made 0xf5"),
+        (7, 0x00, ErrorKind::InvalidOffset, "byte 7 made 0"),
+        (
+            16,
+            0x09,
+            ErrorKind::InvalidVtableLength { length: 9 },
+            "byte 16 made 9",
+        ),
     ] {
-        assert!(rt;
-            root_fails(&weapon(at, byte), kind),
-            "byte {at} made {byte}"
-        );
+        check_eq(&test, &root_error(&weapon(at, byte)), &Some(kind), row);
     }
-}
-
-fn has_a_name_alone(bytes: &[u8]) -> bool {
-    match Table::from_buffer(SliceWithStartOffset::new(bytes, 0), 0) {
-        Ok(weapon) => { slot_has(weapon, 0, Some("Axe")) && slot_has::<i16>(weapon, 1, None) }
-        Err(_) => false,
-    }
+    test.end()
 }
 
 #[test]
-fn a_weapon_with_a_shorter_vtable(rt: HostRuntime) {
-    check(&rt, has_a_name_alone(&weapon(16, 0x06)), "has a name alone");
+fn a_weapon_with_a_shorter_vtable(rt: HostRuntime) -> Result<(), Fail> {
+    let test = Test::new(&rt);
+    let bytes = weapon(16, 0x06);
+    match Table::from_buffer(SliceWithStartOffset::new(&bytes, 0), 0) {
+        Ok(weapon) => {
+            check_slot(&test, weapon, 0, Some("Axe"), "the name");
+            check_slot::<i16>(&test, weapon, 1, None, "the damage");
+        }
+        Err(kind) => check_eq(&test, &Some(kind), &None, "a weapon"),
+    }
+    test.end()
 }

@@ -1,11 +1,11 @@
 use super::plain_run::plain_run;
 use super::runs::{
-    Named, add, add_field, add_finish, are_same, bytes, counts, list, refs, table, text,
+    Named, add, add_field, add_finish, bytes, check_same, counts, list, refs, table, text,
     two_references, unions,
 };
 use super::settings::CacheSettings;
-use crate::tests::check;
 use planus::{Caches, Field, FieldValue, Finished, ReplayError, Step, Why, replay};
+use planus_testing::{Test, check_eq};
 use std::alloc::{AllocError, Global};
 use std::test::Fail;
 
@@ -106,55 +106,55 @@ fn long_steps(alloc: Global) -> Result<Vec<Step>, AllocError> {
     Ok(steps)
 }
 
-fn gives(alloc: Global, caches: Caches, steps: &[Step], want: &[Finished]) -> bool {
-    match replay(alloc, caches, steps) {
-        Ok(got) => are_same(got.as_slice(), want),
-        Err(_) => false,
+fn check_replay(test: &Test<'_>, caches: Caches, steps: &[Step], want: &[Finished]) {
+    match replay(test.alloc(), caches, steps) {
+        Ok(got) => check_same(test, got.as_slice(), want, "a replay"),
+        Err(error) => check_eq(test, &Some(error), &None, "a replay"),
     }
 }
 
-fn replays_agree(alloc: Global, steps: &[Step]) -> Result<bool, Fail> {
+fn check_replays(test: &Test<'_>, steps: &[Step]) -> Result<(), Fail> {
     let settings = CacheSettings::of(7);
-    let want = plain_run(alloc, settings, steps)?;
+    let want = plain_run(test.alloc(), settings, steps)?;
     for mask in [0, 1, 2, 0xff, 1 << 63, u64::MAX] {
-        if !gives(alloc, settings.caches(mask), steps, want.as_slice()) {
-            return Ok(false);
-        }
+        check_replay(test, settings.caches(mask), steps, want.as_slice());
     }
-    Ok(true)
-}
-
-fn stops_at_the_last(alloc: Global, steps: &[Step], last: usize) -> bool {
-    match replay(alloc, Caches::all(), steps) {
-        Err(error) => {
-            error
-                == ReplayError::BadStep {
-                    step: last,
-                    why: Why::NoSuchStep,
-                }
-        }
-        Ok(_) => false,
-    }
+    Ok(())
 }
 
 fn push_bad_finish(steps: &mut Vec<Step>) -> Result<(), AllocError> {
     add_finish(steps, usize::MAX)
 }
 
-fn long_replays_agree(alloc: Global, steps: &mut Vec<Step>) -> Result<[bool; 3], Fail> {
-    let counted = steps.len() == 20010 && counts(steps.as_slice()) == (300, 300, 7, 1);
-    let agree = replays_agree(alloc, steps.as_slice())?;
+fn check_last(test: &Test<'_>, steps: &[Step], last: usize) {
+    let want = ReplayError::BadStep {
+        step: last,
+        why: Why::NoSuchStep,
+    };
+    let error = replay(test.alloc(), Caches::all(), steps).err();
+    check_eq(test, &error, &Some(want), "the last step");
+}
+
+fn check_long_steps(test: &Test<'_>, steps: &mut Vec<Step>) -> Result<(), Fail> {
+    check_eq(test, &steps.len(), &20010, "the steps");
+    check_eq(
+        test,
+        &counts(steps.as_slice()),
+        &(300, 300, 7, 1),
+        "their kinds",
+    );
+    check_replays(test, steps.as_slice())?;
     push_bad_finish(steps)?;
-    let stops = stops_at_the_last(alloc, steps.as_slice(), 20010);
-    Ok([counted, agree, stops])
+    check_last(test, steps.as_slice(), 20010);
+    Ok(())
 }
 
 #[test]
 fn a_run_of_20010_steps(rt: HostRuntime) -> Result<(), Fail> {
     let mut steps = long_steps(rt.alloc())?;
-    let found = long_replays_agree(rt.alloc(), &mut steps)?;
-    assert!(rt; found == [true; 3], "{found:?}");
-    Ok(())
+    let test = Test::new(&rt);
+    let done = check_long_steps(&test, &mut steps);
+    test.end_of(done)
 }
 
 fn push_long_values(alloc: Global, steps: &mut Vec<Step>) -> Result<(), AllocError> {
@@ -173,10 +173,7 @@ fn long_values(alloc: Global) -> Result<Vec<Step>, AllocError> {
 #[test]
 fn values_of_100003_items(rt: HostRuntime) -> Result<(), Fail> {
     let steps = long_values(rt.alloc())?;
-    check(
-        &rt,
-        replays_agree(rt.alloc(), steps.as_slice())?,
-        "long values",
-    );
-    Ok(())
+    let test = Test::new(&rt);
+    let done = check_replays(&test, steps.as_slice());
+    test.end_of(done)
 }

@@ -1,12 +1,12 @@
 //! Thousands of different contents of each kind, each written twice.
 
 use super::caches::text_at;
-use super::new_builder;
 use super::runs::{add, add_field, add_finish};
 use super::settings::Kind;
-use planus::{Builder, Caches, Field, FieldValue, Step, StepPlace, replay};
+use planus::{BuildError, Builder, Caches, Field, FieldValue, Step, StepPlace, replay};
+use planus_testing::{Test, check, check_eq, in_builder};
 use std::alloc::{AllocError, Global};
-use std::process::Abort;
+use std::test::Fail;
 
 fn letters(alloc: Global, number: usize) -> Result<String, AllocError> {
     let number = number.saturating_add(1000000);
@@ -72,130 +72,128 @@ fn values_twice(alloc: Global, kind: Kind, count: usize) -> Result<Vec<Step>, Al
 // The first value's distance, and the distance between neighbours.
 type Stands = (usize, usize);
 
-fn stand(places: &[StepPlace], (first, apart): Stands) -> bool {
+fn check_places(test: &Test<'_>, places: &[StepPlace], (first, apart): Stands, row: &str) {
     let mut distance = first;
     for place in places {
-        if place.distance as usize != distance {
-            return false;
-        }
+        check_eq(test, &(place.distance as usize), &distance, row);
         distance = distance.wrapping_add(apart);
     }
-    true
 }
 
-fn all_stand(places: &[StepPlace], count: usize, want: [Stands; 2]) -> bool {
+fn check_halves(test: &Test<'_>, places: &[StepPlace], count: usize, want: [Stands; 2]) {
     let [first, second] = want;
     match (places.get(..count), places.get(count..)) {
         (Some(new), Some(again)) => {
-            again.len() == count && stand(new, first) && stand(again, second)
+            check_eq(
+                test,
+                &again.len(),
+                &count,
+                "the values that are written again",
+            );
+            check_places(test, new, first, "a new value");
+            check_places(test, again, second, "a value again");
         }
-        _ => false,
+        _ => check_eq(test, &places.len(), &count, "the values"),
     }
 }
 
-fn steps_stand(
-    alloc: Global,
-    steps: &[Step],
-    hash_mask: u64,
-    count: usize,
-    want: [Stands; 2],
-) -> bool {
+fn check_steps(test: &Test<'_>, steps: &[Step], hash_mask: u64, count: usize, want: [Stands; 2]) {
     let caches = Caches {
         hash_mask,
         ..Caches::all()
     };
-    match replay(alloc, caches, steps) {
-        Ok(finished) => matches!(
-            finished.as_slice(),
-            [one] if all_stand(one.places.as_slice(), count, want)
-        ),
-        Err(_) => false,
+    match replay(test.alloc(), caches, steps) {
+        Ok(finished) => match finished.as_slice() {
+            [one] => check_halves(test, one.places.as_slice(), count, want),
+            all => check_eq(test, &all.len(), &1, "the finishes"),
+        },
+        Err(error) => check_eq(test, &Some(error), &None, "a replay"),
     }
 }
 
-fn are_found_again(
-    alloc: Global,
+fn check_values(
+    test: &Test<'_>,
     kind: Kind,
     hash_mask: u64,
     count: usize,
     want: [Stands; 2],
-) -> bool {
-    match values_twice(alloc, kind, count) {
-        Ok(steps) => steps_stand(alloc, steps.as_slice(), hash_mask, count, want),
-        Err(_) => false,
-    }
+) -> Result<(), AllocError> {
+    let steps = values_twice(test.alloc(), kind, count)?;
+    check_steps(test, steps.as_slice(), hash_mask, count, want);
+    Ok(())
 }
 
 // With none of a hash's bits all contents are compared.
-fn each_mask_finds(rt: &impl Abort, alloc: Global, kind: Kind, want: [Stands; 2]) {
+fn check_masks(test: &Test<'_>, kind: Kind, want: [Stands; 2], row: &str) {
     for mask in [u64::MAX, 0] {
-        let found = are_found_again(alloc, kind, mask, 5003, want);
-        assert!(rt; found, "with {mask}");
+        check(
+            test,
+            check_values(test, kind, mask, 5003, want).is_ok(),
+            row,
+        );
     }
 }
 
 // A string is its count, seven letters and a zero; a byte vector is its count and eight bytes.
 #[test]
-fn texts_and_byte_lists_are_found_again(rt: HostRuntime) {
+fn texts_and_byte_lists_are_found_again(rt: HostRuntime) -> Result<(), Fail> {
+    let test = Test::new(&rt);
     let want = [(12, 12), (12, 12)];
-    each_mask_finds(&rt, rt.alloc(), Kind::Text, want);
-    each_mask_finds(&rt, rt.alloc(), Kind::Bytes, want);
+    check_masks(&test, Kind::Text, want, "memory for strings");
+    check_masks(&test, Kind::Bytes, want, "memory for byte vectors");
+    test.end()
 }
 
 // A vtable has 292 bytes. A table before it takes seven, and one of padding.
 #[test]
-fn vtables_are_found_again(rt: HostRuntime) {
+fn vtables_are_found_again(rt: HostRuntime) -> Result<(), Fail> {
+    let test = Test::new(&rt);
     let want = [(300, 300), (1500908, 8)];
-    each_mask_finds(&rt, rt.alloc(), Kind::Vtable, want);
+    check_masks(&test, Kind::Vtable, want, "memory for tables");
+    test.end()
 }
 
-fn text_is_at(builder: &mut Builder, letters: &str, distance: usize) -> bool {
-    match text_at(builder, letters) {
-        Ok(at) => at as usize == distance,
-        Err(_) => false,
-    }
+fn check_text(
+    test: &Test<'_>,
+    builder: &mut Builder,
+    letters: &str,
+    distance: usize,
+) -> Result<(), BuildError> {
+    let found = text_at(builder, letters)?;
+    check_eq(test, &(found as usize), &distance, letters);
+    Ok(())
 }
 
-fn letters_are_at(alloc: Global, builder: &mut Builder, number: usize, distance: usize) -> bool {
-    match letters(alloc, number) {
-        Ok(letters) => text_is_at(builder, letters.as_str(), distance),
-        Err(_) => false,
-    }
+fn check_number(
+    test: &Test<'_>,
+    builder: &mut Builder,
+    number: usize,
+    distance: usize,
+) -> Result<(), BuildError> {
+    let letters = letters(test.alloc(), number)?;
+    check_text(test, builder, letters.as_str(), distance)
 }
 
-fn texts_stand(alloc: Global, builder: &mut Builder, count: usize) -> bool {
+fn check_texts(test: &Test<'_>, builder: &mut Builder, count: usize) -> Result<(), BuildError> {
     for number in 0..count {
         let distance = number.saturating_add(1).saturating_mul(12);
-        if !letters_are_at(alloc, builder, number, distance) {
-            return false;
-        }
+        check_number(test, builder, number, distance)?;
     }
-    true
+    Ok(())
 }
 
-fn texts_are_found(alloc: Global, builder: &mut Builder, count: usize) -> bool {
-    builder.clear();
-    texts_stand(alloc, builder, count) && texts_stand(alloc, builder, count)
-}
-
-fn first_count_that_fails(alloc: Global, builder: &mut Builder) -> Option<usize> {
+fn check_counts(test: &Test<'_>, builder: &mut Builder) -> Result<(), BuildError> {
     for count in [5003, 3, 5, 5003, 3] {
-        if !texts_are_found(alloc, builder, count) {
-            return Some(count);
-        }
+        builder.clear();
+        check_texts(test, builder, count)?;
+        check_texts(test, builder, count)?;
     }
-    None
-}
-
-fn first_count_in(alloc: Global) -> Option<usize> {
-    match new_builder(alloc) {
-        Ok(mut builder) => first_count_that_fails(alloc, &mut builder),
-        Err(_) => Some(0),
-    }
+    Ok(())
 }
 
 #[test]
-fn few_texts_after_many(rt: HostRuntime) {
-    let failed = first_count_in(rt.alloc());
-    assert!(rt; failed.is_none(), "{failed:?} texts");
+fn few_texts_after_many(rt: HostRuntime) -> Result<(), Fail> {
+    let test = Test::new(&rt);
+    in_builder(&test, Caches::all(), check_counts);
+    test.end()
 }

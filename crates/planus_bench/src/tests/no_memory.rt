@@ -1,11 +1,10 @@
 use super::caches::text_at;
-use super::parts::{FOUR_WRITES, last_is, puts_four};
+use super::parts::{FOUR_WRITES, check_last, put_four};
 use super::runs::{add, add_finish, word};
 use super::settings::CacheSettings;
-use crate::tests::check;
 use planus::{BuildError, Builder, Caches, Offset, ReplayError, Step, Text, replay};
 use planus_back::{ByteVec, Cache};
-use planus_testing::{exhaust, holds_or_says};
+use planus_testing::{Test, check, check_bytes, check_done, check_eq, check_tried, exhaust};
 use std::alloc::{AllocError, Global};
 use std::test::Fail;
 
@@ -23,56 +22,65 @@ fn list_is_at(builder: &mut Builder) -> Result<u32, BuildError> {
     }
 }
 
-fn writes_in_its_room(builder: &mut Builder) -> bool {
-    puts_four(builder) && last_is(builder, FOUR_WRITES) && builder.room() == 37
+fn check_its_room(test: &Test<'_>, builder: &mut Builder) -> Result<(), BuildError> {
+    put_four(builder)?;
+    check_last(test, builder, FOUR_WRITES, "four parts in its room");
+    check_eq(test, &builder.room(), &37, "the room that is left");
+    builder.finish("Axe", None)?;
+    Ok(())
 }
+
+const REFUSED: Result<u32, BuildError> = Err(BuildError::OutOfMemory);
 
 // A vector that fits the room fails too, since its prepared items need memory.
-fn goes_on_in_its_room(alloc: Global, builder: &mut Builder) -> bool {
-    let all = b"\x04\0\0\0\x03\0\0\0Axe\0\x05\0\0\0\x000123456ABCDEFGHIJKLMNO".as_slice();
-    new_is_refused(alloc)
-        && writes_in_its_room(builder)
-        && builder.finish("Axe", None).is_ok()
-        && text_at(builder, TEXT) == Err(BuildError::OutOfMemory)
-        && list_is_at(builder) == Err(BuildError::OutOfMemory)
-        && builder.as_slice() == all
-        && builder.room() == 25
+fn check_refusals(test: &Test<'_>, builder: &mut Builder) {
+    let all = b"\x04\0\0\0\x03\0\0\0Axe\0\x05\0\0\0\x000123456ABCDEFGHIJKLMNO";
+    check(test, new_is_refused(test.alloc()), "a new builder");
+    check_done(test, check_its_room(test, builder), "in its room");
+    check_eq(
+        test,
+        &text_at(builder, TEXT),
+        &REFUSED,
+        "a string past its room",
+    );
+    check_eq(test, &list_is_at(builder), &REFUSED, "a vector");
+    check_bytes(test, builder.as_slice(), all, "its bytes after refusals");
+    check_eq(test, &builder.room(), &25, "its room after refusals");
 }
 
-fn builder_without_memory(
-    alloc: Global,
-    builder: &mut Builder,
-) -> Result<Option<bool>, AllocError> {
-    let mut held: Vec<Vec<u8>> = Vec::with_capacity(alloc, 262144)?;
-    let exhausted = exhaust(alloc, &mut held)?;
-    let goes_on = goes_on_in_its_room(alloc, builder);
+// Returns whether all memory was taken.
+fn check_without_memory(test: &Test<'_>, builder: &mut Builder) -> Result<bool, AllocError> {
+    let mut held: Vec<Vec<u8>> = Vec::with_capacity(test.alloc(), 262144)?;
+    let exhausted = exhaust(test.alloc(), &mut held)?;
+    if exhausted {
+        check_refusals(test, builder);
+    }
     drop(held);
-    Ok(if exhausted { Some(goes_on) } else { None })
+    Ok(exhausted)
 }
 
-fn writes_again(builder: &mut Builder) -> bool {
-    text_at(builder, TEXT) == Ok(107) && list_is_at(builder) == Ok(123)
-}
-
-fn goes_on_and_writes(alloc: Global, builder: &mut Builder) -> Result<Option<bool>, AllocError> {
-    match builder_without_memory(alloc, builder)? {
-        Some(goes_on) => Ok(Some(goes_on && writes_again(builder))),
-        None => Ok(None),
+fn check_builder(test: &Test<'_>, builder: &mut Builder) -> Result<(), AllocError> {
+    if check_without_memory(test, builder)? {
+        check_eq(test, &text_at(builder, TEXT), &Ok(107), "the string again");
+        check_eq(test, &list_is_at(builder), &Ok(123), "the vector again");
+    } else {
+        check_tried(test, None, "a builder");
     }
+    Ok(())
 }
 
-fn builder_goes_on(alloc: Global, caches: Caches) -> Result<Option<bool>, AllocError> {
-    match Builder::with_caches(alloc, 64, caches) {
-        Ok(mut builder) => goes_on_and_writes(alloc, &mut builder),
-        Err(_) => Err(AllocError),
-    }
+fn check_in_64_bytes(test: &Test<'_>, caches: Caches) -> Result<(), BuildError> {
+    let mut builder = Builder::with_caches(test.alloc(), 64, caches)?;
+    check_builder(test, &mut builder)?;
+    Ok(())
 }
 
 #[test]
 fn a_builder_with_refused_memory(rt: HostRuntime) -> Result<(), Fail> {
-    let goes_on = builder_goes_on(rt.alloc(), CacheSettings::of(0).caches(0))?;
-    check(&rt, holds_or_says(&rt, goes_on)?, "a builder");
-    Ok(())
+    let test = Test::new(&rt);
+    let done = check_in_64_bytes(&test, CacheSettings::of(0).caches(0));
+    check_done(&test, done, "a builder of 64 bytes");
+    test.end()
 }
 
 fn push_text(alloc: Global, steps: &mut Vec<Step>) -> Result<(), AllocError> {
@@ -80,42 +88,45 @@ fn push_text(alloc: Global, steps: &mut Vec<Step>) -> Result<(), AllocError> {
     add_finish(steps, 0)
 }
 
-fn replay_is_refused(alloc: Global, steps: &[Step]) -> bool {
-    matches!(
-        replay(alloc, Caches::all(), steps),
-        Err(ReplayError::OutOfMemory)
-    )
+fn refusal(alloc: Global, steps: &[Step]) -> Option<ReplayError> {
+    replay(alloc, Caches::all(), steps).err()
 }
 
-fn replay_without_memory(alloc: Global, steps: &[Step]) -> Result<Option<bool>, AllocError> {
+// `None` where memory was left.
+fn refusal_without_memory(
+    alloc: Global,
+    steps: &[Step],
+) -> Result<Option<Option<ReplayError>>, AllocError> {
     let mut held: Vec<Vec<u8>> = Vec::with_capacity(alloc, 262144)?;
     let exhausted = exhaust(alloc, &mut held)?;
-    let refused = replay_is_refused(alloc, steps);
+    let refusal = refusal(alloc, steps);
     drop(held);
-    Ok(if exhausted { Some(refused) } else { None })
+    Ok(if exhausted { Some(refusal) } else { None })
 }
 
-fn replay_goes_on(alloc: Global, steps: &[Step]) -> Result<Option<bool>, AllocError> {
-    match replay_without_memory(alloc, steps)? {
+fn check_replay(test: &Test<'_>) -> Result<(), AllocError> {
+    let mut steps = Vec::new(test.alloc());
+    push_text(test.alloc(), &mut steps)?;
+    match refusal_without_memory(test.alloc(), steps.as_slice())? {
         Some(refused) => {
-            let again = replay(alloc, Caches::all(), steps).is_ok();
-            Ok(Some(refused && again))
+            check_eq(test, &refused, &Some(ReplayError::OutOfMemory), "a replay");
+            check_eq(
+                test,
+                &refusal(test.alloc(), steps.as_slice()),
+                &None,
+                "a replay again",
+            );
         }
-        None => Ok(None),
+        None => check_tried(test, None, "a replay"),
     }
-}
-
-fn replay_of_a_text_goes_on(alloc: Global) -> Result<Option<bool>, AllocError> {
-    let mut steps = Vec::new(alloc);
-    push_text(alloc, &mut steps)?;
-    replay_goes_on(alloc, steps.as_slice())
+    Ok(())
 }
 
 #[test]
 fn a_replay_with_refused_memory(rt: HostRuntime) -> Result<(), Fail> {
-    let refused = replay_of_a_text_goes_on(rt.alloc())?;
-    check(&rt, holds_or_says(&rt, refused)?, "a replay");
-    Ok(())
+    let test = Test::new(&rt);
+    check(&test, check_replay(&test).is_ok(), "memory for steps");
+    test.end()
 }
 
 fn entry_without_memory(
@@ -129,17 +140,19 @@ fn entry_without_memory(
     Ok(if exhausted { Some(refused) } else { None })
 }
 
-fn cache_goes_on(alloc: Global) -> Result<Option<bool>, AllocError> {
-    let mut cache: Cache<ByteVec> = Cache::new(alloc, u64::MAX)?;
-    match entry_without_memory(alloc, &mut cache)? {
-        Some(refused) => Ok(Some(refused && cache.insert(b"Hi", 6).is_ok())),
-        None => Ok(None),
+fn check_cache(test: &Test<'_>) -> Result<(), AllocError> {
+    let mut cache: Cache<ByteVec> = Cache::new(test.alloc(), u64::MAX)?;
+    let refused = entry_without_memory(test.alloc(), &mut cache)?;
+    check_tried(test, refused, "an entry is refused");
+    if refused.is_some() {
+        check(test, cache.insert(b"Hi", 6).is_ok(), "an entry again");
     }
+    Ok(())
 }
 
 #[test]
 fn an_entry_of_a_cache_with_refused_memory(rt: HostRuntime) -> Result<(), Fail> {
-    let refused = cache_goes_on(rt.alloc())?;
-    check(&rt, holds_or_says(&rt, refused)?, "a cache");
-    Ok(())
+    let test = Test::new(&rt);
+    check(&test, check_cache(&test).is_ok(), "memory for a cache");
+    test.end()
 }

@@ -4,10 +4,10 @@ ghost use Rattle.planus_back.specs.Padding.{greatest_place};
 ghost use Rattle.planus_back.specs.Pairs.{period, AlignmentsAboveZero, DistancesWithin};
 
 use super::alignments::mask_of;
-use crate::tests::check;
 use planus_back::Promises;
 use planus_back::plain::least_padding;
-use std::alloc::{AllocError, Global};
+use planus_testing::{Test, check, check_eq};
+use std::alloc::AllocError;
 use std::test::Fail;
 
 fn request(
@@ -58,78 +58,111 @@ fn plainly(
     least_padding(len, promises, size, alignment)
 }
 
-// `None` where the two programs differ.
-fn paddings(alloc: Global, parts: &[(usize, usize)]) -> Result<Option<Vec<usize>>, AllocError> {
-    let mut paddings = Vec::with_capacity(alloc, parts.len())?;
-    let mut pairs: Vec<(usize, usize)> = Vec::with_capacity(alloc, parts.len())?;
+// The paddings of both programs, which must be the same.
+fn check_paddings(
+    test: &Test<'_>,
+    parts: &[(usize, usize)],
+    row: &str,
+) -> Result<Vec<usize>, AllocError> {
+    let mut paddings = Vec::with_capacity(test.alloc(), parts.len())?;
+    let mut pairs: Vec<(usize, usize)> = Vec::with_capacity(test.alloc(), parts.len())?;
     let mut promises = Promises::new();
     let mut len = 0;
     for (size, alignment) in parts {
         let Some((next, padding)) = request(promises, len, *size, *alignment) else {
-            return Ok(None);
+            check(test, false, row);
+            return Ok(paddings);
         };
-        if plainly(len, pairs.as_slice(), *size, *alignment) != Some(padding) {
-            return Ok(None);
-        }
+        let plain = plainly(len, pairs.as_slice(), *size, *alignment);
+        check_eq(test, &Some(padding), &plain, row);
         len += padding + *size;
         pairs.push((len, *alignment))?;
         paddings.push(padding)?;
         promises = next;
     }
-    Ok(Some(paddings))
+    Ok(paddings)
 }
 
-fn pads(alloc: Global, parts: &[(usize, usize)], want: &[usize]) -> Result<bool, AllocError> {
-    match paddings(alloc, parts)? {
-        Some(got) => Ok(got.as_slice() == want),
-        None => Ok(false),
-    }
+fn check_row(
+    test: &Test<'_>,
+    row: &str,
+    parts: &[(usize, usize)],
+    want: &[usize],
+) -> Result<(), AllocError> {
+    let paddings = check_paddings(test, parts, row)?;
+    check_eq(test, &paddings.as_slice(), &want, row);
+    Ok(())
 }
 
-const ROWS: [(&[(usize, usize)], &[usize]); 7] = [
-    // Four writes.
-    (&[(3, 1), (4, 2), (8, 4), (7, 1), (4, 4)], &[0, 0, 0, 0, 1]),
-    // After a clear.
-    (&[(4, 4), (1, 1), (1, 1), (8, 8), (4, 8)], &[0, 0, 0, 2, 4]),
-    // A string and two finishes.
-    (&[(8, 4), (4, 4), (4, 4)], &[0, 0, 0]),
-    // A string, then a vector of one `u64`.
-    (&[(7, 4), (8, 8), (4, 1), (4, 8)], &[0, 0, 0, 0]),
-    // A weapon.
-    (&[(8, 4), (8, 2), (6, 4), (4, 1), (4, 4)], &[0, 0, 2, 0, 0]),
-    // Two strings and a vector of two unions.
+const ROWS: [(&str, &[(usize, usize)], &[usize]); 7] = [
     (
+        "four writes",
+        &[(3, 1), (4, 2), (8, 4), (7, 1), (4, 4)],
+        &[0, 0, 0, 0, 1],
+    ),
+    (
+        "after a clear",
+        &[(4, 4), (1, 1), (1, 1), (8, 8), (4, 8)],
+        &[0, 0, 0, 2, 4],
+    ),
+    (
+        "a string and two finishes",
+        &[(8, 4), (4, 4), (4, 4)],
+        &[0, 0, 0],
+    ),
+    (
+        "a string, then a vector of one `u64`",
+        &[(7, 4), (8, 8), (4, 1), (4, 8)],
+        &[0, 0, 0, 0],
+    ),
+    (
+        "a weapon",
+        &[(8, 4), (8, 2), (6, 4), (4, 1), (4, 4)],
+        &[0, 0, 2, 0, 0],
+    ),
+    (
+        "two strings and a vector of two unions",
         &[(6, 4), (6, 4), (8, 4), (4, 1), (2, 4), (4, 1)],
         &[0, 2, 0, 0, 2, 0],
     ),
-    // A table with one `u16`.
-    (&[(6, 2), (2, 4), (4, 1), (4, 4)], &[0, 0, 0, 0]),
+    (
+        "a table with one `u16`",
+        &[(6, 2), (2, 4), (4, 1), (4, 4)],
+        &[0, 0, 0, 0],
+    ),
 ];
 
 #[test]
 fn worked_rows(rt: HostRuntime) -> Result<(), Fail> {
-    for (parts, want) in ROWS {
-        assert!(rt; pads(rt.alloc(), parts, want)?, "{want:?}");
+    let test = Test::new(&rt);
+    for (row, parts, want) in ROWS {
+        check(&test, check_row(&test, row, parts, want).is_ok(), row);
     }
-    Ok(())
+    test.end()
 }
 
-fn values_are(rows: &[[usize; 6]]) -> bool {
+fn check_values(test: &Test<'_>, rows: &[[usize; 6]]) {
     let mut promises = Promises::new();
     for [len, size, alignment, padding, delayed, mask] in rows {
         match request(promises, *len, *size, *alignment) {
-            Some((next, got))
-                if got == *padding && next.delayed() == *delayed && next.mask() == *mask => {
+            Some((next, got)) => {
+                let got = [got, next.delayed(), next.mask()];
+                check_eq(
+                    test,
+                    &got,
+                    &[*padding, *delayed, *mask],
+                    "padding, delay and mask",
+                );
                 promises = next;
             }
-            _ => return false,
+            None => check(test, false, "a request"),
         }
     }
-    true
 }
 
 #[test]
-fn values_after_each_part(rt: HostRuntime) {
+fn values_after_each_part(rt: HostRuntime) -> Result<(), Fail> {
+    let test = Test::new(&rt);
     let rows = [
         [0, 5, 1, 0, 0, 0],
         [5, 4, 16, 0, 0, 15],
@@ -137,28 +170,41 @@ fn values_after_each_part(rt: HostRuntime) {
         [10, 2, 8, 5, 8, 15],
         [17, 4, 16, 4, 0, 15],
     ];
-    check(&rt, values_are(&rows), "values are");
+    check_values(&test, &rows);
+    test.end()
 }
 
 fn part(number: usize) -> (usize, usize) {
     (number / 4, 1 << (number % 4))
 }
 
-#[test]
-fn short_lists_as_the_plain_program_has_them(rt: HostRuntime) -> Result<(), Fail> {
-    for a in 0..24 {
-        for b in 0..24 {
-            for c in 0..24 {
-                let same = paddings(rt.alloc(), &[part(a), part(b), part(c)])?.is_some();
-                assert!(rt; same, "parts {a}, {b}, {c}");
-            }
-        }
-    }
+fn check_three(test: &Test<'_>, a: usize, b: usize, c: usize) -> Result<(), AllocError> {
+    let parts = [part(a), part(b), part(c)];
+    check_paddings(test, &parts, "three parts")?;
     Ok(())
 }
 
 #[test]
-fn alignments_that_no_padding_meets(rt: HostRuntime) {
-    check(&rt, plainly(3, &[(1, 6), (2, 4)], 1, 1).is_none(), "none");
-    check(&rt, plainly(3, &[(1, 6)], 1, 4) == Some(1), "one");
+fn short_lists_as_the_plain_program_has_them(rt: HostRuntime) -> Result<(), Fail> {
+    let test = Test::new(&rt);
+    for a in 0..24 {
+        for b in 0..24 {
+            for c in 0..24 {
+                check(
+                    &test,
+                    check_three(&test, a, b, c).is_ok(),
+                    "memory for paddings",
+                );
+            }
+        }
+    }
+    test.end()
+}
+
+#[test]
+fn alignments_that_no_padding_meets(rt: HostRuntime) -> Result<(), Fail> {
+    let test = Test::new(&rt);
+    check_eq(&test, &plainly(3, &[(1, 6), (2, 4)], 1, 1), &None, "none");
+    check_eq(&test, &plainly(3, &[(1, 6)], 1, 4), &Some(1), "one");
+    test.end()
 }

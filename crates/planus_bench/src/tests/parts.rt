@@ -3,12 +3,13 @@ ghost use Rattle.std.specs.Prelude.{◌≡◌, ◌≤◌, ◌-◌, ◌++◌, len
 ghost use Rattle.std.specs.Int.{w32, to_le_bytes};
 
 use super::alignments::mask_of;
-use super::new_builder;
-use crate::tests::check;
-use planus::{BuildError, Builder, Fill};
+use planus::{BuildError, Builder, Caches, Fill};
 use planus_back::Promises;
+use planus_testing::{Test, check, check_bytes, check_done, check_eq, in_builder};
 use std::alloc::{AllocError, Global};
 use std::test::Fail;
+
+type Done = Result<(), BuildError>;
 
 pub const FOUR_WRITES: &[u8] = b"\x05\0\0\0\x000123456ABCDEFGHIJKLMNO";
 
@@ -72,11 +73,11 @@ pub fn put(builder: &mut Builder, bytes: &[u8], alignment: usize) -> Result<(), 
     builder.write_with(bytes.len(), mask_of(alignment), &Same { bytes })
 }
 
-pub fn puts_four(builder: &mut Builder) -> bool {
-    put(builder, b"MNO", 1).is_ok()
-        && put(builder, b"IJKL", 2).is_ok()
-        && put(builder, b"ABCDEFGH", 4).is_ok()
-        && put(builder, b"0123456", 1).is_ok()
+pub fn put_four(builder: &mut Builder) -> Done {
+    put(builder, b"MNO", 1)?;
+    put(builder, b"IJKL", 2)?;
+    put(builder, b"ABCDEFGH", 4)?;
+    put(builder, b"0123456", 1)
 }
 
 pub fn finish_last(builder: &mut Builder) -> Result<&[u8], BuildError> {
@@ -84,82 +85,88 @@ pub fn finish_last(builder: &mut Builder) -> Result<&[u8], BuildError> {
     builder.finish(root, None)
 }
 
-pub fn last_is(builder: &mut Builder, want: &[u8]) -> bool {
+pub fn check_last(test: &Test<'_>, builder: &mut Builder, want: &[u8], row: &str) {
     match finish_last(builder) {
-        Ok(bytes) => bytes == want,
-        Err(_) => false,
+        Ok(bytes) => check_bytes(test, bytes, want, row),
+        Err(error) => check_done(test, Err(error), row),
     }
 }
 
-fn puts_after_clear(builder: &mut Builder) -> bool {
-    put(builder, b"IJKL", 4).is_ok()
-        && put(builder, b"X", 1).is_ok()
-        && put(builder, b"Y", 1).is_ok()
-        && put(builder, b"ABCDEFGH", 8).is_ok()
+fn put_after_clear(builder: &mut Builder) -> Done {
+    put(builder, b"IJKL", 4)?;
+    put(builder, b"X", 1)?;
+    put(builder, b"Y", 1)?;
+    put(builder, b"ABCDEFGH", 8)
 }
 
-fn parts_and_clear_agree(builder: &mut Builder) -> bool {
-    let nothing = last_is(builder, b"\x04\0\0\0");
+fn check_clear(test: &Test<'_>, builder: &mut Builder) -> Done {
+    check_last(test, builder, b"\x04\0\0\0", "no part");
     builder.clear();
-    let four = puts_four(builder) && last_is(builder, FOUR_WRITES);
+    put_four(builder)?;
+    check_last(test, builder, FOUR_WRITES, "four parts");
     builder.clear();
-    let after_clear = b"\x08\0\0\0\0\0\0\0ABCDEFGH\0\0YXIJKL";
-    nothing && four && puts_after_clear(builder) && last_is(builder, after_clear)
+    put_after_clear(builder)?;
+    check_last(
+        test,
+        builder,
+        b"\x08\0\0\0\0\0\0\0ABCDEFGH\0\0YXIJKL",
+        "after a clear",
+    );
+    Ok(())
 }
 
-fn puts_own_place(builder: &mut Builder) -> bool {
-    builder.write_with(4, mask_of(16), &OwnPlace).is_ok()
+fn put_own_place(builder: &mut Builder) -> Done {
+    builder.write_with(4, mask_of(16), &OwnPlace)
 }
 
-fn a_filler_is_told_its_place(builder: &mut Builder) -> bool {
-    let bytes = b"\x17\0\0\0\0\0\0\0X\0\0\0\0\0\0\0\x07\0\0\0MNO".as_slice();
-    put(builder, b"MNO", 1).is_ok()
-        && puts_own_place(builder)
-        && builder.as_slice() == b"\x07\0\0\0MNO".as_slice()
-        && put(builder, b"X", 8).is_ok()
-        && puts_own_place(builder)
-        && builder.as_slice() == bytes
-}
-
-fn both_hold_of(builder: &mut Builder) -> [bool; 2] {
-    let clear = parts_and_clear_agree(builder);
-    builder.clear();
-    [clear, a_filler_is_told_its_place(builder)]
-}
-
-fn both_hold(alloc: Global) -> [bool; 2] {
-    match new_builder(alloc) {
-        Ok(mut builder) => both_hold_of(&mut builder),
-        Err(_) => [false; 2],
-    }
+fn check_own_places(test: &Test<'_>, builder: &mut Builder) -> Done {
+    let both = b"\x17\0\0\0\0\0\0\0X\0\0\0\0\0\0\0\x07\0\0\0MNO";
+    put(builder, b"MNO", 1)?;
+    put_own_place(builder)?;
+    check_bytes(test, builder.as_slice(), b"\x07\0\0\0MNO", "a place");
+    put(builder, b"X", 8)?;
+    put_own_place(builder)?;
+    check_bytes(test, builder.as_slice(), both, "two places");
+    Ok(())
 }
 
 #[test]
-fn parts(rt: HostRuntime) {
-    let [clear, places] = both_hold(rt.alloc());
-    check(&rt, clear, "and a clear");
-    check(&rt, places, "places");
+fn parts(rt: HostRuntime) -> Result<(), Fail> {
+    let test = Test::new(&rt);
+    in_builder(&test, Caches::all(), check_clear);
+    in_builder(&test, Caches::all(), check_own_places);
+    test.end()
 }
 
-fn too_large_is_refused(builder: &mut Builder, size: usize) -> bool {
-    puts_four(builder)
-        && builder.write_with(size, mask_of(1), &Repeated { byte: 7 }) == Err(BuildError::TooLarge)
-        && builder.len() == 22
-        && builder.room() == 42
-        && last_is(builder, FOUR_WRITES)
+fn check_too_large(test: &Test<'_>, builder: &mut Builder, size: usize) -> Done {
+    put_four(builder)?;
+    let refusal = builder.write_with(size, mask_of(1), &Repeated { byte: 7 });
+    check_eq(
+        test,
+        &refusal,
+        &Err(BuildError::TooLarge),
+        "a part that is too large",
+    );
+    check_eq(test, &builder.len(), &22, "the bytes before it");
+    check_eq(test, &builder.room(), &42, "the room before it");
+    check_last(test, builder, FOUR_WRITES, "the parts before it");
+    Ok(())
 }
 
-fn too_large_in_64_bytes(alloc: Global, size: usize) -> bool {
-    match Builder::with_capacity(alloc, 64) {
-        Ok(mut builder) => too_large_is_refused(&mut builder, size),
-        Err(_) => false,
-    }
+fn check_in_64_bytes(test: &Test<'_>, size: usize) -> Done {
+    let mut builder = Builder::with_capacity(test.alloc(), 64)?;
+    check_too_large(test, &mut builder, size)
 }
 
 #[test]
-fn too_large(rt: HostRuntime) {
-    let refused = too_large_in_64_bytes(rt.alloc(), 2147483648);
-    check(&rt, refused, "too large is refused");
+fn too_large(rt: HostRuntime) -> Result<(), Fail> {
+    let test = Test::new(&rt);
+    check_done(
+        &test,
+        check_in_64_bytes(&test, 2147483648),
+        "a builder of 64 bytes",
+    );
+    test.end()
 }
 
 fn request(promises: Promises, len: usize, size: usize, alignment: usize) -> Option<Promises> {
@@ -172,21 +179,27 @@ fn request(promises: Promises, len: usize, size: usize, alignment: usize) -> Opt
     }
 }
 
-fn delays_are(rows: &[(usize, usize, usize, usize)]) -> bool {
+fn check_delays(test: &Test<'_>, rows: &[(usize, usize, usize, usize)]) {
     let mut promises = Promises::new();
     for (len, size, alignment, delayed) in rows {
         match request(promises, *len, *size, *alignment) {
-            Some(next) if next.delayed() == *delayed => promises = next,
-            _ => return false,
+            Some(next) => {
+                check_eq(test, &next.delayed(), delayed, "a delay");
+                promises = next;
+            }
+            None => check(test, false, "a request"),
         }
     }
-    true
 }
 
 #[test]
-fn delays_after_clear(rt: HostRuntime) {
-    let rows = [(0, 4, 4, 0), (4, 1, 1, 3), (5, 1, 1, 2), (6, 8, 8, 0)];
-    check(&rt, delays_are(&rows), "delays are");
+fn delays_after_clear(rt: HostRuntime) -> Result<(), Fail> {
+    let test = Test::new(&rt);
+    check_delays(
+        &test,
+        &[(0, 4, 4, 0), (4, 1, 1, 3), (5, 1, 1, 2), (6, 8, 8, 0)],
+    );
+    test.end()
 }
 
 #[derive(Drop)]
@@ -209,30 +222,31 @@ struct Written {
     distance: usize,
 }
 
-fn are_all(bytes: &[u8], byte: u8) -> bool {
-    bytes.iter().all(|b| *b == byte)
-}
-
-fn stands(bytes: &[u8], part: Written) -> bool {
+fn check_part(test: &Test<'_>, bytes: &[u8], part: Written) {
     let Some(start) = bytes.len().checked_sub(part.distance) else {
-        return false;
+        return check(test, false, "a part");
     };
     let (_before, rest) = bytes.split_at(start);
+    check_eq(test, &(start & part.mask), &0, "the start of a part");
     match rest.get(..part.size) {
-        Some(found) => start & part.mask == 0 && are_all(found, part.byte),
-        None => false,
+        Some(found) => check(test, found.iter().all(|b| *b == part.byte), "a part"),
+        None => check(test, false, "a part"),
     }
 }
 
-fn write_part(builder: &mut Builder, numbers: &mut Numbers, byte: u8) -> Result<Written, Fail> {
+fn write_part(
+    test: &Test<'_>,
+    builder: &mut Builder,
+    numbers: &mut Numbers,
+    byte: u8,
+) -> Result<Written, BuildError> {
     let size = (numbers.draw() % 128) as usize;
     let mask = mask_of(1 << (numbers.draw() % 5));
     let before = builder.len();
     builder.write_with(size, mask, &Repeated { byte })?;
     let distance = builder.len();
-    if distance.wrapping_sub(before) > size + mask {
-        return Err(Fail::new("a padding of an alignment or more"));
-    }
+    let is_least = distance.wrapping_sub(before) <= size + mask;
+    check(test, is_least, "a padding less than an alignment");
     Ok(Written {
         byte,
         size,
@@ -242,33 +256,38 @@ fn write_part(builder: &mut Builder, numbers: &mut Numbers, byte: u8) -> Result<
 }
 
 fn write_parts(
+    test: &Test<'_>,
     builder: &mut Builder,
     numbers: &mut Numbers,
     parts: &mut Vec<Written>,
-) -> Result<(), Fail> {
+) -> Done {
     for byte in 1..50 {
-        parts.push(write_part(builder, numbers, byte)?)?;
+        let part = write_part(test, builder, numbers, byte)?;
+        if parts.push(part).is_err() {
+            return Err(BuildError::OutOfMemory);
+        }
     }
     Ok(())
 }
 
-fn a_filler_knows_its_place(builder: &mut Builder, numbers: &mut Numbers) -> bool {
+fn check_place(test: &Test<'_>, builder: &mut Builder, numbers: &mut Numbers) -> Done {
     let size = (numbers.draw() % 128) as usize + 4;
     let mask = mask_of(1 << (numbers.draw() % 5));
-    if builder.write_with(size, mask, &PlaceFirst).is_err() {
-        return false;
-    }
+    builder.write_with(size, mask, &PlaceFirst)?;
     let place = (builder.len() as u64).to_le_bytes();
-    builder.as_slice().starts_with(&place[..4])
+    check(
+        test,
+        builder.as_slice().starts_with(&place[..4]),
+        "a filler's place",
+    );
+    Ok(())
 }
 
-fn fillers_know_their_places(builder: &mut Builder, numbers: &mut Numbers) -> bool {
+fn check_places(test: &Test<'_>, builder: &mut Builder, numbers: &mut Numbers) -> Done {
     for _ in 1..50 {
-        if !a_filler_knows_its_place(builder, numbers) {
-            return false;
-        }
+        check_place(test, builder, numbers)?;
     }
-    true
+    Ok(())
 }
 
 fn random_bytes(alloc: Global, numbers: &mut Numbers) -> Result<Vec<u8>, AllocError> {
@@ -280,72 +299,64 @@ fn random_bytes(alloc: Global, numbers: &mut Numbers) -> Result<Vec<u8>, AllocEr
     Ok(bytes)
 }
 
-fn all_stand(bytes: &[u8], parts: &[Written], root: &[u8], distance: usize) -> bool {
+fn check_all(test: &Test<'_>, bytes: &[u8], parts: &[Written], root: &[u8], distance: usize) {
     for part in parts {
-        if !stands(bytes, *part) {
-            return false;
-        }
+        check_part(test, bytes, *part);
     }
     let Some(start) = bytes.len().checked_sub(distance) else {
-        return false;
+        return check(test, false, "a root");
     };
     let (front, rest) = bytes.split_at(start);
-    start % 2 == 0
-        && rest.starts_with(root)
-        && front.starts_with(&(start as u64).to_le_bytes()[..4])
+    check_eq(test, &(start % 2), &0, "the start of a root");
+    check(test, rest.starts_with(root), "a root");
+    let place = (start as u64).to_le_bytes();
+    check(
+        test,
+        front.starts_with(&place[..4]),
+        "the reference to a root",
+    );
 }
 
-fn root_stands(builder: &mut Builder, parts: &[Written], root: &[u8]) -> bool {
-    if put(builder, root, 2).is_err() {
-        return false;
-    }
+fn check_root(test: &Test<'_>, builder: &mut Builder, parts: &[Written], root: &[u8]) -> Done {
+    put(builder, root, 2)?;
     let distance = builder.len();
-    match finish_last(builder) {
-        Ok(bytes) => all_stand(bytes, parts, root, distance),
-        Err(_) => false,
-    }
+    check_all(test, finish_last(builder)?, parts, root, distance);
+    Ok(())
 }
 
-fn random_root_stands(
-    alloc: Global,
+fn check_random_root(
+    test: &Test<'_>,
     builder: &mut Builder,
     numbers: &mut Numbers,
     parts: &[Written],
-) -> Result<bool, AllocError> {
-    let root = random_bytes(alloc, numbers)?;
-    Ok(root_stands(builder, parts, root.as_slice()))
+) -> Done {
+    let root = random_bytes(test.alloc(), numbers)?;
+    check_root(test, builder, parts, root.as_slice())
 }
 
-fn random_parts_stand(
-    alloc: Global,
-    builder: &mut Builder,
-    numbers: &mut Numbers,
-) -> Result<bool, Fail> {
-    let mut parts = Vec::new(alloc);
-    write_parts(builder, numbers, &mut parts)?;
-    Ok(random_root_stands(alloc, builder, numbers, parts.as_slice())?)
+fn check_random_parts(test: &Test<'_>, builder: &mut Builder, numbers: &mut Numbers) -> Done {
+    let mut parts = Vec::new(test.alloc());
+    write_parts(test, builder, numbers, &mut parts)?;
+    check_random_root(test, builder, numbers, parts.as_slice())
 }
 
-fn a_round(alloc: Global, builder: &mut Builder, numbers: &mut Numbers) -> Result<bool, Fail> {
+fn check_round(test: &Test<'_>, builder: &mut Builder, numbers: &mut Numbers) -> Done {
     let mut again = Numbers { last: numbers.last };
-    let stand = random_parts_stand(alloc, builder, numbers)?;
+    check_random_parts(test, builder, numbers)?;
     builder.clear();
-    Ok(stand && fillers_know_their_places(builder, &mut again))
-}
-
-fn a_round_in_a_new_one(alloc: Global, numbers: &mut Numbers) -> Result<bool, Fail> {
-    let mut builder = new_builder(alloc)?;
-    a_round(alloc, &mut builder, numbers)
+    check_places(test, builder, &mut again)
 }
 
 #[test]
 fn random_parts_stand_aligned(rt: HostRuntime) -> Result<(), Fail> {
+    let test = Test::new(&rt);
     let mut numbers = Numbers { last: 1 };
-    for round in 0..50 {
-        assert!(rt;
-            a_round_in_a_new_one(rt.alloc(), &mut numbers)?,
-            "round {round}"
+    for _ in 0..50 {
+        in_builder(
+            &test,
+            Caches::all(),
+            |test, builder| check_round(test, builder, &mut numbers),
         );
     }
-    Ok(())
+    test.end()
 }

@@ -1,14 +1,14 @@
 //! Calls in which one allocation after another fails.
 
+use super::new_builder;
 use super::refused_calls::{Call, Outcome, make, make_again, outcome_of, prepare};
 use super::refused_copies::{
     Copied, copy_numbers, copy_texts, numbers_are_copied, replay_weapon, texts_are_copied,
     weapon_is_replayed,
 };
 use super::runs::weapon;
-use super::{check, new_builder};
 use planus::{BuildError, Builder, Step};
-use planus_testing::{exhaust_all_but, holds_or_says};
+use planus_testing::{Test, check, check_eq, check_tried, exhaust_all_but};
 use std::alloc::{AllocError, Global};
 use std::test::Fail;
 
@@ -91,14 +91,21 @@ const CALLS: &[(&str, Call, &[Lengths], usize)] = &[
     ("a weapon", Call::Weapon, &[(0, 28), (8, 28), (16, 28)], 1),
 ];
 
+fn check_states(test: &Test<'_>, call: Call, all: &[Lengths], least: usize, row: &str) {
+    match states_met(test.alloc(), call, all) {
+        Ok(None) => check_tried(test, None, row),
+        Ok(Some(states)) => check_eq(test, &states.min(least), &least, row),
+        Err(error) => check_eq(test, &Some(error), &None, row),
+    }
+}
+
 #[test]
 fn calls_on_a_builder(rt: HostRuntime) -> Result<(), Fail> {
+    let test = Test::new(&rt);
     for (name, call, all, least) in CALLS {
-        let met = states_met(rt.alloc(), *call, all)?;
-        let enough = met.map(|states| states >= *least);
-        assert!(rt; holds_or_says(&rt, enough)?, "{name}: {met:?}");
+        check_states(&test, *call, all, *least, name);
     }
-    Ok(())
+    test.end()
 }
 
 #[derive(Clone, Copy)]
@@ -167,15 +174,29 @@ const OTHERS: &[(&str, Other, usize, usize)] = &[
     ("a replay", Other::Replay, 64, 3),
 ];
 
+fn check_refusals(
+    test: &Test<'_>,
+    other: Other,
+    more: usize,
+    steps: &[Step],
+    least: usize,
+    row: &str,
+) {
+    match refusals_of(test.alloc(), other, more, steps) {
+        Ok(None) => check_tried(test, None, row),
+        Ok(Some(turns)) => check_eq(test, &turns.min(least), &least, row),
+        Err(_) => check(test, false, row),
+    }
+}
+
 #[test]
 fn calls_on_no_builder(rt: HostRuntime) -> Result<(), Fail> {
     let steps = weapon(rt.alloc())?;
+    let test = Test::new(&rt);
     for (name, other, more, least) in OTHERS {
-        let refusals = refusals_of(rt.alloc(), *other, *more, steps.as_slice())?;
-        let enough = refusals.map(|turns| turns >= *least);
-        assert!(rt; holds_or_says(&rt, enough)?, "{name}: {refusals:?}");
+        check_refusals(&test, *other, *more, steps.as_slice(), *least, name);
     }
-    Ok(())
+    test.end()
 }
 
 fn is_mended(alloc: Global, call: Call, all: &[Lengths]) -> bool {
@@ -189,16 +210,18 @@ fn is_mended(alloc: Global, call: Call, all: &[Lengths]) -> bool {
 
 // The script beside this crate makes one allocation of this test fail after another.
 #[test]
-fn calls_with_one_request_refused(rt: HostRuntime) {
+fn calls_with_one_request_refused(rt: HostRuntime) -> Result<(), Fail> {
+    let test = Test::new(&rt);
     for (name, call, all, _least) in CALLS {
-        check(&rt, is_mended(rt.alloc(), *call, all), name);
+        check(&test, is_mended(rt.alloc(), *call, all), name);
     }
     let copied = [
-        copy_numbers(rt.alloc()),
-        copy_texts(rt.alloc()),
-        replay_weapon(rt.alloc()),
+        ("copied numbers", copy_numbers(rt.alloc())),
+        ("copied strings", copy_texts(rt.alloc())),
+        ("a replayed weapon", replay_weapon(rt.alloc())),
     ];
-    for call in copied {
-        check(&rt, !matches!(call, Copied::Wrong), "copies or a replay");
+    for (name, call) in copied {
+        check(&test, !matches!(call, Copied::Wrong), name);
     }
+    test.end()
 }

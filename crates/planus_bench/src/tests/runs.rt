@@ -4,10 +4,9 @@ use super::plain_run::plain_run;
 use super::read_back::reads_back;
 use super::settings::CacheSettings;
 use super::unions::two_texts;
-use crate::tests::check;
 use planus::{Caches, Field, FieldValue, Finished, Step, replay};
+use planus_testing::{Test, check, check_bytes, check_eq};
 use std::alloc::{AllocError, Global};
-use std::process::Abort;
 use std::test::Fail;
 
 // The same each time.
@@ -307,85 +306,98 @@ fn root_of(step: &Step) -> Option<(usize, bool)> {
     }
 }
 
-fn is_same(got: &Finished, want: &Finished) -> bool {
-    got.bytes.as_slice() == want.bytes.as_slice() && got.places.as_slice() == want.places.as_slice()
-}
-
-pub fn are_same(got: &[Finished], want: &[Finished]) -> bool {
-    for i in 0..got.len() {
-        match want.get(i) {
-            Some(want) if is_same(&got[i], want) => {}
-            _ => return false,
-        }
+pub fn check_same(test: &Test<'_>, got: &[Finished], want: &[Finished], row: &str) {
+    check_eq(test, &got.len(), &want.len(), row);
+    for (got, want) in got.iter().zip(want) {
+        check_bytes(test, got.bytes.as_slice(), want.bytes.as_slice(), row);
+        check_eq(test, &got.places.as_slice(), &want.places.as_slice(), row);
     }
-    got.len() == want.len()
 }
 
-fn are_read_back(alloc: Global, steps: &[Step], finished: &[Finished]) -> Result<bool, Fail> {
+fn check_read_back(
+    test: &Test<'_>,
+    steps: &[Step],
+    finished: &[Finished],
+    row: &str,
+) -> Result<(), Fail> {
     let mut count: usize = 0;
     for step in steps {
         if let Some((root, sized)) = root_of(step) {
             match finished.get(count) {
-                Some(one) if reads_back(alloc, steps, root, sized, one)? => {}
-                _ => return Ok(false),
+                Some(one) => check(
+                    test,
+                    reads_back(test.alloc(), steps, root, sized, one)?,
+                    row,
+                ),
+                None => check(test, false, row),
             }
             count = count.wrapping_add(1);
         }
     }
-    Ok(count == finished.len())
+    check_eq(test, &finished.len(), &count, row);
+    Ok(())
 }
 
-fn gives(alloc: Global, caches: Caches, steps: &[Step], want: &[Finished]) -> Result<bool, Fail> {
-    let got = replay(alloc, caches, steps)?;
-    Ok(are_same(got.as_slice(), want) && are_read_back(alloc, steps, got.as_slice())?)
+fn check_replay(
+    test: &Test<'_>,
+    caches: Caches,
+    steps: &[Step],
+    want: &[Finished],
+    name: &str,
+) -> Result<(), Fail> {
+    let row = format!(in test.alloc(); "{name}, {caches:?}")?;
+    let got = replay(test.alloc(), caches, steps)?;
+    check_same(test, got.as_slice(), want, row.as_str());
+    check_read_back(test, steps, got.as_slice(), row.as_str())
 }
 
-fn replays_agree_in(
-    rt: &impl Abort,
-    alloc: Global,
+fn check_setting(
+    test: &Test<'_>,
     settings: CacheSettings,
     steps: &[Step],
+    name: &str,
 ) -> Result<(), Fail> {
-    let want = plain_run(alloc, settings, steps)?;
+    let want = plain_run(test.alloc(), settings, steps)?;
     for mask in [0, 1, 2, 0xff, 1 << 63, u64::MAX] {
-        let caches = settings.caches(mask);
-        let agrees = gives(alloc, caches, steps, want.as_slice())?;
-        assert!(rt; agrees, "{} steps, {caches:?}", steps.len());
+        check_replay(test, settings.caches(mask), steps, want.as_slice(), name)?;
     }
     Ok(())
 }
 
-fn replays_agree(rt: &impl Abort, alloc: Global, steps: &[Step]) -> Result<(), Fail> {
+fn check_settings(test: &Test<'_>, steps: &[Step], name: &str) -> Result<(), Fail> {
     for number in 0..8 {
-        replays_agree_in(rt, alloc, CacheSettings::of(number), steps)?;
+        check_setting(test, CacheSettings::of(number), steps, name)?;
     }
     Ok(())
 }
 
-fn replays_of(
-    rt: &impl Abort,
-    alloc: Global,
+fn check_run(
+    test: &Test<'_>,
     steps: Result<Vec<Step>, AllocError>,
+    name: &str,
 ) -> Result<(), Fail> {
     let steps = steps?;
-    replays_agree(rt, alloc, steps.as_slice())
+    check_settings(test, steps.as_slice(), name)
 }
 
-fn are_mixed(steps: &[Step]) -> bool {
-    steps.len() == 300 && counts(steps) == (14, 65, 50, 22)
+fn check_mixed(test: &Test<'_>) -> Result<(), Fail> {
+    let mixed = mixed_steps(test.alloc(), 300)?;
+    let steps = mixed.as_slice();
+    check_eq(test, &steps.len(), &300, "the mixed steps");
+    check_eq(test, &counts(steps), &(14, 65, 50, 22), "their kinds");
+    check_settings(test, steps, "mixed steps")
 }
 
-fn mixed_replays(rt: &impl Abort, alloc: Global) -> Result<(), Fail> {
-    let mixed = mixed_steps(alloc, 300)?;
-    check(rt, are_mixed(mixed.as_slice()), "mixed steps");
-    replays_agree(rt, alloc, mixed.as_slice())
+fn check_runs(test: &Test<'_>) -> Result<(), Fail> {
+    check_run(test, weapon(test.alloc()), "a weapon")?;
+    check_run(test, two_texts(test.alloc()), "two unions")?;
+    check_run(test, repeated(test.alloc()), "repeated values")?;
+    check_mixed(test)
 }
 
 #[test]
 fn runs_in_every_setting(rt: HostRuntime) -> Result<(), Fail> {
-    let alloc = rt.alloc();
-    replays_of(&rt, alloc, weapon(alloc))?;
-    replays_of(&rt, alloc, two_texts(alloc))?;
-    replays_of(&rt, alloc, repeated(alloc))?;
-    mixed_replays(&rt, alloc)
+    let test = Test::new(&rt);
+    let done = check_runs(&test);
+    test.end_of(done)
 }

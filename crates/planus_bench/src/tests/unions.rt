@@ -1,8 +1,8 @@
 use super::plain_run::plain_run;
 use super::runs::{add, add_field, add_finish, word};
 use super::settings::CacheSettings;
-use crate::tests::check;
 use planus::{Caches, FieldValue, Finished, Step, StepPlace, replay};
+use planus_testing::{Test, check_bytes, check_eq};
 use std::alloc::{AllocError, Global};
 use std::test::Fail;
 
@@ -39,7 +39,7 @@ pub fn two_texts(alloc: Global) -> Result<Vec<Step>, AllocError> {
     Ok(steps)
 }
 
-fn is_two_texts(run: &[Finished]) -> bool {
+fn check_two_texts(test: &Test<'_>, run: &[Finished], row: &str) {
     let unions = StepPlace {
         step: 2,
         distance: 26,
@@ -47,37 +47,20 @@ fn is_two_texts(run: &[Finished]) -> bool {
     };
     match run {
         [finished] => {
-            finished.bytes.as_slice() == TWO_TEXTS.as_slice()
-                && finished.places.get(2) == Some(&unions)
+            check_bytes(test, finished.bytes.as_slice(), &TWO_TEXTS, row);
+            check_eq(test, &finished.places.get(2), &Some(&unions), row);
         }
-        _ => false,
+        _ => check_eq(test, &run.len(), &1, row),
     }
-}
-
-fn replays_to_two_texts(alloc: Global, steps: &[Step]) -> bool {
-    match replay(alloc, Caches::all(), steps) {
-        Ok(run) => is_two_texts(run.as_slice()),
-        Err(_) => false,
-    }
-}
-
-fn runs_plainly_to_two_texts(alloc: Global, steps: &[Step]) -> Result<bool, Fail> {
-    let run = plain_run(alloc, CacheSettings::of(7), steps)?;
-    Ok(is_two_texts(run.as_slice()))
-}
-
-fn both_run_to_two_texts(alloc: Global) -> Result<[bool; 2], Fail> {
-    let steps = two_texts(alloc)?;
-    Ok([
-        replays_to_two_texts(alloc, steps.as_slice()),
-        runs_plainly_to_two_texts(alloc, steps.as_slice())?,
-    ])
 }
 
 #[test]
 fn two_texts_as_unions(rt: HostRuntime) -> Result<(), Fail> {
-    let [replayed, plain] = both_run_to_two_texts(rt.alloc())?;
-    check(&rt, replayed, "a replay");
-    check(&rt, plain, "a plain run");
-    Ok(())
+    let steps = two_texts(rt.alloc())?;
+    let replayed = replay(rt.alloc(), Caches::all(), steps.as_slice())?;
+    let plain = plain_run(rt.alloc(), CacheSettings::of(7), steps.as_slice())?;
+    let test = Test::new(&rt);
+    check_two_texts(&test, replayed.as_slice(), "a replay");
+    check_two_texts(&test, plain.as_slice(), "a plain run");
+    test.end()
 }

@@ -6,7 +6,6 @@ use super::alignments::mask_of;
 use super::caches::text_at;
 use super::parts::put;
 use super::tables::put_number;
-use crate::tests::check;
 use planus::{
     BuildError, Builder, ByRef, Caches, CopyError, DefaultValue, FromItem, List, Offset, Text,
     UnionOffset, UnionVectorOffset, VectorWrite, WriteAs, WriteAsDefault, WriteAsOffset,
@@ -15,8 +14,7 @@ use planus::{
 };
 use planus_back::{BackVec, ByteVec, Cache, GetCacheKey, Promises, TooLarge, VTable, laws};
 use planus_read::errors::ErrorKind;
-use planus_testing::{exhaust, holds_or_says};
-use std::alloc::{AllocError, Global};
+use planus_testing::{Test, check, check_distance, check_done, check_eq, without_memory};
 use std::test::Fail;
 
 // A string of 8 bytes, and a table of one number, with 20 bytes in all of 64.
@@ -25,24 +23,33 @@ fn prepare(builder: &mut Builder) -> Result<(), BuildError> {
     put_number(builder, 24)
 }
 
-fn a_builder_tells(builder: &Builder) -> bool {
+fn check_builder(test: &Test<'_>, builder: &Builder) {
     let last = builder.current_offset::<Text>();
-    builder.len() == 20
-        && !builder.is_empty()
-        && builder.room() == 44
-        && builder.as_slice().ends_with(b"\x03\0\0\0Axe\0")
-        && last.distance() == 20
-        && last.downcast().distance() == 20
+    check_eq(test, &builder.len(), &20, "Builder::len");
+    check(test, !builder.is_empty(), "Builder::is_empty");
+    check_eq(test, &builder.room(), &44, "Builder::room");
+    check(
+        test,
+        builder.as_slice().ends_with(b"\x03\0\0\0Axe\0"),
+        "Builder::as_slice",
+    );
+    check_distance(test, last.downcast(), 20, "Offset::downcast");
+    check_distance(test, last, 20, "Builder::current_offset");
 }
 
 // Found in a cache, or in the builder's room. A table of two bytes whose vtable is found takes 8
 // with padding.
-fn a_builder_writes(builder: &mut Builder) -> bool {
-    text_at(builder, "Axe") == Ok(8)
-        && put_number(builder, 7).is_ok()
-        && builder.len() == 28
-        && put(builder, b"MNO", 1).is_ok()
-        && builder.room() == 33
+fn check_writes(test: &Test<'_>, builder: &mut Builder) {
+    check_eq(
+        test,
+        &text_at(builder, "Axe"),
+        &Ok(8),
+        "Builder::create_string",
+    );
+    check_done(test, put_number(builder, 7), "TableWriter::finish");
+    check_eq(test, &builder.len(), &28, "TableWriter::finish");
+    check_done(test, put(builder, b"MNO", 1), "Builder::write_with");
+    check_eq(test, &builder.room(), &33, "Builder::write_with");
 }
 
 fn has(builder: &Builder, distance: u32) -> bool
@@ -51,250 +58,231 @@ fn has(builder: &Builder, distance: u32) -> bool
     distance as usize <= builder.len()
 }
 
-fn an_offset_is_prepared(builder: &mut Builder, last: Offset<Text>) -> bool {
+fn check_offset(test: &Test<'_>, builder: &mut Builder, last: Offset<Text>) {
     if !has(builder, last.distance()) {
-        return false;
+        return check(test, false, "prepare of an offset");
     }
     match WriteAsOffset::<Text>::prepare(&last, builder) {
-        Ok(offset) => offset.distance() == 31,
-        Err(_) => false,
+        Ok(offset) => check_distance(test, offset, 31, "prepare of an offset"),
+        Err(error) => check_done(test, Err(error), "prepare of an offset"),
     }
 }
 
-fn a_union_is_prepared(builder: &mut Builder, union: UnionOffset<()>) -> bool {
+fn check_union(test: &Test<'_>, builder: &mut Builder, union: UnionOffset<()>) {
     if !has(builder, union.offset().distance()) {
-        return false;
+        return check(test, false, "prepare of a union");
     }
     match WriteAsUnion::<()>::prepare(&union, builder) {
-        Ok(union) => union.tag() == 1,
-        Err(_) => false,
+        Ok(union) => check_eq(test, &union.tag(), &1, "prepare of a union"),
+        Err(error) => check_done(test, Err(error), "prepare of a union"),
     }
 }
 
-fn unions_are_prepared(builder: &mut Builder) -> bool {
+fn check_unions(test: &Test<'_>, builder: &mut Builder) {
     let (tags, values) = (builder.current_offset(), builder.current_offset());
     let unions: UnionVectorOffset<()> = UnionVectorOffset::new(tags, values);
     match WriteAsUnionVector::<()>::prepare(&unions, builder) {
-        Ok(unions) => unions.tags_offset().distance() == 31,
-        Err(_) => false,
+        Ok(unions) => check_distance(test, unions.tags_offset(), 31, "prepare of unions"),
+        Err(error) => check_done(test, Err(error), "prepare of unions"),
     }
 }
 
-fn offsets_are_prepared(builder: &mut Builder) -> bool {
+fn check_offsets(test: &Test<'_>, builder: &mut Builder) {
     let last = builder.current_offset::<Text>();
-    an_offset_is_prepared(builder, last)
-        && a_union_is_prepared(builder, UnionOffset::new(1, last.downcast()))
-        && unions_are_prepared(builder)
+    check_offset(test, builder, last);
+    check_union(test, builder, UnionOffset::new(1, last.downcast()));
+    check_unions(test, builder);
 }
 
-fn numbers_are_prepared(builder: &mut Builder) -> bool {
-    WriteAs::<u16>::prepare(&7u16, builder) == Ok(7)
-        && WriteAs::<bool>::prepare(&true, builder) == Ok(true)
-        && WriteAs::<u16>::prepare(&ByRef(&7u16), builder) == Ok(7)
+fn check_numbers(test: &Test<'_>, builder: &mut Builder) {
+    let by_ref = WriteAs::<u16>::prepare(&ByRef(&7u16), builder);
+    check_eq(
+        test,
+        &WriteAs::<u16>::prepare(&7u16, builder),
+        &Ok(7),
+        "prepare of u16",
+    );
+    check_eq(
+        test,
+        &WriteAs::<bool>::prepare(&true, builder),
+        &Ok(true),
+        "prepare of bool",
+    );
+    check_eq(test, &by_ref, &Ok(7), "prepare by reference");
 }
 
-fn options_are_prepared(builder: &mut Builder) -> bool {
+fn check_options(test: &Test<'_>, builder: &mut Builder) {
     let none: Option<u16> = None;
-    WriteAsOptional::<u16>::prepare(&Some(7u16), builder) == Ok(Some(7))
-        && WriteAsOptional::<u16>::prepare(&none, builder) == Ok(None)
-        && matches!(WriteAsOptional::<u16>::prepare(&(), builder), Ok(None))
-        && matches!(WriteAsOptionalUnion::<()>::prepare(&(), builder), Ok(None))
+    let some = WriteAsOptional::<u16>::prepare(&Some(7u16), builder);
+    let no_union = WriteAsOptionalUnion::<()>::prepare(&(), builder);
+    check_eq(test, &some, &Ok(Some(7)), "prepare of some number");
+    check_eq(
+        test,
+        &WriteAsOptional::<u16>::prepare(&none, builder),
+        &Ok(None),
+        "of none",
+    );
+    let nothing = WriteAsOptional::<u16>::prepare(&(), builder);
+    check(test, matches!(nothing, Ok(None)), "prepare of nothing");
+    check(test, matches!(no_union, Ok(None)), "prepare of no union");
 }
 
-fn defaults_are_prepared(builder: &mut Builder) -> bool {
-    WriteAsDefault::<u16, u16>::prepare(&7u16, builder, &7) == Ok(None)
-        && matches!(
-            WriteAsDefault::<u16, u16>::prepare(&DefaultValue, builder, &7),
-            Ok(None)
-        )
+fn check_defaults(test: &Test<'_>, builder: &mut Builder) {
+    let same = WriteAsDefault::<u16, u16>::prepare(&7u16, builder, &7);
+    let default = WriteAsDefault::<u16, u16>::prepare(&DefaultValue, builder, &7);
+    check_eq(test, &same, &Ok(None), "prepare of the default's number");
+    check(test, matches!(default, Ok(None)), "prepare of the default");
 }
 
-fn numbers_are_written() -> bool {
+fn written() -> ([u8; 2], [u8; 4]) {
     let (mut one, mut two) = ([0u8; 2], [0u8; 4]);
     WriteAsPrimitive::<u16>::write(&0x102u16, &mut one, 2);
     <u16 as VectorWrite<u16>>::write_values(&[1, 2], &mut two, 4);
-    one == [2, 1] && two == [1, 0, 2, 0]
+    (one, two)
 }
 
-fn values_are_copied(alloc: Global) -> bool {
-    matches!(u16::from_item(alloc, 7), Ok(7)) && matches!(bool::from_item(alloc, true), Ok(true))
-}
-
-fn errors_are_converted() -> bool {
+fn check_values(test: &Test<'_>) {
     let error = ErrorKind::InvalidLength.with_error_location("T", "m", 5);
-    matches!(CopyError::from(error), CopyError::Read(_))
-        && BuildError::from(TooLarge) == BuildError::TooLarge
+    let (number, truth) = (
+        u16::from_item(test.alloc(), 7),
+        bool::from_item(test.alloc(), true),
+    );
+    let (one, two) = written();
+    check_eq(test, &one, &[2, 1], "write");
+    check_eq(test, &two, &[1, 0, 2, 0], "write_values");
+    check(test, matches!(number, Ok(7)), "u16::from_item");
+    check(test, matches!(truth, Ok(true)), "bool::from_item");
+    check(
+        test,
+        matches!(CopyError::from(error), CopyError::Read(_)),
+        "CopyError::from",
+    );
+    check_eq(
+        test,
+        &BuildError::from(TooLarge),
+        &BuildError::TooLarge,
+        "BuildError::from",
+    );
 }
 
-fn a_request_is_met() -> bool {
+fn check_request(test: &Test<'_>) {
     match Promises::new().request(0, 4, mask_of(4)) {
-        Ok((next, padding)) => padding == 0 && next.mask() == 3,
-        Err(_) => false,
+        Ok((next, padding)) => {
+            check_eq(test, &padding, &0, "Promises::request");
+            check_eq(test, &next.mask(), &3, "Promises::mask");
+        }
+        Err(error) => check_eq(test, &Some(error), &None, "Promises::request"),
     }
 }
 
-fn settings_are_told() -> bool {
-    Caches::all().hash_mask == u64::MAX && check_version_compatibility("planus-1.3.0")
+fn check_settings(test: &Test<'_>) {
+    check_eq(test, &Caches::all().hash_mask, &u64::MAX, "Caches::all");
+    check(
+        test,
+        check_version_compatibility("planus-1.3.0"),
+        "check_version_compatibility",
+    );
 }
 
-fn keys_are_found() -> bool {
-    VTable::key_at(b"\x04\0\x04\0", 4) == Some(b"\x04\0\x04\0".as_slice())
-        && ByteVec::key_at(b"\x02\0\0\0Hi", 6) == Some(b"Hi".as_slice())
+fn check_keys(test: &Test<'_>) {
+    let vtable = b"\x04\0\x04\0".as_slice();
+    let bytes = ByteVec::key_at(b"\x02\0\0\0Hi", 6);
+    check_eq(
+        test,
+        &VTable::key_at(b"\x04\0\x04\0", 4),
+        &Some(vtable),
+        "VTable::key_at",
+    );
+    check_eq(test, &bytes, &Some(b"Hi".as_slice()), "ByteVec::key_at");
 }
 
-fn a_cache_has_nothing(cache: &mut Cache<ByteVec>) -> bool {
+fn check_cache(test: &Test<'_>, cache: &mut Cache<ByteVec>) {
     laws::empty_caches_fit::<ByteVec>();
     cache.clear();
-    cache.get(b"\x02\0\0\0Hi", b"Hi").is_none()
+    check_eq(
+        test,
+        &cache.get(b"\x02\0\0\0Hi", b"Hi"),
+        &None,
+        "Cache::get",
+    );
 }
 
 // 3 bytes with room for 61 more.
-fn a_back_vector_tells(back: &BackVec) -> bool {
-    back.len() == 3 && back.room() == 61 && back.as_slice() == b"Axe".as_slice()
-}
-
-fn a_back_vector_is_filled(back: &mut BackVec) -> bool {
-    back.reserve(61).is_ok()
-        && back.extend_from_slice(b"A").is_ok()
-        && back.extend_with_zeros(60).is_ok()
-}
-
-fn a_back_vector_is_cleared(back: &mut BackVec) -> bool {
+fn check_back_vector(test: &Test<'_>, back: &mut BackVec) {
+    check_eq(test, &back.len(), &3, "BackVec::len");
+    check_eq(test, &back.room(), &61, "BackVec::room");
+    check_eq(
+        test,
+        &back.as_slice(),
+        &b"Axe".as_slice(),
+        "BackVec::as_slice",
+    );
+    check(test, back.reserve(61).is_ok(), "BackVec::reserve");
+    check(
+        test,
+        back.extend_from_slice(b"A").is_ok(),
+        "BackVec::extend_from_slice",
+    );
+    check(
+        test,
+        back.extend_with_zeros(60).is_ok(),
+        "BackVec::extend_with_zeros",
+    );
     back.clear();
-    back.room() == 64
+    check_eq(test, &back.room(), &64, "BackVec::clear");
 }
 
-fn a_builder_is_cleared(builder: &mut Builder) -> bool {
+fn check_builder_calls(test: &Test<'_>, builder: &mut Builder) {
+    check_builder(test, builder);
+    check_writes(test, builder);
+    check_offsets(test, builder);
+    check_numbers(test, builder);
+    check_options(test, builder);
+    check_defaults(test, builder);
     builder.clear();
-    builder.room() == 64
+    check_eq(test, &builder.room(), &64, "Builder::clear");
 }
 
-type Row = (&'static str, bool);
-
-fn first_wrong(rows: &[Row]) -> Option<&'static str> {
-    for (name, holds) in rows {
-        if !*holds {
-            return Some(*name);
-        }
-    }
-    None
-}
-
-fn first_wrong_of_a_builder(builder: &mut Builder) -> Option<&'static str> {
-    first_wrong(&[
-        (
-            "Builder: len, is_empty, room, as_slice, current_offset; Offset::downcast",
-            a_builder_tells(builder),
-        ),
-        (
-            "Builder: create_string, write_with; TableWriter::finish",
-            a_builder_writes(builder),
-        ),
-        ("prepare of offsets", offsets_are_prepared(builder)),
-        ("prepare of numbers", numbers_are_prepared(builder)),
-        ("prepare of options", options_are_prepared(builder)),
-        ("prepare of defaults", defaults_are_prepared(builder)),
-        ("Builder::clear", a_builder_is_cleared(builder)),
-    ])
-}
-
-fn first_wrong_of_parts(back: &mut BackVec, cache: &mut Cache<ByteVec>) -> Option<&'static str> {
-    first_wrong(&[
-        ("Cache: clear, get", a_cache_has_nothing(cache)),
-        ("BackVec: len, room, as_slice", a_back_vector_tells(back)),
-        (
-            "BackVec: reserve, extend_from_slice, extend_with_zeros",
-            a_back_vector_is_filled(back),
-        ),
-        ("BackVec::clear", a_back_vector_is_cleared(back)),
-        ("VTable::key_at, ByteVec::key_at", keys_are_found()),
-        ("Promises::request", a_request_is_met()),
-    ])
-}
-
-fn first_wrong_of_values(alloc: Global) -> Option<&'static str> {
-    first_wrong(&[
-        ("write, write_values", numbers_are_written()),
-        ("from_item of u16 and bool", values_are_copied(alloc)),
-        ("from of CopyError and BuildError", errors_are_converted()),
-        (
-            "Caches::all, check_version_compatibility",
-            settings_are_told(),
-        ),
-    ])
-}
-
-fn first_wrong_call(
-    alloc: Global,
+fn check_calls(
+    test: &Test<'_>,
     builder: &mut Builder,
     back: &mut BackVec,
     cache: &mut Cache<ByteVec>,
-) -> Option<&'static str> {
-    first_wrong_of_a_builder(builder)
-        .or(first_wrong_of_parts(back, cache))
-        .or(first_wrong_of_values(alloc))
+) {
+    check_builder_calls(test, builder);
+    check_cache(test, cache);
+    check_back_vector(test, back);
+    check_keys(test);
+    check_request(test);
+    check_values(test);
+    check_settings(test);
 }
 
-fn first_wrong_beside(
-    alloc: Global,
-    held: &mut Vec<Vec<u8>>,
+fn check_with_cache(
+    test: &Test<'_>,
     builder: &mut Builder,
     back: &mut BackVec,
-    cache: &mut Cache<ByteVec>,
-) -> Result<(bool, Option<&'static str>), AllocError> {
-    let exhausted = exhaust(alloc, held)?;
-    Ok((exhausted, first_wrong_call(alloc, builder, back, cache)))
-}
-
-fn first_wrong_without_memory(
-    alloc: Global,
-    builder: &mut Builder,
-    back: &mut BackVec,
-    cache: &mut Cache<ByteVec>,
-) -> Result<(bool, Option<&'static str>), AllocError> {
-    let mut held: Vec<Vec<u8>> = Vec::with_capacity(alloc, 262144)?;
-    first_wrong_beside(alloc, &mut held, builder, back, cache)
-}
-
-fn first_wrong_with(
-    alloc: Global,
-    builder: &mut Builder,
-    back: &mut BackVec,
-) -> Result<(bool, Option<&'static str>), AllocError> {
+) -> Result<(), BuildError> {
     back.extend_from_slice(b"Axe")?;
-    let mut cache: Cache<ByteVec> = Cache::new(alloc, u64::MAX)?;
-    first_wrong_without_memory(alloc, builder, back, &mut cache)
+    let mut cache: Cache<ByteVec> = Cache::new(test.alloc(), u64::MAX)?;
+    without_memory(test, |test| check_calls(test, builder, back, &mut cache));
+    Ok(())
 }
 
-fn first_wrong_in(
-    alloc: Global,
-    builder: &mut Builder,
-) -> Result<(bool, Option<&'static str>), AllocError> {
-    if prepare(builder).is_err() {
-        return Err(AllocError);
-    }
-    match BackVec::with_capacity(alloc, 64) {
-        Ok(mut back) => first_wrong_with(alloc, builder, &mut back),
-        Err(_) => Err(AllocError),
-    }
+fn check_with_back_vector(test: &Test<'_>, builder: &mut Builder) -> Result<(), BuildError> {
+    prepare(builder)?;
+    let mut back = BackVec::with_capacity(test.alloc(), 64)?;
+    check_with_cache(test, builder, &mut back)
 }
 
-fn first_wrong_in_64_bytes(alloc: Global) -> Result<(bool, Option<&'static str>), AllocError> {
-    match Builder::with_capacity(alloc, 64) {
-        Ok(mut builder) => first_wrong_in(alloc, &mut builder),
-        Err(_) => Err(AllocError),
-    }
+fn check_in_64_bytes(test: &Test<'_>) -> Result<(), BuildError> {
+    let mut builder = Builder::with_capacity(test.alloc(), 64)?;
+    check_with_back_vector(test, &mut builder)
 }
 
 #[test]
 fn no_call_asks_for_memory(rt: HostRuntime) -> Result<(), Fail> {
-    let (exhausted, wrong) = first_wrong_in_64_bytes(rt.alloc())?;
-    let holds = match wrong {
-        None if !exhausted => None,
-        None => Some(true),
-        Some(_) => Some(false),
-    };
-    let wrong = wrong.unwrap_or("");
-    check(&rt, holds_or_says(&rt, holds)?, wrong);
-    Ok(())
+    let test = Test::new(&rt);
+    check_done(&test, check_in_64_bytes(&test), "a builder of 64 bytes");
+    test.end()
 }

@@ -5,6 +5,7 @@ mod schemas;
 mod steps;
 
 use planus_dump::{DumpError, FieldSchema, Item, Kind, Schema, TableSchema, dump};
+use planus_testing::{Test, check, check_eq};
 use std::alloc::{AllocError, Global};
 
 pub type FieldParts<'a> = (usize, &'a str, Kind);
@@ -70,51 +71,35 @@ pub fn schema_of(alloc: Global, (tables, unions): SchemaParts<'_>) -> Result<Sch
     })
 }
 
-pub fn are_lines(lines: &[String], expected: &[&str]) -> bool {
-    let mut texts = expected.iter();
-    for line in lines {
-        if !matches!(texts.next(), Some(text) if line.as_str() == *text) {
-            return false;
-        }
+pub fn check_lines(test: &Test<'_>, lines: &[String], want: &[&str]) {
+    for (line, text) in lines.iter().zip(want) {
+        check_eq(test, &line.as_str(), text, "a line");
     }
-    texts.next().is_none()
+    check_eq(test, &lines.len(), &want.len(), "the lines");
 }
 
-fn dumps(
-    alloc: Global,
+fn check_dump_of(
+    test: &Test<'_>,
     schema: &Schema,
     bytes: &[u8],
     budget: usize,
-    expected: Result<&[&str], DumpError>,
-) -> bool {
-    match dump(alloc, schema, bytes, budget) {
-        Ok(lines) => matches!(expected, Ok(texts) if are_lines(lines.as_slice(), texts)),
-        Err(error) => expected == Err(error),
+    want: Result<&[&str], DumpError>,
+) {
+    match (dump(test.alloc(), schema, bytes, budget), want) {
+        (Ok(lines), Ok(want)) => check_lines(test, lines.as_slice(), want),
+        (answer, want) => check_eq(test, &answer.err(), &want.err(), "a dump"),
     }
 }
 
-pub fn dumps_lines(
-    alloc: Global,
+pub fn check_dump(
+    test: &Test<'_>,
     parts: SchemaParts<'_>,
     bytes: &[u8],
     budget: usize,
-    expected: &[&str],
-) -> bool {
-    match schema_of(alloc, parts) {
-        Ok(schema) => dumps(alloc, &schema, bytes, budget, Ok(expected)),
-        Err(_) => false,
-    }
-}
-
-pub fn is_refused(
-    alloc: Global,
-    parts: SchemaParts<'_>,
-    bytes: &[u8],
-    budget: usize,
-    expected: DumpError,
-) -> bool {
-    match schema_of(alloc, parts) {
-        Ok(schema) => dumps(alloc, &schema, bytes, budget, Err(expected)),
-        Err(_) => false,
+    want: Result<&[&str], DumpError>,
+) {
+    match schema_of(test.alloc(), parts) {
+        Ok(schema) => check_dump_of(test, &schema, bytes, budget, want),
+        Err(_) => check(test, false, "memory for a schema"),
     }
 }

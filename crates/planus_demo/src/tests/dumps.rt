@@ -1,11 +1,10 @@
 use super::answers;
 use super::long_scripts::{end_line, push_bytes, push_references, push_text, push_word};
-use super::no_memory::gives_without_memory;
+use super::no_memory::check_without_memory;
 use crate::mode::{field, schema};
-use crate::tests::check;
 use planus_dump::{FieldSchema, Item, Kind, Schema, TableSchema};
 use planus_script::run::RunError;
-use planus_testing::holds_or_says;
+use planus_testing::{Test, check, check_bytes, check_eq};
 use std::alloc::{AllocError, Global};
 use std::test::Fail;
 
@@ -19,13 +18,19 @@ fn dumped(
     answers(alloc, Some(schema), &mut reader, printed)
 }
 
-fn dumps(alloc: Global, root: usize, input: &[u8], printed: &[u8], clean: bool) -> bool {
-    let Ok(schema) = schema(alloc, root) else {
-        return false;
-    };
-    let mut writer = Vec::new(alloc);
-    let answer = dumped(alloc, &schema, input, &mut writer);
-    answer == Ok(clean) && writer.as_slice() == printed
+fn check_dump(
+    test: &Test<'_>,
+    root: usize,
+    input: &str,
+    printed: &str,
+    clean: bool,
+) -> Result<(), AllocError> {
+    let schema = schema(test.alloc(), root)?;
+    let mut writer = Vec::new(test.alloc());
+    let answer = dumped(test.alloc(), &schema, input.as_bytes(), &mut writer);
+    check_eq(test, &answer, &Ok(clean), input);
+    check_bytes(test, writer.as_slice(), printed.as_bytes(), input);
+    Ok(())
 }
 
 const INPUTS: &[(usize, &str, &str, bool)] = &[
@@ -53,17 +58,16 @@ const INPUTS: &[(usize, &str, &str, bool)] = &[
 ];
 
 #[test]
-fn inputs(rt: HostRuntime) {
+fn inputs(rt: HostRuntime) -> Result<(), Fail> {
+    let test = Test::new(&rt);
     for (root, input, printed, clean) in INPUTS {
-        let same = dumps(
-            rt.alloc(),
-            *root,
-            input.as_bytes(),
-            printed.as_bytes(),
-            *clean,
+        check(
+            &test,
+            check_dump(&test, *root, input, printed, *clean).is_ok(),
+            input,
         );
-        assert!(rt; same, "{input}");
     }
+    test.end()
 }
 
 fn push_fields(alloc: Global, fields: &mut Vec<FieldSchema>) -> Result<(), AllocError> {
@@ -137,70 +141,93 @@ fn input_of(alloc: Global, parts: Input) -> Result<Vec<u8>, AllocError> {
     Ok(input)
 }
 
-fn is_begun(printed: &[u8], (len, first): (usize, &[u8])) -> bool {
-    printed.len() == len && printed.starts_with(first)
+fn check_begun(
+    test: &Test<'_>,
+    schema: &Schema,
+    input: &[u8],
+    clean: bool,
+    (len, first): (usize, &[u8]),
+    row: &str,
+) {
+    let mut printed = Vec::new(test.alloc());
+    let answer = dumped(test.alloc(), schema, input, &mut printed);
+    let printed = printed.as_slice();
+    check_eq(test, &answer, &Ok(clean), row);
+    check_eq(test, &printed.len(), &len, row);
+    check_bytes(
+        test,
+        printed.get(..first.len()).unwrap_or(printed),
+        first,
+        row,
+    );
 }
 
-fn begins(alloc: Global, schema: &Schema, input: &[u8], clean: bool, want: (usize, &[u8])) -> bool {
-    let mut printed = Vec::new(alloc);
-    let answer = dumped(alloc, schema, input, &mut printed);
-    answer == Ok(clean) && is_begun(printed.as_slice(), want)
-}
-
-type Limit = (Input, bool, (usize, &'static [u8]));
+type Limit = (&'static str, Input, bool, (usize, &'static [u8]));
 
 const FIRST: &[u8] = b"root: table Node\nroot.names: list 9998\nroot.names[0] = \"abc\"\n";
 
 const LIMITS: &[Limit] = &[
-    (Input::Chain(64), false, (9, b"too deep\n")),
-    (Input::Names(9998, 3), true, (248879, FIRST)),
-    (Input::Names(9999, 3), false, (15, b"too many lines\n")),
-    (Input::Zeros(1048576), false, (8, b"bad hex\n")),
-    (Input::Zeros(1048577), false, (16, b"script too long\n")),
+    ("65 tables", Input::Chain(64), false, (9, b"too deep\n")),
+    ("10000 lines", Input::Names(9998, 3), true, (248879, FIRST)),
+    (
+        "10001 lines",
+        Input::Names(9999, 3),
+        false,
+        (15, b"too many lines\n"),
+    ),
+    (
+        "1048576 digits",
+        Input::Zeros(1048576),
+        false,
+        (8, b"bad hex\n"),
+    ),
+    (
+        "1048577 digits",
+        Input::Zeros(1048577),
+        false,
+        (16, b"script too long\n"),
+    ),
 ];
 
-fn is_limited(alloc: Global, (parts, clean, printed): Limit) -> Result<bool, AllocError> {
-    let schema = nodes(alloc)?;
-    let input = input_of(alloc, parts)?;
-    Ok(begins(alloc, &schema, input.as_slice(), clean, printed))
+fn check_limit(test: &Test<'_>, (row, parts, clean, printed): Limit) -> Result<(), AllocError> {
+    let schema = nodes(test.alloc())?;
+    let input = input_of(test.alloc(), parts)?;
+    check_begun(test, &schema, input.as_slice(), clean, printed, row);
+    Ok(())
 }
 
 // 64 tables deep, 10000 lines and 1048576 bytes of input are the limits.
 #[test]
-fn limits(rt: HostRuntime) {
+fn limits(rt: HostRuntime) -> Result<(), Fail> {
+    let test = Test::new(&rt);
     for limit in LIMITS {
-        check(
-            &rt,
-            matches!(is_limited(rt.alloc(), *limit), Ok(true)),
-            "a limit",
-        );
+        check(&test, check_limit(&test, *limit).is_ok(), limit.0);
     }
+    test.end()
 }
 
 // Where the lines don't fit in 4 MiB, `out of memory` is printed.
-fn is_refused(alloc: Global, schema: &Schema, input: &[u8]) -> Result<Option<bool>, AllocError> {
+fn check_refused(test: &Test<'_>, schema: &Schema, input: &[u8]) {
     for (spare, want, text) in [
         (0, (Err(RunError::OutOfMemory), 2), ""),
         (4194304, (Ok(false), 1), "out of memory\n"),
     ] {
-        let refused = gives_without_memory(alloc, Some(schema), input, spare, want, text)?;
-        if refused != Some(true) {
-            return Ok(refused);
-        }
+        check_without_memory(test, Some(schema), input, spare, want, text);
     }
     let printed: (usize, &[u8]) = (9223929, b"root: table Node\n");
-    Ok(Some(begins(alloc, schema, input, true, printed)))
+    check_begun(test, schema, input, true, printed, "with memory");
 }
 
-fn names_are_refused(alloc: Global, schema: &Schema) -> Result<Option<bool>, AllocError> {
-    let input = input_of(alloc, Input::Names(9000, 1003))?;
-    is_refused(alloc, schema, input.as_slice())
+fn check_names(test: &Test<'_>) -> Result<(), AllocError> {
+    let schema = nodes(test.alloc())?;
+    let input = input_of(test.alloc(), Input::Names(9000, 1003))?;
+    check_refused(test, &schema, input.as_slice());
+    Ok(())
 }
 
 #[test]
 fn refused_memory(rt: HostRuntime) -> Result<(), Fail> {
-    let schema = nodes(rt.alloc())?;
-    let refused = names_are_refused(rt.alloc(), &schema)?;
-    check(&rt, holds_or_says(&rt, refused)?, "refused");
-    Ok(())
+    let test = Test::new(&rt);
+    check(&test, check_names(&test).is_ok(), "memory for the input");
+    test.end()
 }

@@ -1,25 +1,23 @@
-use super::{check, prints_as};
 use planus::{BuildError, CopyError, ReplayError, Why};
 use planus_dump::DumpError;
 use planus_script::run::RunError;
 use planus_script::script::{ParseError, ReadFault};
+use planus_testing::{Test, check, check_prints};
 use std::io;
+use std::test::Fail;
 
 #[test]
-fn refusals_print_their_texts(rt: HostRuntime) {
-    let alloc = rt.alloc();
-    check(
-        &rt,
-        prints_as(alloc, &BuildError::OutOfMemory, "out of memory")
-            && prints_as(alloc, &BuildError::TooLarge, "too large")
-            && prints_as(alloc, &CopyError::OutOfMemory, "out of memory")
-            && prints_as(alloc, &ReplayError::OutOfMemory, "out of memory")
-            && prints_as(alloc, &ReplayError::TooLarge, "too large")
-            && prints_as(alloc, &RunError::OutOfMemory, "out of memory")
-            && prints_as(alloc, &RunError::Read, "reading failed")
-            && prints_as(alloc, &RunError::Write, "writing failed"),
-        "of memory, size, reading and writing",
-    );
+fn refusals_print_their_texts(rt: HostRuntime) -> Result<(), Fail> {
+    let test = Test::new(&rt);
+    check_prints(&test, &BuildError::OutOfMemory, "out of memory");
+    check_prints(&test, &BuildError::TooLarge, "too large");
+    check_prints(&test, &CopyError::OutOfMemory, "out of memory");
+    check_prints(&test, &ReplayError::OutOfMemory, "out of memory");
+    check_prints(&test, &ReplayError::TooLarge, "too large");
+    check_prints(&test, &RunError::OutOfMemory, "out of memory");
+    check_prints(&test, &RunError::Read, "reading failed");
+    check_prints(&test, &RunError::Write, "writing failed");
+    test.end()
 }
 
 fn refused(error: BuildError) -> io::Result<()> {
@@ -28,22 +26,23 @@ fn refused(error: BuildError) -> io::Result<()> {
 }
 
 #[test]
-fn refused_writes_are_errors_of_programs(rt: HostRuntime) {
+fn refused_writes_are_errors_of_programs(rt: HostRuntime) -> Result<(), Fail> {
+    let test = Test::new(&rt);
     for (error, text) in [
         (BuildError::OutOfMemory, "out of memory"),
         (BuildError::TooLarge, "too large"),
     ] {
-        let printed = match refused(error) {
-            Ok(()) => false,
-            Err(error) => prints_as(rt.alloc(), &error, text),
-        };
-        check(&rt, printed, text);
+        match refused(error) {
+            Ok(()) => check(&test, false, text),
+            Err(error) => check_prints(&test, &error, text),
+        }
     }
+    test.end()
 }
 
 #[test]
-fn faults_print_where_they_are(rt: HostRuntime) {
-    let alloc = rt.alloc();
+fn faults_print_where_they_are(rt: HostRuntime) -> Result<(), Fail> {
+    let test = Test::new(&rt);
     let step = ReplayError::BadStep {
         step: 12,
         why: Why::ZeroTag,
@@ -52,15 +51,12 @@ fn faults_print_where_they_are(rt: HostRuntime) {
         number: 3,
         fault: ReadFault::BadHex,
     };
-    check(
-        &rt,
-        prints_as(alloc, &step, "step 12: zero tag")
-            && prints_as(alloc, &line, "line 3: bad hex")
-            && prints_as(alloc, &ParseError::OutOfMemory, "out of memory")
-            && prints_as(alloc, &DumpError::OutOfMemory, "out of memory")
-            && prints_as(alloc, &DumpError::BadSchema, "bad schema")
-            && prints_as(alloc, &DumpError::TooDeep, "too deep")
-            && prints_as(alloc, &DumpError::TooManyLines, "too many lines"),
-        "of steps, lines and dumps",
-    );
+    check_prints(&test, &step, "step 12: zero tag");
+    check_prints(&test, &line, "line 3: bad hex");
+    check_prints(&test, &ParseError::OutOfMemory, "out of memory");
+    check_prints(&test, &DumpError::OutOfMemory, "out of memory");
+    check_prints(&test, &DumpError::BadSchema, "bad schema");
+    check_prints(&test, &DumpError::TooDeep, "too deep");
+    check_prints(&test, &DumpError::TooManyLines, "too many lines");
+    test.end()
 }

@@ -1,8 +1,8 @@
-use super::{answers, ran};
+use super::{answers, check_answer, ran};
 use crate::mode::schema;
-use crate::tests::check;
 use planus_dump::Schema;
 use planus_script::run::{RunError, status};
+use planus_testing::{Test, check, check_bytes, check_eq};
 use std::alloc::{AllocError, Global};
 use std::io;
 use std::io::{Error, ErrorKind, Read, Write};
@@ -83,74 +83,110 @@ fn ran_oddly(
     answers(alloc, schema, &mut reader, printed)
 }
 
-fn is_clean(alloc: Global, k: usize, odd: Odd) -> bool {
-    let mut printed = Vec::new(alloc);
-    ran_oddly(alloc, None, (k, odd), &mut printed) == Ok(true) && printed.as_slice() == PRINTED
+fn check_reading(
+    test: &Test<'_>,
+    schema: Option<&Schema>,
+    (k, odd): (usize, Odd),
+    want: (Result<bool, RunError>, u8),
+    printed: &[u8],
+    row: &str,
+) {
+    let mut writer = Vec::new(test.alloc());
+    let answer = ran_oddly(test.alloc(), schema, (k, odd), &mut writer);
+    check_answer(test, answer, want, row);
+    check_bytes(test, writer.as_slice(), printed, row);
 }
 
-fn reading_fails(alloc: Global, schema: Option<&Schema>, k: usize) -> bool {
-    let mut printed = Vec::new(alloc);
-    let answer = ran_oddly(alloc, schema, (k, Odd::Fails), &mut printed);
-    answer == Err(RunError::Read) && status(&answer) == 2 && printed.is_empty()
-}
+const UNREAD: (Result<bool, RunError>, u8) = (Err(RunError::Read), 2);
 
-fn ends_early(alloc: Global, k: usize) -> bool {
-    let (mut printed, mut want) = (Vec::new(alloc), Vec::new(alloc));
-    let answer = ran_oddly(alloc, None, (k, Odd::GivesNothing), &mut printed);
+// What is read then is the same as of a shorter script.
+fn check_early_end(test: &Test<'_>, k: usize) {
     let first = SCRIPT.get(..k.wrapping_sub(1)).unwrap_or(SCRIPT);
-    answer == ran(alloc, first, &mut want).0 && printed.as_slice() == want.as_slice()
+    let mut want = Vec::new(test.alloc());
+    let (answer, _) = ran(test.alloc(), first, &mut want);
+    let (odd, want) = ((k, Odd::GivesNothing), want.as_slice());
+    check_reading(
+        test,
+        None,
+        odd,
+        (answer, status(&answer)),
+        want,
+        "an early end",
+    );
 }
 
-fn read_in_turn(alloc: Global, k: usize) -> [bool; 3] {
-    [
-        reading_fails(alloc, None, k),
-        ends_early(alloc, k),
-        is_clean(alloc, k, Odd::IsInterrupted),
-    ]
+fn check_read(test: &Test<'_>, k: usize) {
+    let clean = (Ok(true), 0);
+    check_reading(
+        test,
+        None,
+        (k, Odd::Fails),
+        UNREAD,
+        b"",
+        "a read that fails",
+    );
+    check_early_end(test, k);
+    let interrupted = (k, Odd::IsInterrupted);
+    check_reading(
+        test,
+        None,
+        interrupted,
+        clean,
+        PRINTED,
+        "a read that is interrupted",
+    );
 }
 
-fn too_long(
-    alloc: Global,
+fn check_too_long(
+    test: &Test<'_>,
     k: usize,
     want: Result<bool, RunError>,
     text: &str,
-) -> Result<bool, AllocError> {
-    let script = vec![in alloc; b'#'; 1048577]?;
-    let mut printed = Vec::new(alloc);
+) -> Result<(), AllocError> {
+    let script = vec![in test.alloc(); b'#'; 1048577]?;
+    let mut printed = Vec::new(test.alloc());
     let mut reader = OddReader {
         bytes: script.as_slice(),
         left: k,
         odd: Odd::Fails,
     };
-    let answer = answers(alloc, None, &mut reader, &mut printed);
-    Ok(answer == want && printed.as_slice() == text.as_bytes())
+    let answer = answers(test.alloc(), None, &mut reader, &mut printed);
+    check_eq(test, &answer, &want, "a long script");
+    check_bytes(test, printed.as_slice(), text.as_bytes(), "a long script");
+    Ok(())
 }
 
 // Nothing is read after the first byte that is too much.
 #[test]
 fn reads_of_a_long_script(rt: HostRuntime) -> Result<(), Fail> {
+    let test = Test::new(&rt);
     for (k, want, text) in [
         (1048577, Err(RunError::Read), ""),
         (1048578, Ok(false), "script too long\n"),
     ] {
-        let found = too_long(rt.alloc(), k, want, text)?;
-        assert!(rt; found, "read {k}");
+        let done = check_too_long(&test, k, want, text);
+        check(&test, done.is_ok(), "memory for a long script");
     }
-    Ok(())
+    test.end()
 }
 
 // 41 reads of a byte, and one that finds the end.
 #[test]
-fn each_read_in_turn(rt: HostRuntime) {
+fn each_read_in_turn(rt: HostRuntime) -> Result<(), Fail> {
+    let test = Test::new(&rt);
     for k in 1..43 {
-        let found = read_in_turn(rt.alloc(), k);
-        assert!(rt; found == [true; 3], "read {k}: {found:?}");
+        check_read(&test, k);
     }
-    check(
-        &rt,
-        is_clean(rt.alloc(), 0, Odd::Fails),
+    let none = (0, Odd::Fails);
+    check_reading(
+        &test,
+        None,
+        none,
+        (Ok(true), 0),
+        PRINTED,
         "one byte at a time",
     );
+    test.end()
 }
 
 #[derive(Drop)]
@@ -186,96 +222,138 @@ impl Write for OddWriter {
     }
 }
 
-fn writes(
-    alloc: Global,
+fn check_writing(
+    test: &Test<'_>,
     schema: Option<&Schema>,
     (k, odd): (usize, Odd),
-    want: Result<bool, RunError>,
+    want: (Result<bool, RunError>, u8),
     count: usize,
-) -> bool {
+    row: &str,
+) {
     let (mut reader, printed) = match schema {
         None => (SCRIPT, PRINTED),
         Some(_) => (PRINTED, DUMPED),
     };
     let mut writer = OddWriter {
-        taken: Vec::new(alloc),
+        taken: Vec::new(test.alloc()),
         left: k,
         odd,
         hands_on: true,
     };
-    let answer = answers(alloc, schema, &mut reader, &mut writer);
-    answer == want && printed.get(..count) == Some(writer.taken.as_slice())
+    let answer = answers(test.alloc(), schema, &mut reader, &mut writer);
+    check_answer(test, answer, want, row);
+    check_eq(
+        test,
+        &printed.get(..count),
+        &Some(writer.taken.as_slice()),
+        row,
+    );
 }
 
-fn writing_fails(alloc: Global, k: usize, odd: Odd) -> bool {
-    let (fails, before) = (Err(RunError::Write), k.wrapping_sub(1));
-    writes(alloc, None, (k, odd), fails, before) && status(&fails) == 2
+const UNWRITTEN: (Result<bool, RunError>, u8) = (Err(RunError::Write), 2);
+
+const WRITTEN: (Result<bool, RunError>, u8) = (Ok(true), 0);
+
+// The k-th write, after as many bytes less one.
+fn check_write(test: &Test<'_>, k: usize) {
+    let before = k.wrapping_sub(1);
+    let (nothing, interrupted) = ((k, Odd::GivesNothing), (k, Odd::IsInterrupted));
+    check_writing(
+        test,
+        None,
+        (k, Odd::Fails),
+        UNWRITTEN,
+        before,
+        "a write that fails",
+    );
+    check_writing(
+        test,
+        None,
+        nothing,
+        UNWRITTEN,
+        before,
+        "a write that takes nothing",
+    );
+    check_writing(
+        test,
+        None,
+        interrupted,
+        WRITTEN,
+        96,
+        "a write that is interrupted",
+    );
 }
 
-fn is_written(alloc: Global, k: usize, odd: Odd) -> bool {
-    writes(alloc, None, (k, odd), Ok(true), 96)
-}
-
-fn write_in_turn(alloc: Global, k: usize) -> [bool; 3] {
-    [
-        writing_fails(alloc, k, Odd::Fails),
-        writing_fails(alloc, k, Odd::GivesNothing),
-        is_written(alloc, k, Odd::IsInterrupted),
-    ]
-}
-
-fn handing_on_fails(alloc: Global, script: &[u8], count: usize) -> bool {
+fn check_handing_on(test: &Test<'_>, script: &[u8], count: usize) {
     let mut reader = script;
     let mut writer = OddWriter {
-        taken: Vec::new(alloc),
+        taken: Vec::new(test.alloc()),
         left: 0,
         odd: Odd::Fails,
         hands_on: false,
     };
-    let answer = answers(alloc, None, &mut reader, &mut writer);
-    answer == Err(RunError::Write) && writer.taken.len() == count
+    let answer = answers(test.alloc(), None, &mut reader, &mut writer);
+    check_eq(test, &answer, &Err(RunError::Write), "a flush that fails");
+    check_eq(
+        test,
+        &writer.taken.len(),
+        &count,
+        "what is written before it",
+    );
 }
 
 #[test]
-fn each_write_in_turn(rt: HostRuntime) {
+fn each_write_in_turn(rt: HostRuntime) -> Result<(), Fail> {
+    let test = Test::new(&rt);
     for k in 1..97 {
-        let found = write_in_turn(rt.alloc(), k);
-        assert!(rt; found == [true; 3], "write {k}: {found:?}");
+        check_write(&test, k);
     }
-    check(&rt, is_written(rt.alloc(), 97, Odd::Fails), "none");
-    for (script, count) in [(SCRIPT, 96), (b"".as_slice(), 0)] {
-        let found = handing_on_fails(rt.alloc(), script, count);
-        check(&rt, found, "handed on");
-    }
-}
-
-fn reading_a_dump_fails(alloc: Global, k: usize) -> bool {
-    match schema(alloc, 0) {
-        Ok(schema) => reading_fails(alloc, Some(&schema), k),
-        Err(_) => false,
-    }
-}
-
-// The bytes before the k-th write are written; all are for k of 0.
-fn dump_is_written(alloc: Global, k: usize) -> bool {
-    let (want, count) = if k > 0 {
-        (Err(RunError::Write), k - 1)
-    } else {
-        (Ok(true), 54)
-    };
-    match schema(alloc, 0) {
-        Ok(schema) => writes(alloc, Some(&schema), (k, Odd::Fails), want, count),
-        Err(_) => false,
-    }
+    check_writing(
+        &test,
+        None,
+        (97, Odd::Fails),
+        WRITTEN,
+        96,
+        "no write that fails",
+    );
+    check_handing_on(&test, SCRIPT, 96);
+    check_handing_on(&test, b"", 0);
+    test.end()
 }
 
 // 96 reads, one more at the end, and 54 writes.
-#[test]
-fn each_end_of_a_dump(rt: HostRuntime) {
+fn check_ends_of_a_dump(test: &Test<'_>, schema: &Schema) {
     for k in 1..98 {
-        assert!(rt; reading_a_dump_fails(rt.alloc(), k), "read {k} fails");
+        let odd = (k, Odd::Fails);
+        check_reading(test, Some(schema), odd, UNREAD, b"", "a read of a dump");
     }
-    for k in 0..55 {
-        assert!(rt; dump_is_written(rt.alloc(), k), "write {k} fails");
+    for k in 1..55 {
+        let odd = (k, Odd::Fails);
+        check_writing(
+            test,
+            Some(schema),
+            odd,
+            UNWRITTEN,
+            k - 1,
+            "a write of a dump",
+        );
     }
+    check_writing(
+        test,
+        Some(schema),
+        (0, Odd::Fails),
+        WRITTEN,
+        54,
+        "a whole dump",
+    );
+}
+
+#[test]
+fn each_end_of_a_dump(rt: HostRuntime) -> Result<(), Fail> {
+    let test = Test::new(&rt);
+    match schema(rt.alloc(), 0) {
+        Ok(schema) => check_ends_of_a_dump(&test, &schema),
+        Err(_) => check(&test, false, "memory for a schema"),
+    }
+    test.end()
 }

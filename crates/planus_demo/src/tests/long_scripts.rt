@@ -1,7 +1,7 @@
 //! Long scripts and their values.
 
-use super::prints;
-use crate::tests::check;
+use super::check_script;
+use planus_testing::{Test, check};
 use std::alloc::{AllocError, Global};
 use std::test::Fail;
 
@@ -58,21 +58,34 @@ pub fn push_text(printed: &mut Vec<u8>, count: usize) -> Result<(), AllocError> 
     end_line(printed)
 }
 
-#[test]
-fn a_text_of_200000_bytes(rt: HostRuntime) -> Result<(), Fail> {
-    let mut script = Vec::new(rt.alloc());
+fn check_long_text(test: &Test<'_>) -> Result<(), AllocError> {
+    let mut script = Vec::new(test.alloc());
     push_text_step(&mut script, 200000)?;
     script.extend_from_slice(b"text Hi\nfinish 0 TEST\n")?;
-    let mut want = Vec::new(rt.alloc());
+    let mut want = Vec::new(test.alloc());
     // The padding after the second string is one byte.
     push_bytes(&mut want, b"\x10\0\0\0TEST\x02\0\0\0Hi\0\0")?;
     push_text(&mut want, 200000)?;
-    check(
-        &rt,
-        prints(rt.alloc(), script.as_slice(), 0, want.as_slice(), true),
-        "what is printed",
+    check_script(
+        test,
+        script.as_slice(),
+        0,
+        want.as_slice(),
+        true,
+        "200000 letters",
     );
     Ok(())
+}
+
+#[test]
+fn a_text_of_200000_bytes(rt: HostRuntime) -> Result<(), Fail> {
+    let test = Test::new(&rt);
+    check(
+        &test,
+        check_long_text(&test).is_ok(),
+        "memory for a long text",
+    );
+    test.end()
 }
 
 fn push_field(alloc: Global, script: &mut Vec<u8>, slot: usize) -> Result<(), AllocError> {
@@ -98,49 +111,63 @@ fn push_its_bytes(printed: &mut Vec<u8>) -> Result<(), AllocError> {
     end_line(printed)
 }
 
-#[test]
-fn a_table_of_256_slots(rt: HostRuntime) -> Result<(), Fail> {
-    let mut script = Vec::new(rt.alloc());
-    push_full_table(rt.alloc(), &mut script)?;
-    let mut want = Vec::new(rt.alloc());
+fn check_full_table(test: &Test<'_>) -> Result<(), AllocError> {
+    let mut script = Vec::new(test.alloc());
+    push_full_table(test.alloc(), &mut script)?;
+    let mut want = Vec::new(test.alloc());
     push_its_bytes(&mut want)?;
-    check(
-        &rt,
-        prints(rt.alloc(), script.as_slice(), 0, want.as_slice(), true),
-        "what is printed",
+    check_script(
+        test,
+        script.as_slice(),
+        0,
+        want.as_slice(),
+        true,
+        "256 slots",
     );
     Ok(())
 }
 
-fn comment_prints(
-    alloc: Global,
+#[test]
+fn a_table_of_256_slots(rt: HostRuntime) -> Result<(), Fail> {
+    let test = Test::new(&rt);
+    check(
+        &test,
+        check_full_table(&test).is_ok(),
+        "memory for a full table",
+    );
+    test.end()
+}
+
+fn check_comment(
+    test: &Test<'_>,
     count: usize,
     unread: usize,
     printed: &str,
-) -> Result<bool, AllocError> {
-    let script = vec![in alloc; b'#'; count]?;
-    let printed = printed.as_bytes();
-    Ok(prints(
-        alloc,
-        script.as_slice(),
-        unread,
-        printed,
-        printed.is_empty(),
-    ))
+    row: &str,
+) -> Result<(), AllocError> {
+    let script = vec![in test.alloc(); b'#'; count]?;
+    let (printed, clean) = (printed.as_bytes(), printed.is_empty());
+    check_script(test, script.as_slice(), unread, printed, clean, row);
+    Ok(())
 }
 
 // One byte more is read than the longest script has.
 #[test]
-fn longest_script(rt: HostRuntime) {
+fn longest_script(rt: HostRuntime) -> Result<(), Fail> {
+    let test = Test::new(&rt);
     let too_long = "script too long\n";
-    for (count, unread, printed) in [
-        (1048576, 0, ""),
-        (1048577, 0, too_long),
-        (1048580, 3, too_long),
+    for (count, unread, printed, row) in [
+        (1048576, 0, "", "1048576 bytes"),
+        (1048577, 0, too_long, "1048577 bytes"),
+        (1048580, 3, too_long, "1048580 bytes"),
     ] {
-        let found = comment_prints(rt.alloc(), count, unread, printed);
-        assert!(rt; matches!(found, Ok(true)), "{count} bytes");
+        check(
+            &test,
+            check_comment(&test, count, unread, printed, row).is_ok(),
+            row,
+        );
     }
+    test.end()
 }
 
 // Different for each number below 26 * 26 * 26.
@@ -317,32 +344,32 @@ fn push_lines(printed: &mut Vec<u8>) -> Result<(), AllocError> {
     Ok(())
 }
 
-fn lines_are_printed(alloc: Global, script: &[u8]) -> Result<bool, AllocError> {
-    let mut want = Vec::new(alloc);
+fn check_lines(test: &Test<'_>, script: &[u8]) -> Result<(), AllocError> {
+    let mut want = Vec::new(test.alloc());
     push_lines(&mut want)?;
-    Ok(prints(alloc, script, 0, want.as_slice(), true))
+    check_script(test, script, 0, want.as_slice(), true, "20010 steps");
+    Ok(())
 }
 
-fn long_script_is_printed(alloc: Global, script: &mut Vec<u8>) -> Result<[bool; 3], AllocError> {
-    push_stretches(alloc, script)?;
-    push_last_stretch(alloc, script)?;
-    let is_long = script.len() > 1010000;
-    let finishes = lines_are_printed(alloc, script.as_slice())?;
+fn check_long_script(test: &Test<'_>, script: &mut Vec<u8>) -> Result<(), AllocError> {
+    push_stretches(test.alloc(), script)?;
+    push_last_stretch(test.alloc(), script)?;
+    check(test, script.len() > 1010000, "more than 1010000 bytes");
+    check_lines(test, script.as_slice())?;
     script.extend_from_slice(b"finish 20010\n")?;
-    let bad = prints(
-        alloc,
-        script.as_slice(),
-        0,
-        b"line 20011: no such step\n",
-        false,
-    );
-    Ok([is_long, finishes, bad])
+    let fault = b"line 20011: no such step\n";
+    check_script(test, script.as_slice(), 0, fault, false, "one step more");
+    Ok(())
 }
 
 #[test]
 fn a_script_of_20010_steps(rt: HostRuntime) -> Result<(), Fail> {
+    let test = Test::new(&rt);
     let mut script = Vec::new(rt.alloc());
-    let found = long_script_is_printed(rt.alloc(), &mut script)?;
-    assert!(rt; found == [true; 3], "{found:?}");
-    Ok(())
+    check(
+        &test,
+        check_long_script(&test, &mut script).is_ok(),
+        "memory for a long script",
+    );
+    test.end()
 }

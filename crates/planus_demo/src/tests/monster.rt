@@ -1,18 +1,22 @@
 ghost use Rattle.std.specs.Prelude.{◌≤◌, length, IsTrue};
 
-use super::settings::setting;
-use super::weapon::{WeaponRow, is_weapon, item_is, weapon};
-use super::{fails_printing, finish_with, gives, in_builder, prints_as};
+use super::finish_with;
+use super::settings::{SETTINGS, setting};
+use super::weapon::{WeaponRow, check_item, check_weapon, weapon};
 use crate::equipment::Equipment;
 use crate::equipment_ref::EquipmentRef;
 use crate::monster::{Monster, MonsterRef};
-use crate::tests::check;
 use planus::errors::ErrorKind;
 use planus::{
     BuildError, Builder, ByteList, Caches, DefaultValue, Error, Offset, ReadAsRoot, UnionOffset,
     UnionVector, WriteAsDefault,
 };
-use std::alloc::Global;
+use planus_testing::{
+    Test, check, check_bytes, check_distance, check_eq, check_fails, check_prints, in_builder,
+};
+use std::test::Fail;
+
+type Done = Result<(), BuildError>;
 
 // 80 hit points, and an axe with a damage of 24 in hand.
 const ORC: [u8; 84] = [
@@ -69,259 +73,323 @@ fn hoarder(builder: &mut Builder) -> Result<Offset<Monster>, BuildError> {
     Monster::create(builder, DefaultValue, "Gob", (), (), (), [unknown])
 }
 
-fn orc_is_written(builder: &mut Builder) -> Result<bool, BuildError> {
+fn check_orc(test: &Test<'_>, builder: &mut Builder, row: &str) -> Done {
     let orc = orc(builder)?;
-    Ok(orc.distance() == 80 && finish_with(builder, orc)? == ORC.as_slice())
+    check_bytes(test, finish_with(builder, orc)?, &ORC, row);
+    check_distance(test, orc, 80, row);
+    Ok(())
 }
 
 // No two strings and no two vtables of an orc are equal.
 #[test]
-fn an_orc_written(rt: HostRuntime) {
+fn an_orc_written(rt: HostRuntime) -> Result<(), Fail> {
+    let test = Test::new(&rt);
     for number in 0..8 {
-        let written = in_builder(rt.alloc(), setting(number, 1), orc_is_written);
-        assert!(rt; written, "setting {number}");
+        let row = SETTINGS[number].0;
+        in_builder(
+            &test,
+            setting(number, 1),
+            |test, builder| check_orc(test, builder, row),
+        );
     }
+    test.end()
 }
 
-fn is_monster(monster: MonsterRef<'_>, hp: i16, name: &str) -> bool {
-    gives(monster.hp(), hp) && gives(monster.name(), name)
+fn check_monster(test: &Test<'_>, monster: MonsterRef<'_>, hp: i16, name: &str) {
+    check_eq(test, &monster.hp(), &Ok(hp), name);
+    check_eq(test, &monster.name(), &Ok(name), name);
 }
 
-fn orc_is_read() -> bool {
-    let Ok(orc) = MonsterRef::read_as_root(&ORC) else {
-        return false;
-    };
-    is_monster(orc, 80, "Orc") && gives(orc.inventory(), None) && matches!(orc.loot(), Ok(None))
-}
-
-#[test]
-fn an_orc_read(rt: HostRuntime) {
-    check(&rt, orc_is_read(), "an orc");
-}
-
-pub fn is_held(equipment: EquipmentRef<'_>, (name, damage): WeaponRow) -> bool {
-    match equipment {
-        EquipmentRef::Weapon(weapon) => is_weapon(weapon, name, damage),
-    }
-}
-
-fn has_an_axe(monster: MonsterRef<'_>) -> bool {
-    match monster.weapons() {
-        Ok(Some(weapons)) => weapons.len() == 1 && item_is(weapons.get(0usize), (Some("Axe"), 24)),
-        _ => false,
-    }
-}
-
-fn has_equipped_an_axe(monster: MonsterRef<'_>) -> bool {
-    match monster.equipped() {
-        Ok(Some(equipped)) => is_held(equipped, (Some("Axe"), 24)),
-        _ => false,
-    }
-}
-
-fn its_weapons_are_read() -> bool {
+fn check_orc_read(test: &Test<'_>) {
     match MonsterRef::read_as_root(&ORC) {
-        Ok(orc) => has_an_axe(orc) && has_equipped_an_axe(orc),
-        Err(_) => false,
+        Ok(orc) => {
+            check_monster(test, orc, 80, "Orc");
+            check_eq(test, &orc.inventory(), &Ok(None), "no inventory");
+            check(test, matches!(orc.loot(), Ok(None)), "no loot");
+        }
+        Err(error) => check_eq(test, &Some(error), &None, "an orc"),
     }
 }
 
 #[test]
-fn its_weapons(rt: HostRuntime) {
-    check(&rt, its_weapons_are_read(), "weapons");
+fn an_orc_read(rt: HostRuntime) -> Result<(), Fail> {
+    let test = Test::new(&rt);
+    check_orc_read(&test);
+    test.end()
 }
 
-fn inventory_is_read(elf: MonsterRef<'_>) -> bool {
-    is_monster(elf, 7, "Elf")
-        && gives(elf.inventory(), Some(&[1, 2, 3]))
-        && matches!(elf.weapons(), Ok(None))
-        && matches!(elf.equipped(), Ok(None))
-}
-
-fn loot_is(item: Option<planus::Result<EquipmentRef<'_>>>, want: WeaponRow) -> bool {
-    match item {
-        Some(Ok(equipment)) => is_held(equipment, want),
-        _ => false,
+pub fn check_held(test: &Test<'_>, equipment: EquipmentRef<'_>, want: WeaponRow, row: &str) {
+    match equipment {
+        EquipmentRef::Weapon(weapon) => check_weapon(test, weapon, want, row),
     }
 }
 
-pub fn is_loot<'a>(loot: UnionVector<'a, EquipmentRef<'a>>, want: &[WeaponRow]) -> bool {
-    let mut items = loot.iter();
-    for row in want {
-        if !loot_is(items.next(), *row) {
-            return false;
+const AN_AXE: WeaponRow = (Some("Axe"), 24);
+
+fn check_its_weapons(test: &Test<'_>, monster: MonsterRef<'_>) {
+    match monster.weapons() {
+        Ok(Some(weapons)) => {
+            check_eq(test, &weapons.len(), &1, "one weapon");
+            check_item(test, weapons.get(0usize), AN_AXE, "one weapon");
         }
+        _ => check(test, false, "weapons"),
     }
-    items.next().is_none() && loot.len() == want.len()
 }
 
-fn loot_is_read(elf: MonsterRef<'_>) -> bool {
+pub fn check_equipped(test: &Test<'_>, monster: MonsterRef<'_>, want: WeaponRow, row: &str) {
+    match monster.equipped() {
+        Ok(Some(equipped)) => check_held(test, equipped, want, row),
+        _ => check(test, false, row),
+    }
+}
+
+#[test]
+fn its_weapons(rt: HostRuntime) -> Result<(), Fail> {
+    let test = Test::new(&rt);
+    match MonsterRef::read_as_root(&ORC) {
+        Ok(orc) => {
+            check_its_weapons(&test, orc);
+            check_equipped(&test, orc, AN_AXE, "the equipped weapon");
+        }
+        Err(error) => check_eq(&test, &Some(error), &None, "an orc"),
+    }
+    test.end()
+}
+
+fn check_inventory(test: &Test<'_>, elf: MonsterRef<'_>) {
+    let inventory = [1, 2, 3];
+    check_monster(test, elf, 7, "Elf");
+    check_eq(
+        test,
+        &elf.inventory(),
+        &Ok(Some(inventory.as_slice())),
+        "an inventory",
+    );
+    check(test, matches!(elf.weapons(), Ok(None)), "no weapons");
+    check(test, matches!(elf.equipped(), Ok(None)), "nothing equipped");
+}
+
+fn check_loot_item(
+    test: &Test<'_>,
+    item: Option<planus::Result<EquipmentRef<'_>>>,
+    want: WeaponRow,
+    row: &str,
+) {
+    match item {
+        Some(Ok(equipment)) => check_held(test, equipment, want, row),
+        Some(Err(error)) => check_eq(test, &Some(error), &None, row),
+        None => check(test, false, row),
+    }
+}
+
+pub fn check_loot<'a>(
+    test: &Test<'_>,
+    loot: UnionVector<'a, EquipmentRef<'a>>,
+    want: &[WeaponRow],
+    row: &str,
+) {
+    let mut items = loot.iter();
+    for weapon in want {
+        check_loot_item(test, items.next(), *weapon, row);
+    }
+    check(test, items.next().is_none(), row);
+    check_eq(test, &loot.len(), &want.len(), row);
+}
+
+fn check_loot_of_elf(test: &Test<'_>, elf: MonsterRef<'_>) {
     match elf.loot() {
-        Ok(Some(loot)) => is_loot(loot, &[(Some("Axe"), 24), (Some("Bow"), 12)]),
-        _ => false,
+        Ok(Some(loot)) => check_loot(test, loot, &[AN_AXE, (Some("Bow"), 12)], "loot"),
+        _ => check(test, false, "loot"),
     }
 }
 
-fn elf_is_read(builder: &mut Builder) -> Result<bool, BuildError> {
+fn check_elf(test: &Test<'_>, builder: &mut Builder) -> Done {
     let elf = elf(builder)?;
     match MonsterRef::read_as_root(finish_with(builder, elf)?) {
-        Ok(elf) => Ok(inventory_is_read(elf) && loot_is_read(elf)),
-        Err(_) => Ok(false),
+        Ok(elf) => {
+            check_inventory(test, elf);
+            check_loot_of_elf(test, elf);
+        }
+        Err(error) => check_eq(test, &Some(error), &None, "an elf"),
     }
+    Ok(())
 }
 
-fn elf_is_read_twice(builder: &mut Builder) -> Result<bool, BuildError> {
-    let first = elf_is_read(builder)?;
+fn check_elf_twice(test: &Test<'_>, builder: &mut Builder) -> Done {
+    check_elf(test, builder)?;
     builder.clear();
-    Ok(first && elf_is_read(builder)?)
+    check_elf(test, builder)
 }
 
 #[test]
-fn inventory_and_loot(rt: HostRuntime) {
+fn inventory_and_loot(rt: HostRuntime) -> Result<(), Fail> {
+    let test = Test::new(&rt);
     for number in 0..8 {
-        let read = in_builder(rt.alloc(), setting(number, 1), elf_is_read_twice);
-        assert!(rt; read, "setting {number}");
+        in_builder(&test, setting(number, 1), check_elf_twice);
     }
+    test.end()
 }
 
-fn has_all_hit_points(bytes: &[u8]) -> bool {
-    match MonsterRef::read_as_root(bytes) {
-        Ok(monster) => is_monster(monster, 100, "Gob"),
-        Err(_) => false,
-    }
-}
-
-fn goblin_is_written<H: WriteAsDefault<i16, i16> + Drop>(
+fn check_goblin<H: WriteAsDefault<i16, i16> + Drop>(
+    test: &Test<'_>,
     builder: &mut Builder,
     hp: H,
-) -> Result<bool, BuildError>
+) -> Done
     requires { H.may hp builder.old }
 {
     let goblin = Monster::create(builder, hp, "Gob", (), (), (), ())?;
     let bytes = finish_with(builder, goblin)?;
-    Ok(bytes == GOBLIN && has_all_hit_points(bytes))
+    check_bytes(test, bytes, GOBLIN, "a goblin");
+    match MonsterRef::read_as_root(bytes) {
+        Ok(monster) => check_monster(test, monster, 100, "Gob"),
+        Err(error) => check_eq(test, &Some(error), &None, "a goblin"),
+    }
+    Ok(())
 }
 
-fn goblins_are_written(builder: &mut Builder) -> Result<bool, BuildError> {
-    let none = goblin_is_written(builder, DefaultValue)?;
+fn check_goblins(test: &Test<'_>, builder: &mut Builder) -> Done {
+    check_goblin(test, builder, DefaultValue)?;
     builder.clear();
-    let all = goblin_is_written(builder, 100i16)?;
-    Ok(none && all)
+    check_goblin(test, builder, 100i16)
 }
 
 #[test]
-fn hit_points_left_out(rt: HostRuntime) {
-    check(
-        &rt,
-        in_builder(rt.alloc(), Caches::all(), goblins_are_written),
-        "goblins",
-    );
+fn hit_points_left_out(rt: HostRuntime) -> Result<(), Fail> {
+    let test = Test::new(&rt);
+    in_builder(&test, Caches::all(), check_goblins);
+    test.end()
 }
 
-fn tag_is_unknown(alloc: Global, bytes: &[u8]) -> bool {
-    let Ok(orc) = MonsterRef::read_as_root(bytes) else {
-        return false;
-    };
+fn check_unknown_tag(test: &Test<'_>, bytes: &[u8]) {
     let text = "In <Monster@4>::equipped(): Unknown union (tag = 2)";
+    let Ok(orc) = MonsterRef::read_as_root(bytes) else {
+        return check(test, false, text);
+    };
     match orc.equipped() {
-        Ok(_) => false,
-        Err(e) => {
-            let prints = prints_as(alloc, &e, text);
-            prints && matches!(e.error_kind, ErrorKind::UnknownUnionTag { tag: 2 })
+        Ok(_) => check(test, false, text),
+        Err(error) => {
+            check_prints(test, &error, text);
+            check_eq(
+                test,
+                &error.error_kind,
+                &ErrorKind::UnknownUnionTag { tag: 2 },
+                text,
+            );
         }
     }
 }
 
 #[test]
-fn an_unknown_tag(rt: HostRuntime) {
+fn an_unknown_tag(rt: HostRuntime) -> Result<(), Fail> {
+    let test = Test::new(&rt);
     let mut bytes = ORC;
     bytes[22] = 2;
-    check(&rt, tag_is_unknown(rt.alloc(), &bytes), "an unknown tag");
+    check_unknown_tag(&test, &bytes);
+    test.end()
 }
 
-fn is_at(error: &Error, type_: &str, method: &str, byte_offset: usize) -> bool {
+fn check_error(
+    test: &Test<'_>,
+    error: Error,
+    kind: ErrorKind,
+    (type_, method, byte_offset): (&str, &str, usize),
+) {
     let at = error.source_location;
-    at.type_ == type_ && at.method == method && at.byte_offset == byte_offset
+    check_eq(test, &error.error_kind, &kind, method);
+    check_eq(test, &at.type_, &type_, method);
+    check_eq(test, &at.method, &method, method);
+    check_eq(test, &at.byte_offset, &byte_offset, method);
 }
 
 const NAMELESS: &[u8] = b"\x04\0\0\0\xfc\xff\xff\xff\x04\0\x04\0";
 
-fn name_is_missing() -> bool {
+fn check_missing_name(test: &Test<'_>) {
     let Ok(monster) = MonsterRef::read_as_root(NAMELESS) else {
-        return false;
+        return check(test, false, "a nameless monster");
     };
     match monster.name() {
-        Ok(_) => false,
-        Err(e) => {
-            matches!(e.error_kind, ErrorKind::MissingRequired) && is_at(&e, "Monster", "name", 4)
+        Ok(name) => check_eq(test, &Some(name), &None, "no name"),
+        Err(error) => {
+            check_error(
+                test,
+                error,
+                ErrorKind::MissingRequired,
+                ("Monster", "name", 4),
+            );
         }
     }
 }
 
 #[test]
-fn a_missing_name(rt: HostRuntime) {
-    check(&rt, name_is_missing(), "a missing name");
+fn a_missing_name(rt: HostRuntime) -> Result<(), Fail> {
+    let test = Test::new(&rt);
+    check_missing_name(&test);
+    test.end()
 }
 
 // The references of the weapons start at 0x2c.
-fn first_weapon_is_damaged(bytes: &[u8]) -> bool {
+fn check_damaged_weapon(test: &Test<'_>, bytes: &[u8]) {
     let Ok(orc) = MonsterRef::read_as_root(bytes) else {
-        return false;
+        return check(test, false, "an orc");
     };
     let Ok(Some(weapons)) = orc.weapons() else {
-        return false;
+        return check(test, false, "its weapons");
     };
     match weapons.get(0usize) {
-        Some(Err(e)) => {
-            matches!(e.error_kind, ErrorKind::InvalidOffset) && is_at(&e, "[Weapon]", "get", 0x2c)
+        Some(Err(error)) => {
+            check_error(
+                test,
+                error,
+                ErrorKind::InvalidOffset,
+                ("[Weapon]", "get", 0x2c),
+            );
         }
-        _ => false,
+        _ => check(test, false, "a damaged weapon"),
     }
 }
 
 // The axe's vtable would begin before the buffer.
 #[test]
-fn a_damaged_weapon(rt: HostRuntime) {
+fn a_damaged_weapon(rt: HostRuntime) -> Result<(), Fail> {
+    let test = Test::new(&rt);
     let mut bytes = ORC;
     bytes[0x3b] = 0x7f;
-    check(&rt, first_weapon_is_damaged(&bytes), "a damaged weapon");
+    check_damaged_weapon(&test, &bytes);
+    test.end()
 }
 
 // The references start 40 bytes before the end of 92, at 0x34.
-fn first_loot_is_unknown(alloc: Global, bytes: &[u8]) -> bool {
+fn check_unknown_loot(test: &Test<'_>, bytes: &[u8]) {
+    let text = "In <[Equipment]@34>::get(): Unknown union (tag = 2)";
     let Ok(goblin) = MonsterRef::read_as_root(bytes) else {
-        return false;
+        return check(test, false, "a goblin");
     };
     let Ok(Some(loot)) = goblin.loot() else {
-        return false;
+        return check(test, false, "its loot");
     };
-    let text = "In <[Equipment]@34>::get(): Unknown union (tag = 2)";
     match loot.get(0usize) {
-        Some(item) => fails_printing(alloc, item, text),
-        None => false,
+        Some(item) => check_fails(test, item, text),
+        None => check(test, false, text),
     }
 }
 
-fn an_unknown_tag_in_a_list_in(alloc: Global, builder: &mut Builder) -> Result<bool, BuildError> {
+fn check_hoarder(test: &Test<'_>, builder: &mut Builder) -> Done {
     let goblin = hoarder(builder)?;
-    Ok(first_loot_is_unknown(alloc, finish_with(builder, goblin)?))
+    check_unknown_loot(test, finish_with(builder, goblin)?);
+    Ok(())
 }
 
 #[test]
-fn an_unknown_tag_in_a_list(rt: HostRuntime) {
-    let alloc = rt.alloc();
-    let unknown = in_builder(alloc, Caches::all(), |builder| {
-        an_unknown_tag_in_a_list_in(alloc, builder)
-    });
-    check(&rt, unknown, "an unknown tag");
+fn an_unknown_tag_in_a_list(rt: HostRuntime) -> Result<(), Fail> {
+    let test = Test::new(&rt);
+    in_builder(&test, Caches::all(), check_hoarder);
+    test.end()
 }
 
-fn root_fails(alloc: Global) -> bool {
+#[test]
+fn damaged_bytes(rt: HostRuntime) -> Result<(), Fail> {
+    let test = Test::new(&rt);
     let text = "In <[MonsterRef]@0>::read_as_root(): Invalid offset";
-    fails_printing(alloc, MonsterRef::read_as_root(&[0, 0, 0]), text)
-}
-
-#[test]
-fn damaged_bytes(rt: HostRuntime) {
-    check(&rt, root_fails(rt.alloc()), "a root");
+    check_fails(&test, MonsterRef::read_as_root(&[0, 0, 0]), text);
+    test.end()
 }

@@ -1,13 +1,13 @@
 use super::failing_ends::{PRINTED, SCRIPT};
 use super::long_scripts::{push_references, push_text, push_text_step};
-use super::weapon::{is_weapon, weapon};
-use super::{answers, finish_with, prints, ran};
-use crate::tests::check;
-use crate::weapon::WeaponRef;
-use planus::{BuildError, Builder, ReadAsRoot};
+use super::weapon::{check_root, weapon};
+use super::{answers, check_answer, check_script, finish_with, ran};
+use planus::{BuildError, Builder};
 use planus_dump::Schema;
-use planus_script::run::{RunError, status};
-use planus_testing::{exhaust, exhaust_all_but, holds_or_says};
+use planus_script::run::RunError;
+use planus_testing::{
+    Test, check, check_bytes, check_distance, check_eq, check_tried, exhaust, exhaust_all_but,
+};
 use std::alloc::{AllocError, Global};
 use std::test::Fail;
 
@@ -33,31 +33,54 @@ fn ran_without_memory(
     Ok((exhausted, answer))
 }
 
-pub fn gives_without_memory(
-    alloc: Global,
+// Some 64 bytes of what is printed have room.
+fn check_ran(
+    test: &Test<'_>,
     schema: Option<&Schema>,
     script: &[u8],
     spare: usize,
     want: (Result<bool, RunError>, u8),
     text: &str,
-) -> Result<Option<bool>, AllocError> {
-    let mut printed: Vec<u8> = Vec::with_capacity(alloc, 64)?;
-    let (exhausted, answer) = ran_without_memory(alloc, schema, script, spare, &mut printed)?;
-    let same = answer == want.0
-        && status(&answer) == want.1
-        && printed.as_slice() == text.as_bytes();
-    Ok(if exhausted { Some(same) } else { None })
+) -> Result<bool, AllocError> {
+    let mut printed: Vec<u8> = Vec::with_capacity(test.alloc(), 64)?;
+    let (exhausted, answer) = ran_without_memory(
+        test.alloc(),
+        schema,
+        script,
+        spare,
+        &mut printed,
+    )?;
+    if exhausted {
+        check_answer(test, answer, want, "without memory");
+        check_bytes(test, printed.as_slice(), text.as_bytes(), "without memory");
+    }
+    Ok(exhausted)
+}
+
+pub fn check_without_memory(
+    test: &Test<'_>,
+    schema: Option<&Schema>,
+    script: &[u8],
+    spare: usize,
+    want: (Result<bool, RunError>, u8),
+    text: &str,
+) {
+    match check_ran(test, schema, script, spare, want, text) {
+        Ok(true) => {}
+        Ok(false) => check_tried(test, None, "without memory"),
+        Err(_) => check(test, false, "memory for 64 bytes"),
+    }
 }
 
 #[test]
 fn refused_memory(rt: HostRuntime) -> Result<(), Fail> {
+    let test = Test::new(&rt);
     let script = b"text Axe\nfinish 0\n";
     let want = (Err(RunError::OutOfMemory), 2);
-    let refused = gives_without_memory(rt.alloc(), None, script, 0, want, "")?;
-    check(&rt, holds_or_says(&rt, refused)?, "refused");
+    check_without_memory(&test, None, script, 0, want, "");
     let printed = b"04 00 00 00 03 00 00 00 41 78 65 00\n";
-    check(&rt, prints(rt.alloc(), script, 0, printed, true), "again");
-    Ok(())
+    check_script(&test, script, 0, printed, true, "again");
+    test.end()
 }
 
 fn push_finishes(script: &mut Vec<u8>) -> Result<(), AllocError> {
@@ -76,29 +99,31 @@ fn push_finished(printed: &mut Vec<u8>) -> Result<(), AllocError> {
     Ok(())
 }
 
-fn prints_finishes(alloc: Global, script: &[u8]) -> Result<bool, AllocError> {
-    let mut want = Vec::new(alloc);
+fn check_finishes(test: &Test<'_>, script: &[u8]) -> Result<(), AllocError> {
+    let mut want = Vec::new(test.alloc());
     push_finished(&mut want)?;
-    Ok(prints(alloc, script, 0, want.as_slice(), true))
+    check_script(test, script, 0, want.as_slice(), true, "a hundred finishes");
+    Ok(())
 }
 
 // Where the finishes don't fit in 4 MiB, `out of memory` is printed.
-fn is_refused(alloc: Global, script: &[u8]) -> Result<Option<bool>, AllocError> {
-    let (text, want) = ("out of memory\n", (Ok(false), 1));
-    let refused = gives_without_memory(alloc, None, script, 4194304, want, text)?;
-    if prints_finishes(alloc, script)? {
-        return Ok(refused);
-    }
-    Ok(Some(false))
+fn check_many_finishes(test: &Test<'_>) -> Result<(), AllocError> {
+    let mut script = Vec::new(test.alloc());
+    push_finishes(&mut script)?;
+    let (script, want) = (script.as_slice(), (Ok(false), 1));
+    check_without_memory(test, None, script, 4194304, want, "out of memory\n");
+    check_finishes(test, script)
 }
 
 #[test]
 fn out_of_memory_is_printed(rt: HostRuntime) -> Result<(), Fail> {
-    let mut script = Vec::new(rt.alloc());
-    push_finishes(&mut script)?;
-    let refused = is_refused(rt.alloc(), script.as_slice())?;
-    check(&rt, holds_or_says(&rt, refused)?, "refused");
-    Ok(())
+    let test = Test::new(&rt);
+    check(
+        &test,
+        check_many_finishes(&test).is_ok(),
+        "memory for a script",
+    );
+    test.end()
 }
 
 const TURNS: usize = 1024;
@@ -114,7 +139,7 @@ enum Turn {
     // Memory was left where none should have been.
     NotApplied,
     Made,
-    // Fails, leaves this number of bytes, and then works.
+    // Fails, and leaves this number of bytes.
     Refused(usize),
     Wrong,
 }
@@ -131,30 +156,33 @@ fn axe_is_refused(
     Ok(if exhausted { Some(refused) } else { None })
 }
 
-fn axe_is_written(builder: &mut Builder) -> Result<bool, BuildError> {
+fn check_axe(test: &Test<'_>, builder: &mut Builder) -> Result<(), BuildError> {
     let axe = weapon(builder, "Axe", 24)?;
-    let there = axe.distance() == 28;
-    match WeaponRef::read_as_root(finish_with(builder, axe)?) {
-        Ok(axe) => Ok(there && is_weapon(axe, Some("Axe"), 24)),
-        Err(_) => Ok(false),
+    check_root(
+        test,
+        finish_with(builder, axe)?,
+        (Some("Axe"), 24),
+        "an axe after a refusal",
+    );
+    check_distance(test, axe, 28, "an axe after a refusal");
+    Ok(())
+}
+
+fn axe_in(test: &Test<'_>, builder: &mut Builder, spare: usize) -> Result<Turn, BuildError> {
+    match axe_is_refused(test.alloc(), builder, spare)? {
+        None => Ok(Turn::NotApplied),
+        Some(false) => Ok(Turn::Made),
+        Some(true) => {
+            let len = builder.len();
+            check_axe(test, builder)?;
+            Ok(Turn::Refused(len))
+        }
     }
 }
 
-fn axe_in(alloc: Global, builder: &mut Builder, spare: usize) -> Result<Turn, BuildError> {
-    let refused = axe_is_refused(alloc, builder, spare)?;
-    let len = builder.len();
-    let written = axe_is_written(builder)?;
-    Ok(match refused {
-        None => Turn::NotApplied,
-        Some(false) => Turn::Made,
-        Some(true) if written => Turn::Refused(len),
-        Some(true) => Turn::Wrong,
-    })
-}
-
-fn axe_with(alloc: Global, spare: usize) -> Result<Turn, BuildError> {
-    let mut builder = Builder::new(alloc)?;
-    axe_in(alloc, &mut builder, spare)
+fn axe_with(test: &Test<'_>, spare: usize) -> Result<Turn, BuildError> {
+    let mut builder = Builder::new(test.alloc())?;
+    axe_in(test, &mut builder, spare)
 }
 
 fn ran_with(
@@ -169,19 +197,21 @@ fn ran_with(
     Ok((exhausted, answer))
 }
 
-fn run_with(alloc: Global, spare: usize) -> Result<Turn, BuildError> {
-    let mut printed: Vec<u8> = Vec::with_capacity(alloc, 128)?;
-    let (exhausted, answer) = ran_with(alloc, spare, &mut printed)?;
-    let again = prints(alloc, SCRIPT, 0, PRINTED, true);
-    let len = printed.len();
+fn run_with(test: &Test<'_>, spare: usize) -> Result<Turn, BuildError> {
+    let mut printed: Vec<u8> = Vec::with_capacity(test.alloc(), 128)?;
+    let (exhausted, answer) = ran_with(test.alloc(), spare, &mut printed)?;
+    check_script(test, SCRIPT, 0, PRINTED, true, "a run after a refusal");
+    let printed = printed.as_slice();
     Ok(match answer {
         _ if !exhausted => Turn::NotApplied,
-        Err(RunError::OutOfMemory) if again && printed.is_empty() => Turn::Refused(len),
-        Ok(false) if again && printed.as_slice() == b"out of memory\n".as_slice() => Turn::Refused(
-            len,
-        ),
-        Ok(true) if printed.as_slice() == PRINTED => Turn::Made,
-        _ => Turn::Wrong,
+        Err(RunError::OutOfMemory) if printed.is_empty() => Turn::Refused(0),
+        Ok(false) if printed == b"out of memory\n".as_slice() => Turn::Refused(printed.len()),
+        Ok(true) if printed == PRINTED => Turn::Made,
+        _ => {
+            check_eq(test, &answer, &Ok(true), "a run with little memory");
+            check_bytes(test, printed, PRINTED, "a run with little memory");
+            Turn::Wrong
+        }
     })
 }
 
@@ -196,7 +226,7 @@ fn note(met: &mut [bool; 3], all: &[usize], left: usize) -> bool {
 }
 
 fn states_met(
-    alloc: Global,
+    test: &Test<'_>,
     call: Call,
     more: usize,
     all: &[usize],
@@ -205,8 +235,8 @@ fn states_met(
     for turn in 0..TURNS {
         let spare = turn.saturating_mul(more);
         let turn = match call {
-            Call::Axe => axe_with(alloc, spare)?,
-            Call::Run => run_with(alloc, spare)?,
+            Call::Axe => axe_with(test, spare)?,
+            Call::Run => run_with(test, spare)?,
         };
         match turn {
             Turn::NotApplied => return Ok(None),
@@ -218,16 +248,19 @@ fn states_met(
     Ok(Some(0))
 }
 
+fn check_states(test: &Test<'_>, call: Call, more: usize, all: &[usize], least: usize, row: &str) {
+    match states_met(test, call, more, all) {
+        Ok(None) => check_tried(test, None, row),
+        Ok(Some(states)) => check_eq(test, &states.min(least), &least, row),
+        Err(error) => check_eq(test, &Some(error), &None, row),
+    }
+}
+
 // An axe fails at its name, vtable or table; a run before the steps, or later.
 #[test]
 fn one_refusal_after_the_other(rt: HostRuntime) -> Result<(), Fail> {
-    for (name, call, more, all, least) in [
-        ("an axe", Call::Axe, 32, [0, 8, 16].as_slice(), 1usize),
-        ("a run", Call::Run, 64, [0, 14].as_slice(), 2),
-    ] {
-        let met = states_met(rt.alloc(), call, more, all)?;
-        let enough = met.map(|states| states >= least);
-        assert!(rt; holds_or_says(&rt, enough)?, "{name}: {met:?}");
-    }
-    Ok(())
+    let test = Test::new(&rt);
+    check_states(&test, Call::Axe, 32, &[0, 8, 16], 1, "states of an axe");
+    check_states(&test, Call::Run, 64, &[0, 14], 2, "states of a run");
+    test.end()
 }

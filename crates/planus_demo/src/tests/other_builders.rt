@@ -1,12 +1,13 @@
 //! Buffers of flatc 2.0.8 from JSON, generated C++, and Python's `flatbuffers.Builder`. Their
 //! vtables are before their tables.
 
-use super::gives;
-use super::monster::{is_held, is_loot};
-use super::weapon::{WeaponRow, are_weapons, is_weapon};
+use super::monster::{check_equipped, check_loot};
+use super::weapon;
+use super::weapon::{WeaponRow, check_weapons};
 use crate::monster::MonsterRef;
-use crate::weapon::WeaponRef;
 use planus::ReadAsRoot;
+use planus_testing::{Test, check, check_eq};
+use std::test::Fail;
 
 // By all three: a weapon of each kind.
 const LASH: [u8; 36] = [
@@ -130,68 +131,61 @@ const MONSTERS: &[(&[u8], MonsterRow)] = &[
     (&HOARDER_OF_PYTHON, HOARDER),
 ];
 
-fn weapon_is_read(bytes: &[u8], (name, damage): WeaponRow) -> bool {
-    match WeaponRef::read_as_root(bytes) {
-        Ok(weapon) => is_weapon(weapon, name, damage),
-        Err(_) => false,
-    }
-}
-
 #[test]
-fn weapons_of_other_builders(rt: HostRuntime) {
+fn weapons_of_other_builders(rt: HostRuntime) -> Result<(), Fail> {
+    let test = Test::new(&rt);
     for (bytes, row) in WEAPONS {
-        assert!(rt; weapon_is_read(bytes, *row), "{row:?}");
+        weapon::check_root(&test, bytes, *row, "a weapon");
     }
+    test.end()
 }
 
-fn weapons_are(monster: MonsterRef<'_>, want: Option<&[WeaponRow]>) -> bool {
+fn check_its_weapons(test: &Test<'_>, monster: MonsterRef<'_>, want: Option<&[WeaponRow]>) {
     let Ok(weapons) = monster.weapons() else {
-        return false;
+        return check(test, false, "weapons");
     };
     match (weapons, want) {
-        (Some(weapons), Some(want)) => are_weapons(weapons, want),
-        (None, None) => true,
-        _ => false,
+        (Some(weapons), Some(want)) => check_weapons(test, weapons, want, "weapons"),
+        (weapons, want) => check_eq(test, &weapons.is_some(), &want.is_some(), "weapons"),
     }
 }
 
-fn loot_is(monster: MonsterRef<'_>, want: Option<&[WeaponRow]>) -> bool {
+fn check_its_loot(test: &Test<'_>, monster: MonsterRef<'_>, want: Option<&[WeaponRow]>) {
     let Ok(loot) = monster.loot() else {
-        return false;
+        return check(test, false, "loot");
     };
     match (loot, want) {
-        (Some(loot), Some(want)) => is_loot(loot, want),
-        (None, None) => true,
-        _ => false,
+        (Some(loot), Some(want)) => check_loot(test, loot, want, "loot"),
+        (loot, want) => check_eq(test, &loot.is_some(), &want.is_some(), "loot"),
     }
 }
 
-fn is_equipped(monster: MonsterRef<'_>, want: WeaponRow) -> bool {
-    match monster.equipped() {
-        Ok(Some(equipment)) => is_held(equipment, want),
-        _ => false,
-    }
+fn check_monster(test: &Test<'_>, monster: MonsterRef<'_>, row: MonsterRow) {
+    check_eq(test, &monster.hp(), &Ok(row.hp), row.name);
+    check_eq(test, &monster.name(), &Ok(row.name), row.name);
+    check_eq(
+        test,
+        &monster.inventory(),
+        &Ok(Some(row.inventory)),
+        row.name,
+    );
+    check_its_weapons(test, monster, row.weapons);
+    check_equipped(test, monster, row.equipped, row.name);
+    check_its_loot(test, monster, row.loot);
 }
 
-fn is_monster(monster: MonsterRef<'_>, row: MonsterRow) -> bool {
-    gives(monster.hp(), row.hp)
-        && gives(monster.name(), row.name)
-        && gives(monster.inventory(), Some(row.inventory))
-        && weapons_are(monster, row.weapons)
-        && is_equipped(monster, row.equipped)
-        && loot_is(monster, row.loot)
-}
-
-pub fn monster_is_read(bytes: &[u8], row: MonsterRow) -> bool {
+pub fn check_root(test: &Test<'_>, bytes: &[u8], row: MonsterRow) {
     match MonsterRef::read_as_root(bytes) {
-        Ok(monster) => is_monster(monster, row),
-        Err(_) => false,
+        Ok(monster) => check_monster(test, monster, row),
+        Err(error) => check_eq(test, &Some(error), &None, row.name),
     }
 }
 
 #[test]
-fn monsters_of_other_builders(rt: HostRuntime) {
+fn monsters_of_other_builders(rt: HostRuntime) -> Result<(), Fail> {
+    let test = Test::new(&rt);
     for (bytes, row) in MONSTERS {
-        assert!(rt; monster_is_read(bytes, *row), "{} bytes", bytes.len());
+        check_root(&test, bytes, *row);
     }
+    test.end()
 }

@@ -1,9 +1,9 @@
 use super::failing_ends::{DUMPED, OddReader, PRINTED, SCRIPT};
 use crate::ending::Ending;
 use crate::program::run_program;
-use crate::tests::check;
-use planus_script::run::{RunError, status};
-use planus_testing::{exhaust, holds_or_says};
+use crate::tests::check_answer;
+use planus_script::run::RunError;
+use planus_testing::{Test, check, check_bytes, check_eq, without_memory};
 use std::alloc::{AllocError, Global};
 use std::env::{Env, FillError};
 use std::test::Fail;
@@ -48,6 +48,7 @@ fn ran(
 
 #[derive(Clone, Copy)]
 struct Row {
+    name: &'static str,
     words: &'static [&'static [u8]],
     input: &'static [u8],
     printed: &'static [u8],
@@ -60,6 +61,7 @@ const NAME: &[u8] = b"planus_demo";
 
 const ROWS: &[Row] = &[
     Row {
+        name: "a script",
         words: &[NAME],
         input: SCRIPT,
         printed: PRINTED,
@@ -68,6 +70,7 @@ const ROWS: &[Row] = &[
         unread: 0,
     },
     Row {
+        name: "no name",
         words: &[],
         input: b"finish 0\n",
         printed: b"line 1: no such step\n",
@@ -76,6 +79,7 @@ const ROWS: &[Row] = &[
         unread: 0,
     },
     Row {
+        name: "a weapon",
         words: &[NAME, b"weapon"],
         input: PRINTED,
         printed: DUMPED,
@@ -84,6 +88,7 @@ const ROWS: &[Row] = &[
         unread: 0,
     },
     Row {
+        name: "a short monster",
         words: &[NAME, b"monster"],
         input: b"00 00 00\n",
         printed: b"root ! Invalid offset\n",
@@ -92,6 +97,7 @@ const ROWS: &[Row] = &[
         unread: 0,
     },
     Row {
+        name: "bad hex",
         words: &[NAME, b"monster"],
         input: b"00 0\n",
         printed: b"bad hex\n",
@@ -104,30 +110,37 @@ const ROWS: &[Row] = &[
 const USAGE: &[u8] = b"usage: planus_demo < SCRIPT\n       planus_demo weapon < BYTES\n       \
     planus_demo monster < BYTES\n";
 
-const UNKNOWN: &[&[&[u8]]] = &[
-    &[NAME, b"Weapon"],
-    &[NAME, b""],
-    &[NAME, b"weapon", b"monster"],
-    &[NAME, b"weapon\xff"],
+const UNKNOWN: &[(&str, &[&[u8]])] = &[
+    ("Weapon", &[NAME, b"Weapon"]),
+    ("no letter", &[NAME, b""]),
+    ("two words", &[NAME, b"weapon", b"monster"]),
+    ("no UTF-8", &[NAME, b"weapon\xff"]),
 ];
 
-fn goes_as(alloc: Global, row: &Row) -> bool {
-    let (mut printed, mut told) = (Vec::new(alloc), Vec::new(alloc));
-    let (ending, unread) = ran(alloc, row.words, row.input, &mut printed, &mut told);
-    status(&ending.answer) == row.status
-        && ending.told
-        && printed.as_slice() == row.printed
-        && told.as_slice() == row.told
-        && unread == row.unread
+fn check_row(test: &Test<'_>, row: &Row) {
+    let (mut printed, mut told) = (Vec::new(test.alloc()), Vec::new(test.alloc()));
+    let (ending, unread) = ran(test.alloc(), row.words, row.input, &mut printed, &mut told);
+    check_answer(
+        test,
+        ending.answer,
+        (Ok(row.status == 0), row.status),
+        row.name,
+    );
+    check(test, ending.told, row.name);
+    check_bytes(test, printed.as_slice(), row.printed, row.name);
+    check_bytes(test, told.as_slice(), row.told, row.name);
+    check_eq(test, &unread, &row.unread, row.name);
 }
 
 #[test]
-fn words_on_a_command_line(rt: HostRuntime) {
+fn words_on_a_command_line(rt: HostRuntime) -> Result<(), Fail> {
+    let test = Test::new(&rt);
     for row in ROWS {
-        assert!(rt; goes_as(rt.alloc(), row), "{:?}", row.words);
+        check_row(&test, row);
     }
-    for words in UNKNOWN {
+    for (name, words) in UNKNOWN {
         let row = Row {
+            name,
             words,
             input: PRINTED,
             printed: b"unknown argument\n",
@@ -135,88 +148,90 @@ fn words_on_a_command_line(rt: HostRuntime) {
             status: 1,
             unread: 96,
         };
-        assert!(rt; goes_as(rt.alloc(), &row), "{words:?}");
+        check_row(&test, &row);
     }
+    test.end()
 }
 
-fn fails_saying(ending: &Ending, error: RunError, told: &[u8], words: &[u8]) -> bool {
-    ending.answer == Err(error) && status(&ending.answer) == 2 && ending.told && told == words
+fn check_failure(test: &Test<'_>, ending: &Ending, error: RunError, told: &[u8], words: &str) {
+    check_answer(test, ending.answer, (Err(error), 2), words);
+    check(test, ending.told, words);
+    check_bytes(test, told, words.as_bytes(), words);
 }
 
-fn an_end_fails(
-    alloc: Global,
-    k: usize,
-    room: &mut [u8],
-    (error, words): (RunError, &str),
-) -> bool {
-    let mut told = Vec::new(alloc);
+fn check_failing_end(test: &Test<'_>, k: usize, room: &mut [u8], (error, words): (RunError, &str)) {
+    let mut told = Vec::new(test.alloc());
     let mut reader = OddReader::failing(k);
     let mut writer = room;
-    let env = (Words { words: &[NAME] }, alloc);
+    let env = (Words { words: &[NAME] }, test.alloc());
     let ending = run_program(&env, &mut reader, &mut writer, &mut told);
-    fails_saying(&ending, error, told.as_slice(), words.as_bytes())
+    check_failure(test, &ending, error, told.as_slice(), words);
 }
 
 #[test]
-fn ends_that_fail(rt: HostRuntime) {
-    let alloc = rt.alloc();
+fn ends_that_fail(rt: HostRuntime) -> Result<(), Fail> {
+    let test = Test::new(&rt);
     let read = (RunError::Read, "can't read standard input\n");
     let write = (RunError::Write, "can't write standard output\n");
-    check(
-        &rt,
-        an_end_fails(alloc, 1, &mut [0; 256], read),
-        "the first read",
-    );
-    check(
-        &rt,
-        an_end_fails(alloc, 0, &mut [0; 8], write),
-        "a full writer",
-    );
+    check_failing_end(&test, 1, &mut [0; 256], read);
+    check_failing_end(&test, 0, &mut [0; 8], write);
+    test.end()
 }
 
 // Unknown arguments give the same result where standard error can't be written.
-fn cant_be_told(alloc: Global) -> bool {
-    let mut printed = Vec::new(alloc);
+fn check_untold(test: &Test<'_>) {
+    let mut printed = Vec::new(test.alloc());
     let mut reader = SCRIPT;
     let mut full: &mut [u8] = &mut [];
-    let env = (Words { words: UNKNOWN[0] }, alloc);
+    let env = (
+        Words {
+            words: UNKNOWN[0].1,
+        },
+        test.alloc(),
+    );
     let ending = run_program(&env, &mut reader, &mut printed, &mut full);
-    ending.answer == Ok(false) && !ending.told && printed.len() == 17
+    check_eq(test, &ending.answer, &Ok(false), "a full standard error");
+    check(test, !ending.told, "a full standard error");
+    check_eq(test, &printed.len(), &17, "what is printed then");
 }
 
 #[test]
-fn standard_error_that_fails(rt: HostRuntime) {
-    check(&rt, cant_be_told(rt.alloc()), "a full standard error");
+fn standard_error_that_fails(rt: HostRuntime) -> Result<(), Fail> {
+    let test = Test::new(&rt);
+    check_untold(&test);
+    test.end()
 }
 
-fn is_refused(alloc: Global, words: &[&[u8]], told: &mut Vec<u8>) -> bool {
+fn ran_words(alloc: Global, told: &mut Vec<u8>) -> (Ending, usize, usize) {
     let mut printed = Vec::new(alloc);
-    let (ending, unread) = ran(alloc, words, SCRIPT, &mut printed, told);
-    fails_saying(&ending, RunError::OutOfMemory, told, b"out of memory\n")
-        && printed.is_empty()
-        && unread == SCRIPT.len()
+    let (ending, unread) = ran(alloc, &[NAME, b"weapon"], SCRIPT, &mut printed, told);
+    (ending, unread, printed.len())
 }
 
-fn is_refused_without_memory(
-    alloc: Global,
-    words: &[&[u8]],
-    told: &mut Vec<u8>,
-) -> Result<Option<bool>, AllocError> {
-    let mut held: Vec<Vec<u8>> = Vec::with_capacity(alloc, 262144)?;
-    let exhausted = exhaust(alloc, &mut held)?;
-    let refused = is_refused(alloc, words, told);
-    drop(held);
-    Ok(if exhausted { Some(refused) } else { None })
-}
-
-fn words_are_refused(alloc: Global) -> Result<Option<bool>, AllocError> {
-    let mut told: Vec<u8> = Vec::with_capacity(alloc, 64)?;
-    is_refused_without_memory(alloc, &[NAME, b"weapon"], &mut told)
+fn check_refused_words(test: &Test<'_>) -> Result<(), AllocError> {
+    let mut told: Vec<u8> = Vec::with_capacity(test.alloc(), 64)?;
+    let refused = without_memory(test, |test| ran_words(test.alloc(), &mut told));
+    if let Some((ending, unread, printed)) = refused {
+        check_failure(
+            test,
+            &ending,
+            RunError::OutOfMemory,
+            told.as_slice(),
+            "out of memory\n",
+        );
+        check_eq(test, &printed, &0, "nothing is printed");
+        check_eq(test, &unread, &SCRIPT.len(), "nothing is read");
+    }
+    Ok(())
 }
 
 #[test]
 fn words_with_refused_memory(rt: HostRuntime) -> Result<(), Fail> {
-    let refused = words_are_refused(rt.alloc())?;
-    check(&rt, holds_or_says(&rt, refused)?, "refused words");
-    Ok(())
+    let test = Test::new(&rt);
+    check(
+        &test,
+        check_refused_words(&test).is_ok(),
+        "memory for 64 bytes",
+    );
+    test.end()
 }

@@ -1,6 +1,6 @@
-use super::prints;
-use crate::tests::check;
-use std::alloc::Global;
+use super::check_script;
+use planus_testing::{Test, check};
+use std::test::Fail;
 
 // `script|printed;`, in a string, since a constant array is written out in the proof of the
 // function that has it.
@@ -120,41 +120,45 @@ const FAULTY: &str = "\
     text A\nsized 1\n|line 2: no such step\n;\
     text A\nsized 0\nrefs 1\n|line 3: wrong kind\n";
 
-fn is_printed(alloc: Global, row: &str, clean: bool) -> bool {
+fn check_row(test: &Test<'_>, row: &str, clean: bool) {
     match row.split_once('|') {
-        Some((script, printed)) => prints(alloc, script.as_bytes(), 0, printed.as_bytes(), clean),
-        None => false,
-    }
-}
-
-fn first_that_differs<'a>(alloc: Global, rows: &'a str, clean: bool) -> Option<&'a str> {
-    for row in rows.split(';') {
-        if !is_printed(alloc, row, clean) {
-            return Some(row);
+        Some((script, printed)) => {
+            check_script(
+                test,
+                script.as_bytes(),
+                0,
+                printed.as_bytes(),
+                clean,
+                script,
+            );
         }
+        None => check(test, false, row),
     }
-    None
 }
 
 #[test]
-fn scripts(rt: HostRuntime) {
+fn scripts(rt: HostRuntime) -> Result<(), Fail> {
+    let test = Test::new(&rt);
     for (rows, clean) in [(CLEAN, true), (FAULTY, false)] {
-        let differs = first_that_differs(rt.alloc(), rows, clean);
-        assert!(rt; differs.is_none(), "{differs:?}");
+        for row in rows.split(';') {
+            check_row(&test, row, clean);
+        }
     }
+    test.end()
 }
 
 // A line that isn't UTF-8 is an error, but not in a comment.
-fn only_comments_have_other_bytes(alloc: Global) -> bool {
-    prints(alloc, b"text \xff\n", 0, b"line 1: not utf-8\n", false)
-        && prints(alloc, b"# \xff\n", 0, b"", true)
-}
-
 #[test]
-fn scripts_that_are_not_utf_8(rt: HostRuntime) {
-    check(
-        &rt,
-        only_comments_have_other_bytes(rt.alloc()),
-        "other bytes",
+fn scripts_that_are_not_utf_8(rt: HostRuntime) -> Result<(), Fail> {
+    let test = Test::new(&rt);
+    check_script(
+        &test,
+        b"text \xff\n",
+        0,
+        b"line 1: not utf-8\n",
+        false,
+        "in a text",
     );
+    check_script(&test, b"# \xff\n", 0, b"", true, "in a comment");
+    test.end()
 }

@@ -1,10 +1,11 @@
+use super::finish_with;
 use super::monster::has;
-use super::other_builders::{MonsterRow, monster_is_read};
+use super::other_builders::{MonsterRow, check_root};
 use super::weapon::weapon;
-use super::{finish_with, in_builder};
 use crate::monster::Monster;
 use planus::{BuildError, Builder, ByteList, Caches, Offset, UnionOffset};
-use std::alloc::Global;
+use planus_testing::{Test, check_bytes, check_eq, in_builder};
+use std::test::Fail;
 
 pub fn setting(number: usize, hash_mask: u64) -> Caches {
     Caches {
@@ -56,40 +57,65 @@ const LAST: MonsterRow = MonsterRow {
     loot: Some(&[(Some("Bow"), 12), (Some("Axe"), 24)]),
 };
 
-// A vtable that is found saves 8 bytes for each of six weapons, and 20 for a monster; a string or a
-// byte vector 8.
-const LENGTHS: [usize; 8] = [472, 392, 424, 344, 464, 384, 416, 336];
+// Each setting's length. A vtable that is found saves 8 bytes for each of six weapons, and 20 for a
+// monster; a string or a byte vector 8.
+pub const SETTINGS: [(&str, usize); 8] = [
+    ("no caches", 472),
+    ("vtables", 392),
+    ("strings", 424),
+    ("vtables and strings", 344),
+    ("byte vectors", 464),
+    ("vtables and byte vectors", 384),
+    ("strings and byte vectors", 416),
+    ("all caches", 336),
+];
 
-fn keep(builder: &mut Builder, bytes: &mut Vec<u8>) -> Result<bool, BuildError> {
+fn check_three(
+    test: &Test<'_>,
+    builder: &mut Builder,
+    bytes: &mut Vec<u8>,
+) -> Result<(), BuildError> {
     let written = three(builder)?;
     bytes.extend_from_slice(written)?;
-    Ok(monster_is_read(written, LAST))
+    check_root(test, written, LAST);
+    Ok(())
 }
 
-fn are_same(builder: &mut Builder, want: &[u8]) -> Result<bool, BuildError> {
-    Ok(three(builder)? == want)
+fn check_same(
+    test: &Test<'_>,
+    builder: &mut Builder,
+    want: &[u8],
+    row: &str,
+) -> Result<(), BuildError> {
+    check_bytes(test, three(builder)?, want, row);
+    Ok(())
 }
 
-fn masks_agree(alloc: Global, number: usize, length: usize) -> bool {
-    let mut bytes = Vec::new(alloc);
+fn check_setting(test: &Test<'_>, number: usize, (row, length): (&str, usize)) {
+    let mut bytes = Vec::new(test.alloc());
     let all = setting(number, u64::MAX);
-    if !in_builder(alloc, all, |builder| keep(builder, &mut bytes)) {
-        return false;
-    }
+    in_builder(
+        test,
+        all,
+        |test, builder| check_three(test, builder, &mut bytes),
+    );
     let bytes = bytes.as_slice();
+    check_eq(test, &bytes.len(), &length, row);
     for mask in [0, 1] {
         let caches = setting(number, mask);
-        if !in_builder(alloc, caches, |builder| are_same(builder, bytes)) {
-            return false;
-        }
+        in_builder(
+            test,
+            caches,
+            |test, builder| check_same(test, builder, bytes, row),
+        );
     }
-    bytes.len() == length
 }
 
 #[test]
-fn monsters_in_every_setting(rt: HostRuntime) {
+fn monsters_in_every_setting(rt: HostRuntime) -> Result<(), Fail> {
+    let test = Test::new(&rt);
     for number in 0..8 {
-        let agree = masks_agree(rt.alloc(), number, LENGTHS[number]);
-        assert!(rt; agree, "setting {number}");
+        check_setting(&test, number, SETTINGS[number]);
     }
+    test.end()
 }

@@ -2,8 +2,7 @@ ghost use Rattle.std.specs.Prelude.{List};
 ghost use Rattle.planus_write.specs.Tables.{Declared};
 ghost use Rattle.planus_write.specs.TableWriting.{WasTold};
 
-use super::{fails_printing, finish_with, gives, in_builder};
-use crate::tests::check;
+use super::finish_with;
 use crate::weapon::{Weapon, WeaponRef};
 use planus::errors::ErrorKind;
 use planus::{
@@ -11,8 +10,11 @@ use planus::{
     ReadSliceAsRoot, Required, SliceWithStartOffset, TableRead, TableRef, TableWriter, Text,
     Vector, read_size_prefixed, variant,
 };
-use std::alloc::Global;
+use planus_testing::{Test, check, check_bytes, check_eq, check_fails, in_builder};
 use std::fmt::Debug;
+use std::test::Fail;
+
+type Done = Result<(), BuildError>;
 
 pub type WeaponRow = (Option<&'static str>, i16);
 
@@ -35,115 +37,132 @@ pub fn weapon(
     Weapon::create(builder, name, damage)
 }
 
-pub fn is_weapon(weapon: WeaponRef<'_>, name: Option<&str>, damage: i16) -> bool {
-    gives(weapon.name(), name) && gives(weapon.damage(), damage)
+pub fn check_weapon(test: &Test<'_>, weapon: WeaponRef<'_>, want: WeaponRow, row: &str) {
+    check_eq(test, &weapon.name(), &Ok(want.0), row);
+    check_eq(test, &weapon.damage(), &Ok(want.1), row);
 }
 
-pub fn item_is(item: Option<planus::Result<WeaponRef<'_>>>, (name, damage): WeaponRow) -> bool {
+pub fn check_item(
+    test: &Test<'_>,
+    item: Option<planus::Result<WeaponRef<'_>>>,
+    want: WeaponRow,
+    row: &str,
+) {
     match item {
-        Some(Ok(weapon)) => is_weapon(weapon, name, damage),
-        _ => false,
+        Some(Ok(weapon)) => check_weapon(test, weapon, want, row),
+        Some(Err(error)) => check_eq(test, &Some(error), &None, row),
+        None => check(test, false, row),
     }
 }
 
-pub fn are_weapons<'a>(
+pub fn check_weapons<'a>(
+    test: &Test<'_>,
     weapons: Vector<'a, planus::Result<WeaponRef<'a>>>,
     want: &[WeaponRow],
-) -> bool {
+    row: &str,
+) {
     let mut items = weapons.iter();
-    for row in want {
-        if !item_is(items.next(), *row) {
-            return false;
-        }
+    for weapon in want {
+        check_item(test, items.next(), *weapon, row);
     }
-    items.next().is_none() && weapons.len() == want.len()
+    check(test, items.next().is_none(), row);
+    check_eq(test, &weapons.len(), &want.len(), row);
 }
 
-fn finishes(
+fn check_finish(
+    test: &Test<'_>,
     builder: &mut Builder,
     root: Offset<Weapon>,
     want: &[u8],
-    name: Option<&str>,
-    damage: i16,
-) -> bool {
-    match finish_with(builder, root) {
-        Ok(bytes) => bytes == want && reads(bytes, name, damage),
-        Err(_) => false,
-    }
+    values: WeaponRow,
+    row: &str,
+) -> Done {
+    let bytes = finish_with(builder, root)?;
+    check_bytes(test, bytes, want, row);
+    check_root(test, bytes, values, row);
+    Ok(())
 }
 
-fn reads(bytes: &[u8], name: Option<&str>, damage: i16) -> bool {
+pub fn check_root(test: &Test<'_>, bytes: &[u8], want: WeaponRow, row: &str) {
     match WeaponRef::read_as_root(bytes) {
-        Ok(weapon) => is_weapon(weapon, name, damage),
-        Err(_) => false,
+        Ok(weapon) => check_weapon(test, weapon, want, row),
+        Err(error) => check_eq(test, &Some(error), &None, row),
     }
 }
 
-fn an_axe_in(builder: &mut Builder) -> Result<bool, BuildError> {
+fn check_axe(test: &Test<'_>, builder: &mut Builder) -> Done {
     let axe = weapon(builder, "Axe", 24)?;
-    Ok(finishes(builder, axe, AXE, Some("Axe"), 24))
+    check_finish(test, builder, axe, AXE, (Some("Axe"), 24), "an axe")
 }
 
 #[test]
-fn an_axe(rt: HostRuntime) {
-    check(
-        &rt,
-        in_builder(rt.alloc(), Caches::all(), an_axe_in),
-        "an axe",
-    );
+fn an_axe(rt: HostRuntime) -> Result<(), Fail> {
+    let test = Test::new(&rt);
+    in_builder(&test, Caches::all(), check_axe);
+    test.end()
 }
 
 // The word leads to the vtable after it, which has no slots.
-fn fields_left_out_in(builder: &mut Builder) -> Result<bool, BuildError> {
+fn check_no_fields(test: &Test<'_>, builder: &mut Builder) -> Done {
     let unnamed: Option<&str> = None;
     let nothing = Weapon::create(builder, unnamed, 0i16)?;
     let want = b"\x04\0\0\0\xfc\xff\xff\xff\x04\0\x04\0";
-    Ok(finishes(builder, nothing, want, None, 0))
+    check_finish(test, builder, nothing, want, (None, 0), "no fields")
 }
 
-fn name_left_out_in(builder: &mut Builder) -> Result<bool, BuildError> {
+fn check_no_name(test: &Test<'_>, builder: &mut Builder) -> Done {
     let unnamed = Weapon::create(builder, (), -3i16)?;
     let want = b"\x04\0\0\0\xfa\xff\xff\xff\xfd\xff\x08\0\x06\0\0\0\x04\0";
-    Ok(finishes(builder, unnamed, want, None, -3))
+    check_finish(test, builder, unnamed, want, (None, -3), "no name")
 }
 
-fn damage_left_out_in(builder: &mut Builder) -> Result<bool, BuildError> {
+fn check_no_damage(test: &Test<'_>, builder: &mut Builder) -> Done {
     let harmless = Weapon::create(builder, Some("Feather"), DefaultValue)?;
     let want = b"\x04\0\0\0\xf6\xff\xff\xff\x0c\0\0\0\0\0\x06\0\x08\0\x04\0\x07\0\0\0Feather\0";
-    Ok(finishes(builder, harmless, want, Some("Feather"), 0))
+    check_finish(
+        test,
+        builder,
+        harmless,
+        want,
+        (Some("Feather"), 0),
+        "no damage",
+    )
 }
 
 #[test]
-fn fields_left_out(rt: HostRuntime) {
-    let (alloc, caches) = (rt.alloc(), Caches::all());
-    check(&rt, in_builder(alloc, caches, fields_left_out_in), "both");
-    check(&rt, in_builder(alloc, caches, name_left_out_in), "the name");
-    check(
-        &rt,
-        in_builder(alloc, caches, damage_left_out_in),
-        "the damage",
-    );
+fn fields_left_out(rt: HostRuntime) -> Result<(), Fail> {
+    let test = Test::new(&rt);
+    in_builder(&test, Caches::all(), check_no_fields);
+    in_builder(&test, Caches::all(), check_no_name);
+    in_builder(&test, Caches::all(), check_no_damage);
+    test.end()
 }
 
-fn name_fails(alloc: Global, bytes: &[u8]) -> bool {
-    let Ok(weapon) = WeaponRef::read_as_root(bytes) else {
-        return false;
-    };
+fn check_damaged(test: &Test<'_>, bytes: &[u8]) {
     let text = "In <Weapon@4>::name(): Missing null terminator";
-    fails_printing(alloc, weapon.name(), text) && gives(weapon.damage(), 24)
-}
-
-fn root_fails(alloc: Global) -> bool {
-    let text = "In <[WeaponRef]@0>::read_as_root(): Invalid offset";
-    fails_printing(alloc, WeaponRef::read_as_root(&[0, 0, 0]), text)
+    match WeaponRef::read_as_root(bytes) {
+        Ok(weapon) => {
+            check_fails(test, weapon.name(), text);
+            check_eq(
+                test,
+                &weapon.damage(),
+                &Ok(24),
+                "the damage beside a damaged name",
+            );
+        }
+        Err(_) => check(test, false, text),
+    }
 }
 
 #[test]
-fn damaged_bytes(rt: HostRuntime) {
+fn damaged_bytes(rt: HostRuntime) -> Result<(), Fail> {
+    let test = Test::new(&rt);
     for bytes in DAMAGED {
-        assert!(rt; name_fails(rt.alloc(), bytes), "{} bytes", bytes.len());
+        check_damaged(&test, bytes);
     }
-    check(&rt, root_fails(rt.alloc()), "a root");
+    let text = "In <[WeaponRef]@0>::read_as_root(): Invalid offset";
+    check_fails(&test, WeaponRef::read_as_root(&[0, 0, 0]), text);
+    test.end()
 }
 
 // The axe, size-prefixed, and a size before no root.
@@ -159,83 +178,89 @@ fn sized_weapon(bytes: &[u8]) -> Option<planus::Result<TableRef<'_, Weapon>>> {
     }
 }
 
-fn read_behind_a_size() -> bool {
+fn check_sized(test: &Test<'_>) {
     match sized_weapon(SIZED) {
-        Some(Ok(axe)) => gives(axe.table.access::<i16>(1, "Weapon", "damage"), Some(24)),
-        _ => false,
+        Some(Ok(axe)) => {
+            let damage = axe.table.access::<i16>(1, "Weapon", "damage");
+            check_eq(test, &damage, &Ok(Some(24)), "the damage behind a size");
+        }
+        _ => check(test, false, "an axe behind a size"),
     }
 }
 
-fn missing_behind_a_size(alloc: Global) -> bool {
+fn check_no_root(test: &Test<'_>) {
     let text = "In <[WeaponRef]@4>::read_as_root(): Invalid offset";
     match sized_weapon(NO_ROOT) {
-        Some(answer) => fails_printing(alloc, answer, text),
-        None => false,
+        Some(answer) => check_fails(test, answer, text),
+        None => check(test, false, text),
     }
 }
 
 #[test]
-fn weapons_behind_their_size(rt: HostRuntime) {
-    check(&rt, read_behind_a_size(), "an axe");
-    check(&rt, missing_behind_a_size(rt.alloc()), "no root");
+fn weapons_behind_their_size(rt: HostRuntime) -> Result<(), Fail> {
+    let test = Test::new(&rt);
+    check_sized(&test);
+    check_no_root(&test);
+    test.end()
 }
 
-fn shows<T: Debug>(alloc: Global, value: &T, text: &str) -> bool {
-    match format!(in alloc; "{value:?}") {
-        Ok(shown) => shown.as_str().starts_with(text),
-        Err(_) => false,
+fn check_shown<T: Debug>(test: &Test<'_>, value: &T, begins: &str) {
+    match format!(in test.alloc(); "{value:?}") {
+        Ok(shown) => check(test, shown.as_str().starts_with(begins), shown.as_str()),
+        Err(_) => check(test, false, begins),
     }
 }
 
-fn values_are_shown(alloc: Global) -> bool {
+fn check_values(test: &Test<'_>) {
     let damage = OrDefault {
         value: 24i16,
         default: 0i16,
     };
-    shows(alloc, &Required("Axe"), "Required(\"Axe\")")
-        && shows(alloc, &damage, "OrDefault { value: 24, default: 0 }")
-        && shows(
-            alloc,
-            &variant!(1: Text = "Axe"),
-            "Variant { value: \"Axe\"",
-        )
-        && matches!(sized_weapon(SIZED), Some(Ok(axe)) if shows(alloc, &axe, "TableRef { table: "))
+    check_shown(test, &Required("Axe"), "Required(\"Axe\")");
+    check_shown(test, &damage, "OrDefault { value: 24, default: 0 }");
+    check_shown(test, &variant!(1: Text = "Axe"), "Variant { value: \"Axe\"");
+    match sized_weapon(SIZED) {
+        Some(Ok(axe)) => check_shown(test, &axe, "TableRef { table: "),
+        _ => check(test, false, "an axe behind a size"),
+    }
 }
 
 #[test]
-fn what_is_written_is_shown(rt: HostRuntime) {
-    check(&rt, values_are_shown(rt.alloc()), "fields and a table");
+fn what_is_written_is_shown(rt: HostRuntime) -> Result<(), Fail> {
+    let test = Test::new(&rt);
+    check_values(&test);
+    test.end()
 }
 
-fn axe_and_bow_are_read(bytes: &[u8]) -> bool {
+fn check_axe_and_bow(test: &Test<'_>, bytes: &[u8]) {
     let whole = SliceWithStartOffset::new(bytes, 0);
     let list: Result<Vector<'_, Result<WeaponRef<'_>, Error>>, ErrorKind> = TableRead::from_buffer(
         whole, 0,
     );
+    let want = [(Some("Axe"), 24), (Some("Bow"), 12)];
     match list {
-        Ok(weapons) => are_weapons(weapons, &[(Some("Axe"), 24), (Some("Bow"), 12)]),
-        Err(_) => false,
+        Ok(weapons) => check_weapons(test, weapons, &want, "an axe and a bow"),
+        Err(kind) => check_eq(test, &Some(kind), &None, "an axe and a bow"),
     }
 }
 
-fn a_list_of_weapons_in(builder: &mut Builder) -> Result<bool, BuildError> {
+fn check_list(test: &Test<'_>, builder: &mut Builder) -> Done {
     let axe = weapon(builder, "Axe", 24)?;
     let bow = weapon(builder, "Bow", 12)?;
     let length = builder.len();
     if axe.distance() as usize > length || bow.distance() as usize > length {
-        return Ok(false);
+        return Err(BuildError::TooLarge);
     }
     let list = [axe, bow];
-    Ok(axe_and_bow_are_read(builder.finish(&list[..], None)?))
+    check_axe_and_bow(test, builder.finish(&list[..], None)?);
+    Ok(())
 }
 
 #[test]
-fn a_list_of_weapons(rt: HostRuntime) {
-    check(
-        &rt,
-        in_builder(rt.alloc(), Caches::all(), a_list_of_weapons_in),
-        "a list",
-    );
+fn a_list_of_weapons(rt: HostRuntime) -> Result<(), Fail> {
+    let test = Test::new(&rt);
+    in_builder(&test, Caches::all(), check_list);
+    test.end()
 }
 
 fn was_told(writer: &TableWriter<8>)

@@ -6,11 +6,10 @@ mod tables;
 mod traits;
 mod views;
 
-use crate::tests::check;
 use planus_read::errors::ErrorKind;
-use planus_testing::plain;
-use std::alloc::Global;
-use std::fmt::Display;
+use planus_testing::plain::{bytes_stand_at, number_at, text_stands_at};
+use planus_testing::{Test, check, check_eq};
+use std::test::Fail;
 
 const WEAPON: [u8; 32] = [
     4, 0, 0, 0, 0xf4, 0xff, 0xff, 0xff, 16, 0, 0, 0, 24, 0, 0, 0, 8, 0, 10, 0, 4, 0, 8, 0, 3, 0, 0,
@@ -25,58 +24,54 @@ const UNIONS: [u8; 78] = [
     0, 16, 0, 0, 0, 4, 0, 0, 0, 1, 0, 0, 0, b'B', 0, 0, 0, 1, 0, 0, 0, b'A', 0,
 ];
 
-fn prints<T: Display>(alloc: Global, value: &T, text: &str) -> bool {
-    match format!(in alloc; "{value}") {
-        Ok(shown) => shown.as_str() == text,
-        Err(_) => false,
-    }
+fn check_fails_with<T: Drop>(
+    test: &Test<'_>,
+    answer: planus_read::Result<T>,
+    want: ErrorKind,
+    row: &str,
+) {
+    let got = match answer {
+        Ok(_) => None,
+        Err(error) => Some(error.error_kind),
+    };
+    check_eq(test, &got, &Some(want), row);
 }
 
-fn fails_printing<T: Drop>(alloc: Global, answer: planus_read::Result<T>, text: &str) -> bool {
-    match answer {
-        Ok(_) => false,
-        Err(error) => prints(alloc, &error, text),
-    }
+fn check_number(test: &Test<'_>, position: usize, want: Option<u32>, row: &str) {
+    check_eq(test, &number_at(&WEAPON, position), &want, row);
 }
 
-fn same_kind(read: ErrorKind, plain: ErrorKind) -> bool {
-    match (read, plain) {
-        (ErrorKind::InvalidOffset, ErrorKind::InvalidOffset)
-        | (ErrorKind::InvalidLength, ErrorKind::InvalidLength)
-        | (ErrorKind::InvalidUtf8 { .. }, ErrorKind::InvalidUtf8 { .. })
-        | (ErrorKind::MissingRequired, ErrorKind::MissingRequired)
-        | (ErrorKind::MissingNullTerminator, ErrorKind::MissingNullTerminator) => true,
-        (
-            ErrorKind::InvalidVtableLength { length },
-            ErrorKind::InvalidVtableLength { length: plain },
-        ) => length == plain,
-        (ErrorKind::UnknownUnionTag { tag }, ErrorKind::UnknownUnionTag { tag: plain }) => {
-            tag == plain
-        }
-        _ => false,
-    }
+fn check_plain_numbers(test: &Test<'_>) {
+    check_number(test, 0, Some(4), "the root");
+    check_number(test, 28, Some(0x657841), "the last four bytes");
+    check_number(test, 29, None, "across the end");
+    check_number(test, usize::MAX, None, "at the greatest position");
 }
 
-fn fails_with<T: Drop>(answer: planus_read::Result<T>, kind: ErrorKind) -> bool {
-    match answer {
-        Ok(_) => false,
-        Err(e) => same_kind(e.error_kind, kind),
-    }
-}
-
-fn plain_programs_read() -> bool {
-    plain::number_at(&WEAPON, 0) == Some(4)
-        && plain::number_at(&WEAPON, 28) == Some(0x657841)
-        && plain::number_at(&WEAPON, 29).is_none()
-        && plain::number_at(&WEAPON, usize::MAX).is_none()
-        && plain::bytes_stand_at(&WEAPON, 28, b"Axe\0")
-        && !plain::bytes_stand_at(&WEAPON, 29, b"Axe\0")
-        && plain::text_stands_at(&WEAPON, 24, b"Axe")
-        && !plain::text_stands_at(&WEAPON, 24, b"Ax")
-        && !plain::text_stands_at(&WEAPON[..31], 24, b"Axe")
+fn check_plain_bytes(test: &Test<'_>) {
+    check(
+        test,
+        bytes_stand_at(&WEAPON, 28, b"Axe\0"),
+        "the bytes of the name",
+    );
+    check(
+        test,
+        !bytes_stand_at(&WEAPON, 29, b"Axe\0"),
+        "bytes across the end",
+    );
+    check(test, text_stands_at(&WEAPON, 24, b"Axe"), "the name");
+    check(test, !text_stands_at(&WEAPON, 24, b"Ax"), "a shorter name");
+    check(
+        test,
+        !text_stands_at(&WEAPON[..31], 24, b"Axe"),
+        "a name with no zero byte",
+    );
 }
 
 #[test]
-fn plain_programs_read_the_weapon(rt: HostRuntime) {
-    check(&rt, plain_programs_read(), "plain programs read");
+fn plain_programs_read_the_weapon(rt: HostRuntime) -> Result<(), Fail> {
+    let test = Test::new(&rt);
+    check_plain_numbers(&test);
+    check_plain_bytes(&test);
+    test.end()
 }

@@ -14,33 +14,8 @@ mod without_memory;
 mod writes;
 
 use planus_back::{Fill, Overwrite};
+use planus_testing::{Test, check_distance, check_done};
 use planus_write::{BuildError, Builder, Caches, Offset, WriteAsOffset};
-use std::alloc::Global;
-
-// A function that owns a builder is proved slowly: use `in_builder`.
-
-pub fn holds(found: Result<bool, BuildError>) -> bool {
-    matches!(found, Ok(true))
-}
-
-fn stands_at<T>(builder: &Builder, value: Offset<T>, distance: u32, len: usize) -> bool {
-    value.distance() == distance && builder.len() == len
-}
-
-fn finishes<T>(
-    builder: &mut Builder,
-    root: Offset<T>,
-    identifier: Option<[u8; 4]>,
-    want: &[u8],
-) -> bool {
-    if root.distance() as usize > builder.len() {
-        return false;
-    }
-    match builder.finish(root, identifier) {
-        Ok(bytes) => bytes == want,
-        Err(_) => false,
-    }
-}
 
 fn prepared<T, X: WriteAsOffset<T>>(
     builder: &mut Builder,
@@ -49,6 +24,21 @@ fn prepared<T, X: WriteAsOffset<T>>(
     requires { X.may value.now builder.old }
 {
     value.prepare(builder)
+}
+
+fn check_prepared<T, X: WriteAsOffset<T>>(
+    test: &Test<'_>,
+    builder: &mut Builder,
+    value: &X,
+    distance: u32,
+    row: &str,
+)
+    requires { X.may value.now builder.old }
+{
+    match value.prepare(builder) {
+        Ok(offset) => check_distance(test, offset, distance, row),
+        Err(error) => check_done(test, Err(error), row),
+    }
 }
 
 struct PlaceWord;
@@ -79,12 +69,3 @@ const NO_CACHES: Caches = Caches {
     bytes: false,
     hash_mask: 0,
 };
-
-pub fn in_builder<F: FnOnce(&mut Builder) -> bool>(alloc: Global, caches: Caches, of_it: F) -> bool
-    requires { F.IsAlwaysCallable of_it }
-{
-    match Builder::with_caches(alloc, 0, caches) {
-        Ok(mut builder) => of_it(&mut builder),
-        Err(_) => false,
-    }
-}

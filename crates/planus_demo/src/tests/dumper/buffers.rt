@@ -1,6 +1,7 @@
-use super::{FieldParts, MONSTER, SchemaParts, WEAPON, dumps_lines, is_refused};
-use crate::tests::check;
+use super::{FieldParts, MONSTER, SchemaParts, WEAPON, check_dump};
 use planus_dump::{DumpError, Item, Kind};
+use planus_testing::Test;
+use std::test::Fail;
 
 // The weapon Axe with a damage of 24; and with a last byte of 1.
 const AXE: &[u8] =
@@ -127,18 +128,17 @@ const WEAPON_ROWS: &[(&[u8], &[&str])] = &[
 ];
 
 #[test]
-fn weapons(rt: HostRuntime) {
+fn weapons(rt: HostRuntime) -> Result<(), Fail> {
+    let test = Test::new(&rt);
     for (bytes, lines) in WEAPON_ROWS {
-        check(
-            &rt,
-            dumps_lines(rt.alloc(), WEAPONS, bytes, 3, lines),
-            "its lines",
-        );
+        check_dump(&test, WEAPONS, bytes, 3, Ok(lines));
     }
+    test.end()
 }
 
 #[test]
-fn a_monster(rt: HostRuntime) {
+fn a_monster(rt: HostRuntime) -> Result<(), Fail> {
+    let test = Test::new(&rt);
     let lines = [
         "root: table Monster",
         "root.hp = 80",
@@ -152,23 +152,14 @@ fn a_monster(rt: HostRuntime) {
         "root.equipped.name = \"Axe\"",
         "root.equipped.damage = 24",
     ];
-    check(
-        &rt,
-        dumps_lines(rt.alloc(), MONSTERS, ORC, 11, &lines),
-        "its lines",
-    );
-    check(
-        &rt,
-        is_refused(rt.alloc(), MONSTERS, ORC, 10, DumpError::TooManyLines),
-        "its refusal",
-    );
+    check_dump(&test, MONSTERS, ORC, 11, Ok(&lines));
+    check_dump(&test, MONSTERS, ORC, 10, Err(DumpError::TooManyLines));
+    test.end()
 }
 
 #[test]
-fn every_kind(rt: HostRuntime) {
-    check(
-        &rt,
-        dumps_lines(rt.alloc(), PARTS, EVERY_KIND, usize::MAX, &EVERY_LINE),
-        "its lines",
-    );
+fn every_kind(rt: HostRuntime) -> Result<(), Fail> {
+    let test = Test::new(&rt);
+    check_dump(&test, PARTS, EVERY_KIND, usize::MAX, Ok(&EVERY_LINE));
+    test.end()
 }

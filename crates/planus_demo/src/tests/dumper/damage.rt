@@ -1,8 +1,9 @@
 //! The walk goes on after each kind of damage.
 
-use super::{FieldParts, SchemaParts, dumps_lines};
-use crate::tests::check;
+use super::{FieldParts, SchemaParts, check_dump};
 use planus_dump::{Item, Kind};
+use planus_testing::Test;
+use std::test::Fail;
 
 // In slot order: a number past the end; a string that isn't UTF-8; one without a zero byte; bytes
 // past the end; an unknown tag; two tags and one reference; a union whose vtable, of size 22, has
@@ -27,7 +28,7 @@ const DAMAGED: &[u8] = b"\x1a\0\0\0\x16\0\0\0\xa0\x0f\x04\0\x08\0\x0c\0\x10\0\x1
       \x01\x01\x01\0\0\0\0\0\0\0";
 
 #[test]
-fn every_damage(rt: HostRuntime) {
+fn every_damage(rt: HostRuntime) -> Result<(), Fail> {
     let lines = [
         "root: table Bad",
         "root.number ! Invalid offset",
@@ -40,9 +41,7 @@ fn every_damage(rt: HostRuntime) {
         "root.half ! Invalid vtable length (length = 22)",
         "root.list ! Invalid length",
     ];
-    check(
-        &rt,
-        dumps_lines(rt.alloc(), PARTS, DAMAGED, 9, &lines),
-        "its lines",
-    );
+    let test = Test::new(&rt);
+    check_dump(&test, PARTS, DAMAGED, 9, Ok(&lines));
+    test.end()
 }

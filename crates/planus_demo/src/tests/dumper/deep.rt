@@ -1,6 +1,6 @@
-use super::{FieldParts, SchemaParts, dumps_lines, is_refused, schema_of};
-use crate::tests::check;
+use super::{FieldParts, SchemaParts, check_dump, schema_of};
 use planus_dump::{DumpError, Item, Kind, dump};
+use planus_testing::{Test, check, check_eq};
 use std::alloc::{AllocError, Global};
 use std::test::Fail;
 
@@ -41,46 +41,60 @@ fn push_chain(bytes: &mut Vec<u8>, tables: u32) -> Result<(), AllocError> {
     bytes.extend_from_slice(VTABLES)
 }
 
-fn has_lines(alloc: Global, tables: u32, expected: usize) -> bool {
-    let Ok(bytes) = chain(alloc, tables) else {
-        return false;
+fn check_chain(
+    test: &Test<'_>,
+    tables: u32,
+    want: Result<usize, DumpError>,
+    row: &str,
+) -> Result<(), AllocError> {
+    let bytes = chain(test.alloc(), tables)?;
+    let schema = schema_of(test.alloc(), NODES)?;
+    let answer = match dump(test.alloc(), &schema, bytes.as_slice(), 10000) {
+        Ok(lines) => Ok(lines.len()),
+        Err(error) => Err(error),
     };
-    let Ok(schema) = schema_of(alloc, NODES) else {
-        return false;
-    };
-    match dump(alloc, &schema, bytes.as_slice(), 10000) {
-        Ok(lines) => lines.len() == expected,
-        Err(error) => expected == 0 && error == DumpError::TooDeep,
+    check_eq(test, &answer, &want, row);
+    Ok(())
+}
+
+#[test]
+fn chains(rt: HostRuntime) -> Result<(), Fail> {
+    let test = Test::new(&rt);
+    let rows = [
+        (0, Ok(1), "one table"),
+        (63, Ok(64), "64 tables"),
+        (64, Err(DumpError::TooDeep), "65 tables"),
+    ];
+    for (tables, want, row) in rows {
+        check(&test, check_chain(&test, tables, want, row).is_ok(), row);
+    }
+    test.end()
+}
+
+fn check_dump_of_chain(
+    test: &Test<'_>,
+    parts: SchemaParts<'_>,
+    tables: u32,
+    budget: usize,
+    want: Result<&[&str], DumpError>,
+) {
+    match chain(test.alloc(), tables) {
+        Ok(bytes) => check_dump(test, parts, bytes.as_slice(), budget, want),
+        Err(_) => check(test, false, "memory for a chain"),
     }
 }
 
 #[test]
-fn chains(rt: HostRuntime) {
-    check(&rt, has_lines(rt.alloc(), 0, 1), "one table");
-    check(&rt, has_lines(rt.alloc(), 63, 64), "64 tables");
-    check(&rt, has_lines(rt.alloc(), 64, 0), "65 tables");
-}
-
-#[test]
 fn a_short_chain(rt: HostRuntime) -> Result<(), Fail> {
-    let bytes = chain(rt.alloc(), 1)?;
+    let test = Test::new(&rt);
     let lines = ["root: table Node", "root.next: table Node"];
-    check(
-        &rt,
-        dumps_lines(rt.alloc(), NODES, bytes.as_slice(), 2, &lines),
-        "its lines",
-    );
-    Ok(())
+    check_dump_of_chain(&test, NODES, 1, 2, Ok(&lines));
+    test.end()
 }
 
 #[test]
 fn a_table_named_twice_by_each_of_40(rt: HostRuntime) -> Result<(), Fail> {
-    let bytes = chain(rt.alloc(), 40)?;
-    let error = DumpError::TooManyLines;
-    check(
-        &rt,
-        is_refused(rt.alloc(), TWINS, bytes.as_slice(), 10000, error),
-        "its refusal",
-    );
-    Ok(())
+    let test = Test::new(&rt);
+    check_dump_of_chain(&test, TWINS, 40, 10000, Err(DumpError::TooManyLines));
+    test.end()
 }

@@ -1,10 +1,10 @@
-use super::{SchemaParts, TableParts, is_refused};
-use crate::tests::check;
+use super::{SchemaParts, TableParts, check_dump};
 use planus_dump::{DumpError, Item, Kind};
-use std::alloc::Global;
+use planus_testing::Test;
+use std::test::Fail;
 
-fn is_bad(alloc: Global, parts: SchemaParts<'_>) -> bool {
-    is_refused(alloc, parts, &[0, 0, 0], 9, DumpError::BadSchema)
+fn check_bad(test: &Test<'_>, parts: SchemaParts<'_>) {
+    check_dump(test, parts, &[0, 0, 0], 9, Err(DumpError::BadSchema));
 }
 
 const BAD_TABLES: &[&[TableParts<'static>]] = &[
@@ -19,10 +19,12 @@ const BAD_TABLES: &[&[TableParts<'static>]] = &[
 ];
 
 #[test]
-fn bad_tables(rt: HostRuntime) {
+fn bad_tables(rt: HostRuntime) -> Result<(), Fail> {
+    let test = Test::new(&rt);
     for tables in BAD_TABLES {
-        check(&rt, is_bad(rt.alloc(), (tables, &[])), "tables");
+        check_bad(&test, (tables, &[]));
     }
+    test.end()
 }
 
 const ONE: &[TableParts<'static>] = &[("A", &[(0, "a", Kind::Union(1))])];
@@ -31,22 +33,28 @@ const MANY: &[TableParts<'static>] = &[("A", &[(0, "a", Kind::UnionVector(1))])]
 
 const GOOD: &[TableParts<'static>] = &[("A_1z", &[(0, "_", Kind::Union(0))])];
 
-const UNIONS: &[(&[TableParts<'static>], &[(u8, usize)], bool)] = &[
-    (ONE, &[(1, 0)], true),
-    (MANY, &[(1, 0)], true),
-    (GOOD, &[(0, 0)], true),
-    (GOOD, &[(1, 0), (2, 0), (1, 0)], true),
-    (GOOD, &[(1, 1)], true),
-    (GOOD, &[(1, 0), (2, 0)], false),
+const BAD_UNIONS: &[(&[TableParts<'static>], &[(u8, usize)])] = &[
+    (ONE, &[(1, 0)]),
+    (MANY, &[(1, 0)]),
+    (GOOD, &[(0, 0)]),
+    (GOOD, &[(1, 0), (2, 0), (1, 0)]),
+    (GOOD, &[(1, 1)]),
 ];
 
+const GOOD_UNIONS: SchemaParts<'static> = (GOOD, &[&[(1, 0), (2, 0)]]);
+
 #[test]
-fn bad_unions(rt: HostRuntime) {
-    for (tables, variants, bad) in UNIONS {
-        check(
-            &rt,
-            is_bad(rt.alloc(), (tables, &[variants])) == *bad,
-            "unions",
-        );
+fn unions(rt: HostRuntime) -> Result<(), Fail> {
+    let test = Test::new(&rt);
+    for (tables, variants) in BAD_UNIONS {
+        check_bad(&test, (tables, &[variants]));
     }
+    check_dump(
+        &test,
+        GOOD_UNIONS,
+        &[0, 0, 0],
+        9,
+        Ok(&["root ! Invalid offset"]),
+    );
+    test.end()
 }

@@ -1,8 +1,9 @@
-use super::{WEAPON, are_lines, schema_of};
-use crate::tests::check;
+use super::{WEAPON, check_lines, schema_of};
 use planus::{Caches, Field, FieldValue, ReplayError, Step, Why};
 use planus_dump::{DumpError, DumpRunError, dump_run};
+use planus_testing::{Test, check, check_eq};
 use std::alloc::{AllocError, Global};
+use std::test::Fail;
 
 fn weapon(alloc: Global, finishes: usize) -> Result<Vec<Step>, AllocError> {
     let mut steps = Vec::new(alloc);
@@ -34,36 +35,37 @@ fn push_finishes(steps: &mut Vec<Step>, finishes: usize) -> Result<(), AllocErro
     Ok(())
 }
 
-fn dumps(
-    alloc: Global,
+fn check_run(
+    test: &Test<'_>,
     steps: &[Step],
     budget: usize,
     want: Result<&[&str], DumpRunError>,
-) -> bool {
-    let Ok(schema) = schema_of(alloc, (&[("Weapon", WEAPON)], &[])) else {
-        return false;
-    };
-    match dump_run(alloc, Caches::all(), steps, &schema, budget) {
-        Ok(Some(lines)) => matches!(want, Ok(texts) if are_lines(lines.as_slice(), texts)),
-        Ok(None) => matches!(want, Ok([])),
-        Err(error) => want == Err(error),
+) -> Result<(), AllocError> {
+    let schema = schema_of(test.alloc(), (&[("Weapon", WEAPON)], &[]))?;
+    match (
+        dump_run(test.alloc(), Caches::all(), steps, &schema, budget),
+        want,
+    ) {
+        (Ok(Some(lines)), Ok(want)) => check_lines(test, lines.as_slice(), want),
+        (Ok(None), Ok(want)) => check_lines(test, &[], want),
+        (answer, want) => check_eq(test, &answer.err(), &want.err(), "a run's dump"),
     }
+    Ok(())
 }
 
-fn weapon_dumps(
-    alloc: Global,
+fn check_weapon(
+    test: &Test<'_>,
     finishes: usize,
     budget: usize,
     want: Result<&[&str], DumpRunError>,
-) -> bool {
-    match weapon(alloc, finishes) {
-        Ok(steps) => dumps(alloc, steps.as_slice(), budget, want),
-        Err(_) => false,
-    }
+) -> Result<(), AllocError> {
+    let steps = weapon(test.alloc(), finishes)?;
+    check_run(test, steps.as_slice(), budget, want)
 }
 
 #[test]
-fn weapons_are_dumped(rt: HostRuntime) {
+fn weapons_are_dumped(rt: HostRuntime) -> Result<(), Fail> {
+    let test = Test::new(&rt);
     let lines: &[&str] = &[
         "root: table Weapon",
         "root.name = \"Axe\"",
@@ -76,13 +78,15 @@ fn weapons_are_dumped(rt: HostRuntime) {
         (1, 2, Err(DumpRunError::Dump(DumpError::TooManyLines))),
     ];
     for (finishes, budget, want) in rows {
-        check(
-            &rt,
-            weapon_dumps(rt.alloc(), finishes, budget, want),
-            "a weapon",
-        );
+        let done = check_weapon(&test, finishes, budget, want);
+        check(&test, done.is_ok(), "memory for a weapon's steps");
     }
     let (bad, why) = ([Step::Finish { root: 0, id: None }], Why::NoSuchStep);
     let want = Err(DumpRunError::Replay(ReplayError::BadStep { step: 0, why }));
-    check(&rt, dumps(rt.alloc(), &bad, 3, want), "a bad schema");
+    check(
+        &test,
+        check_run(&test, &bad, 3, want).is_ok(),
+        "memory for a bad step",
+    );
+    test.end()
 }

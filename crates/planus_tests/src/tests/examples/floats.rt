@@ -1,13 +1,13 @@
 //! Floats are written as their bits, and read back.
 
-use crate::tests::check;
-use crate::tests::writing::{holds, in_builder};
 use by_hand::{Features, Kind, Pos, Site, SiteFields, SiteRef};
 use planus::{
     BuildError, Builder, Caches, ReadAsRoot, Result, TableRef, Vector, plain_field_or,
     plain_vector, read_root,
 };
+use planus_testing::{Test, check, check_eq, in_builder};
 use std::num::{f32_to_bits_with_nan, f64_to_bits_with_nan};
+use std::test::Fail;
 
 struct Row {
     exact: f64,
@@ -73,40 +73,51 @@ struct Read<'a> {
     series: Result<Option<Vector<'a, f64>>>,
 }
 
-fn has_bits(read: &Read<'_>, exact: u64, rough: u32, series: &[u64]) -> bool {
-    matches!(read.exact, Ok(found) if f64_to_bits_with_nan(found) == exact)
-        && matches!(read.rough, Ok(found) if f32_to_bits_with_nan(found) == rough)
-        && matches!(&read.series, Ok(Some(found)) if are_bits(found, series))
-}
-
-fn are_bits(read: &Vector<'_, f64>, series: &[u64]) -> bool {
-    for i in 0..series.len() {
-        match read.get(i) {
-            Some(item) if f64_to_bits_with_nan(item) == series[i] => {}
-            _ => return false,
-        }
+fn check_bits(test: &Test<'_>, read: &Read<'_>, exact: u64, rough: u32, series: &[u64]) {
+    match read.exact {
+        Ok(found) => check_eq(test, &f64_to_bits_with_nan(found), &exact, "exact"),
+        Err(error) => check_eq(test, &Some(error), &None, "exact"),
     }
-    read.len() == series.len()
+    match read.rough {
+        Ok(found) => check_eq(test, &f32_to_bits_with_nan(found), &rough, "rough"),
+        Err(error) => check_eq(test, &Some(error), &None, "rough"),
+    }
+    match &read.series {
+        Ok(Some(found)) => check_series(test, found, series),
+        _ => check(test, false, "series"),
+    }
 }
 
-fn flatc_sample_is_read() -> bool {
+fn check_series(test: &Test<'_>, read: &Vector<'_, f64>, series: &[u64]) {
+    for (item, bits) in read.iter().zip(series) {
+        check_eq(
+            test,
+            &f64_to_bits_with_nan(item),
+            bits,
+            "an item of a series",
+        );
+    }
+    check_eq(test, &read.len(), &series.len(), "a series");
+}
+
+fn check_flatc_sample(test: &Test<'_>) {
     let series = [0x7ff0_0000_0000_0000, 0x7ff8_0000_0000_0000, 1, 1 << 63];
     let sample: Result<TableRef<'_, Site>> = ReadAsRoot::read_as_root(FLATC_SAMPLE);
     let Ok(sample) = sample else {
-        return false;
+        return check(test, false, "another builder's sample");
     };
     let read = Read {
         exact: plain_field_or(&sample.table, 0, 0.0, "Sample", "exact"),
         rough: plain_field_or(&sample.table, 1, 0.0, "Sample", "rough"),
         series: plain_vector(&sample.table, 2, "Sample", "series"),
     };
-    has_bits(&read, 0x3ff8_0000_0000_0000, 0x8000_0001, &series)
+    check_bits(test, &read, 0x3ff8_0000_0000_0000, 0x8000_0001, &series);
 }
 
-fn is_row(bytes: &[u8], row: &Row) -> bool {
+fn check_site(test: &Test<'_>, bytes: &[u8], row: &Row) {
     let site: Result<SiteRef<'_>> = read_root(bytes);
     let Ok(site) = site else {
-        return false;
+        return check(test, false, "a site");
     };
     let read = Read {
         exact: site.depth(),
@@ -114,15 +125,15 @@ fn is_row(bytes: &[u8], row: &Row) -> bool {
         series: site.levels(),
     };
     let exact = if row.is_written { row.bits } else { 0 };
-    has_bits(
-        &read,
-        exact,
-        row.rough_bits,
-        &[row.bits, 0x3fe0_0000_0000_0000],
-    )
+    let series = [row.bits, 0x3fe0_0000_0000_0000];
+    check_bits(test, &read, exact, row.rough_bits, &series);
 }
 
-fn is_read(builder: &mut Builder, row: &Row) -> std::result::Result<bool, BuildError> {
+fn check_row(
+    test: &Test<'_>,
+    builder: &mut Builder,
+    row: &Row,
+) -> std::result::Result<(), BuildError> {
     builder.clear();
     let site = SiteFields {
         home: Pos {
@@ -139,25 +150,21 @@ fn is_read(builder: &mut Builder, row: &Row) -> std::result::Result<bool, BuildE
         levels: &[row.exact, 0.5],
     };
     let site = Site::create(builder, site)?;
-    let bytes = builder.finish(site, None)?;
-    Ok(is_row(bytes, row))
+    check_site(test, builder.finish(site, None)?, row);
+    Ok(())
 }
 
-fn all_are_read(builder: &mut Builder) -> bool {
+fn check_rows(test: &Test<'_>, builder: &mut Builder) -> std::result::Result<(), BuildError> {
     for row in ROWS {
-        if !holds(is_read(builder, row)) {
-            return false;
-        }
+        check_row(test, builder, row)?;
     }
-    true
+    Ok(())
 }
 
 #[test]
-fn floats_are_read_back(rt: HostRuntime) {
-    check(&rt, flatc_sample_is_read(), "another builder's");
-    check(
-        &rt,
-        in_builder(rt.alloc(), Caches::all(), all_are_read),
-        "rows",
-    );
+fn floats_are_read_back(rt: HostRuntime) -> std::result::Result<(), Fail> {
+    let test = Test::new(&rt);
+    check_flatc_sample(&test);
+    in_builder(&test, Caches::all(), check_rows);
+    test.end()
 }

@@ -2,13 +2,12 @@
 
 ghost use Rattle.std.specs.Prelude.{◌≤◌, codes, length, IfOk};
 
-use crate::tests::check;
-use crate::tests::writing::{holds, in_builder};
 use planus::{
     BuildError, Builder, Caches, FieldAt, FieldGroup, Lines8, Offset, OrDefault, TableKind,
     TableWriter, Text, create_table, fields,
 };
-use std::alloc::Global;
+use planus_testing::{Test, check_bytes, in_builder};
+use std::test::Fail;
 
 struct Sounding;
 
@@ -83,24 +82,31 @@ fn one_by_one(builder: &mut Builder, x: u8) -> Result<Offset<Sounding>, BuildErr
     create_table::<Sounding, _>(builder, lines)
 }
 
-fn are_same(alloc: Global, builder: &mut Builder, x: u8) -> Result<bool, BuildError> {
+fn check_same(test: &Test<'_>, builder: &mut Builder, x: u8) -> Result<(), BuildError> {
     builder.clear();
     let root = one_by_one(builder, x)?;
-    let bytes = Vec::from_slice(alloc, builder.finish(root, None)?)?;
+    let bytes = Vec::from_slice(test.alloc(), builder.finish(root, None)?)?;
     builder.clear();
     let root = in_group(builder, x)?;
-    Ok(builder.finish(root, None)? == bytes.as_slice())
+    check_bytes(
+        test,
+        builder.finish(root, None)?,
+        bytes.as_slice(),
+        "a sounding",
+    );
+    Ok(())
 }
 
-fn all_are_same(alloc: Global, builder: &mut Builder) -> bool {
-    holds(are_same(alloc, builder, 0))
-        && holds(are_same(alloc, builder, 7))
-        && holds(are_same(alloc, builder, 255))
+fn check_soundings(test: &Test<'_>, builder: &mut Builder) -> Result<(), BuildError> {
+    for x in [0, 7, 255] {
+        check_same(test, builder, x)?;
+    }
+    Ok(())
 }
 
 #[test]
-fn groups_are_written_as_their_fields(rt: HostRuntime) {
-    let alloc = rt.alloc();
-    let same = in_builder(alloc, Caches::all(), |builder| all_are_same(alloc, builder));
-    check(&rt, same, "soundings");
+fn groups_are_written_as_their_fields(rt: HostRuntime) -> Result<(), Fail> {
+    let test = Test::new(&rt);
+    in_builder(&test, Caches::all(), check_soundings);
+    test.end()
 }

@@ -1,8 +1,8 @@
-use crate::tests::check;
-use crate::tests::writing::{holds, in_builder};
 use by_hand::{Features, Kind, Pos, Site, SiteFields, SiteRef, home_read_back, point};
-use planus::errors::ErrorKind;
+use planus::errors::{ErrorKind, UnknownEnumTagKind};
 use planus::{BuildError, Builder, Caches, Error, read_root};
+use planus_testing::{Test, check, check_eq, in_builder};
+use std::test::Fail;
 
 const PARIS: Pos = Pos {
     lat: 48_856_600,
@@ -32,51 +32,62 @@ const FLATC_SITE: [u8; 168] = [
     0x0c, 0xac, 0xc9, 0xfb, 0xff, 0xff, 0x00, 0x00,
 ];
 
-fn has_track(site: &SiteRef<'_>) -> bool {
+fn check_track(test: &Test<'_>, site: &SiteRef<'_>) {
     match site.track() {
         Ok(Some(track)) => {
-            track.len() == 2
-                && matches!(point(&track, 0), Some(pos) if pos == PARIS)
-                && matches!(point(&track, 1), Some(pos) if pos == SANTIAGO)
-                && point(&track, 2).is_none()
+            check_eq(test, &track.len(), &2, "the track");
+            check_eq(
+                test,
+                &point(&track, 0),
+                &Some(PARIS),
+                "the track's first point",
+            );
+            check_eq(
+                test,
+                &point(&track, 1),
+                &Some(SANTIAGO),
+                "the track's second point",
+            );
+            check_eq(test, &point(&track, 2), &None, "no third point");
         }
-        _ => false,
+        _ => check(test, false, "the track"),
     }
 }
 
-fn has_kinds(site: &SiteRef<'_>) -> bool {
+fn check_kinds(test: &Test<'_>, site: &SiteRef<'_>) {
     match site.kinds() {
         Ok(Some(kinds)) => {
-            kinds.len() == 2
-                && matches!(kinds.get(0), Some(Ok(Kind::Ship)))
-                && matches!(kinds.get(1), Some(Ok(Kind::Car)))
+            check_eq(test, &kinds.len(), &2, "the kinds");
+            check_eq(test, &kinds.get(0), &Some(Ok(Kind::Ship)), "the first kind");
+            check_eq(test, &kinds.get(1), &Some(Ok(Kind::Car)), "the second kind");
         }
-        _ => false,
+        _ => check(test, false, "the kinds"),
     }
 }
 
-fn has_features(site: &SiteRef<'_>) -> bool {
+fn check_features(test: &Test<'_>, site: &SiteRef<'_>) {
     match site.features() {
         Ok(features) => {
-            features.bits == 5
-                && features.has(Features::ROAD)
-                && !features.has(Features::POWER.with(Features::ROAD))
+            let both = Features::POWER.with(Features::ROAD);
+            check_eq(test, &features.bits, &5, "the features");
+            check(test, features.has(Features::ROAD), "a road");
+            check(test, !features.has(both), "no power");
         }
-        Err(_) => false,
+        Err(error) => check_eq(test, &Some(error), &None, "the features"),
     }
 }
 
-fn is_site(bytes: &[u8], kind: Kind, heat: f32) -> bool {
+fn check_site(test: &Test<'_>, bytes: &[u8], kind: Kind, heat: f32) {
     let site: Result<SiteRef<'_>, _> = read_root(bytes);
     let Ok(site) = site else {
-        return false;
+        return check(test, false, "a site");
     };
-    matches!(site.home(), Ok(home) if home == PARIS)
-        && matches!(site.kind(), Ok(read) if read == kind)
-        && matches!(site.heat(), Ok(read) if read == heat)
-        && has_track(&site)
-        && has_kinds(&site)
-        && has_features(&site)
+    check_eq(test, &site.home(), &Ok(PARIS), "the home");
+    check_eq(test, &site.kind(), &Ok(kind), "the kind");
+    check_eq(test, &site.heat(), &Ok(heat), "the heat");
+    check_track(test, &site);
+    check_kinds(test, &site);
+    check_features(test, &site);
 }
 
 fn fields(kind: Kind, heat: f32) -> SiteFields<'static> {
@@ -92,142 +103,151 @@ fn fields(kind: Kind, heat: f32) -> SiteFields<'static> {
     }
 }
 
-fn is_read(builder: &mut Builder, kind: Kind, heat: f32) -> Result<bool, BuildError> {
+fn check_written(
+    test: &Test<'_>,
+    builder: &mut Builder,
+    kind: Kind,
+    heat: f32,
+) -> Result<(), BuildError> {
     builder.clear();
     let site = Site::create(builder, fields(kind, heat))?;
-    let bytes = builder.finish(site, None)?;
-    Ok(is_site(bytes, kind, heat))
+    check_site(test, builder.finish(site, None)?, kind, heat);
+    Ok(())
 }
 
-fn a_home_is_read(builder: &mut Builder) -> Result<bool, BuildError> {
-    builder.clear();
-    Ok(matches!(
-        home_read_back(builder, fields(Kind::Car, 0.0)),
-        Ok(Ok(home)) if home == PARIS
-    ))
+fn check_home(test: &Test<'_>, builder: &mut Builder) -> Result<(), BuildError> {
+    let home = home_read_back(builder, fields(Kind::Car, 0.0))?;
+    check_eq(test, &home, &Ok(PARIS), "a home");
+    Ok(())
 }
 
 // A bike is the default.
-fn all_are_read(builder: &mut Builder) -> bool {
-    holds(is_read(builder, Kind::Ship, -1.5))
-        && holds(is_read(builder, Kind::Bike, 1.0e30))
-        && holds(a_home_is_read(builder))
+fn check_all(test: &Test<'_>, builder: &mut Builder) -> Result<(), BuildError> {
+    check_written(test, builder, Kind::Ship, -1.5)?;
+    check_written(test, builder, Kind::Bike, 1.0e30)
 }
 
 #[test]
-fn sites_are_read_back(rt: HostRuntime) {
-    check(
-        &rt,
-        is_site(&FLATC_SITE, Kind::Ship, -1.5),
-        "another builder's",
+fn sites_are_read_back(rt: HostRuntime) -> Result<(), Fail> {
+    let test = Test::new(&rt);
+    check_site(&test, &FLATC_SITE, Kind::Ship, -1.5);
+    in_builder(&test, Caches::all(), check_all);
+    in_builder(&test, Caches::all(), check_home);
+    test.end()
+}
+
+fn check_unknown(test: &Test<'_>, error: Error, type_: &str, method: &str) {
+    let (location, kind) = (error.source_location, error.error_kind);
+    let source = UnknownEnumTagKind { tag: 9 };
+    check_eq(
+        test,
+        &kind,
+        &ErrorKind::UnknownEnumTag { source },
+        "an unknown kind",
     );
-    check(
-        &rt,
-        in_builder(rt.alloc(), Caches::all(), all_are_read),
-        "all",
+    check_eq(test, &location.type_, &type_, "where an unknown kind is");
+    check_eq(test, &location.method, &method, "what read an unknown kind");
+}
+
+fn check_unknown_field(test: &Test<'_>, site: &SiteRef<'_>) {
+    match site.kind() {
+        Ok(kind) => check_eq(test, &Some(kind), &None, "an unknown kind"),
+        Err(error) => {
+            check_eq(
+                test,
+                &error.source_location.byte_offset,
+                &24,
+                "where a site is",
+            );
+            check_unknown(test, error, "Site", "kind");
+        }
+    }
+    check_eq(
+        test,
+        &site.kind_or(Kind::Car),
+        &Ok(Kind::Car),
+        "a kind in its place",
     );
 }
 
-fn is_unknown_kind(site: &SiteRef<'_>) -> bool {
-    match site.kind() {
-        Err(
-            Error {
-                source_location,
-                error_kind: ErrorKind::UnknownEnumTag { source },
-            },
-        ) => {
-            source.tag == 9
-                && source_location.type_ == "Site"
-                && source_location.method == "kind"
-                && source_location.byte_offset == 24
-        }
-        _ => false,
+fn check_unknown_item(test: &Test<'_>, site: &SiteRef<'_>) {
+    let Ok(Some(kinds)) = site.kinds() else {
+        return check(test, false, "kinds");
+    };
+    check_eq(test, &kinds.get(0), &Some(Ok(Kind::Ship)), "a known kind");
+    match kinds.get(1) {
+        Some(Err(error)) => check_unknown(test, error, "[plain]", "get"),
+        _ => check(test, false, "an unknown item"),
     }
 }
 
-fn is_unknown_item(site: &SiteRef<'_>) -> bool {
-    let Ok(Some(kinds)) = site.kinds() else {
-        return false;
-    };
-    matches!(kinds.get(0), Some(Ok(Kind::Ship)))
-        && matches!(
-            kinds.get(1),
-            Some(Err(error)) if error.source_location.type_ == "[plain]"
-                && error.source_location.method == "get"
-                && matches!(
-                    error.error_kind,
-                    ErrorKind::UnknownEnumTag { source } if source.tag == 9
-                )
-        )
-}
-
-fn unknown_kinds_are_errors() -> bool {
+fn check_unknown_kinds(test: &Test<'_>) {
     let mut bytes = FLATC_SITE;
     bytes[30] = 9;
     bytes[133] = 9;
     let site: Result<SiteRef<'_>, _> = read_root(&bytes);
-    let Ok(site) = site else {
-        return false;
-    };
-    is_unknown_kind(&site)
-        && is_unknown_item(&site)
-        && matches!(site.kind_or(Kind::Car), Ok(Kind::Car))
+    match site {
+        Ok(site) => {
+            check_unknown_field(test, &site);
+            check_unknown_item(test, &site);
+        }
+        Err(_) => check(test, false, "a site of unknown kinds"),
+    }
 }
 
-fn is_named(error: Error, method: &str) -> bool {
-    error.source_location.type_ == "Site"
-        && error.source_location.method == method
-        && matches!(
-            error.error_kind,
-            ErrorKind::InvalidOffset
-                | ErrorKind::InvalidLength
-                | ErrorKind::MissingRequired
-                | ErrorKind::UnknownEnumTag { .. }
-        )
+fn check_named(test: &Test<'_>, error: Error, method: &str) {
+    let location = error.source_location;
+    let is_expected = matches!(
+        error.error_kind,
+        ErrorKind::InvalidOffset
+            | ErrorKind::InvalidLength
+            | ErrorKind::MissingRequired
+            | ErrorKind::UnknownEnumTag { .. }
+    );
+    check_eq(test, &location.type_, &"Site", method);
+    check_eq(test, &location.method, &method, method);
+    check(test, is_expected, method);
 }
 
-macro_rules! is_answered {
-    ($site:ident, $accessor:ident, $name:literal) => {
+macro_rules! check_answer {
+    ($test:ident, $site:ident, $accessor:ident, $name:literal) => {
         match $site.$accessor() {
-            Ok(_) => true,
-            Err(error) => is_named(error, $name),
+            Ok(_) => {}
+            Err(error) => check_named($test, error, $name),
         }
     };
 }
 
-fn is_answered(bytes: &[u8]) -> bool {
+fn check_answers(test: &Test<'_>, bytes: &[u8]) {
     let site: Result<SiteRef<'_>, _> = read_root(bytes);
     let Ok(site) = site else {
-        return true;
+        return;
     };
-    is_answered!(site, home, "home")
-        && is_answered!(site, track, "track")
-        && is_answered!(site, kind, "kind")
-        && is_answered!(site, heat, "heat")
-        && is_answered!(site, kinds, "kinds")
-        && is_answered!(site, features, "features")
-        && is_answered!(site, depth, "depth")
-        && is_answered!(site, levels, "levels")
+    check_answer!(test, site, home, "home");
+    check_answer!(test, site, track, "track");
+    check_answer!(test, site, kind, "kind");
+    check_answer!(test, site, heat, "heat");
+    check_answer!(test, site, kinds, "kinds");
+    check_answer!(test, site, features, "features");
+    check_answer!(test, site, depth, "depth");
+    check_answer!(test, site, levels, "levels");
 }
 
-fn damage_is_answered() -> bool {
+fn check_damage(test: &Test<'_>) {
     for i in 0..FLATC_SITE.len() {
         for other in [0, 1, 2, 0x7f, 0xff] {
             let mut bytes = FLATC_SITE;
             bytes[i] = other;
-            if !is_answered(&bytes) {
-                return false;
-            }
+            check_answers(test, &bytes);
         }
-        if !is_answered(&FLATC_SITE[..i]) {
-            return false;
-        }
+        check_answers(test, &FLATC_SITE[..i]);
     }
-    true
 }
 
 #[test]
-fn damaged_sites_are_answered(rt: HostRuntime) {
-    check(&rt, unknown_kinds_are_errors(), "unknown kinds");
-    check(&rt, damage_is_answered(), "every byte");
+fn damaged_sites_are_answered(rt: HostRuntime) -> Result<(), Fail> {
+    let test = Test::new(&rt);
+    check_unknown_kinds(&test);
+    check_damage(&test);
+    test.end()
 }

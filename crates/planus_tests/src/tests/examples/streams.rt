@@ -1,79 +1,72 @@
 //! Strings in one stream are read back one by one, also where it is cut.
 
-use crate::tests::check;
-use crate::tests::writing::{holds, in_builder};
 use by_hand::{append, read_all};
 use planus::errors::ErrorKind;
 use planus::{BuildError, Builder, Caches, SliceWithStartOffset, TableRead};
-use std::alloc::Global;
+use planus_testing::{Test, check, check_eq, in_builder};
+use std::test::Fail;
 
 const TEXTS: &[&str] = &["Axe", "Bow", "Club"];
 
-fn is_text(slice: SliceWithStartOffset<'_>, text: &str) -> bool {
-    matches!(<&str as TableRead>::from_buffer(slice, 0), Ok(read) if read == text)
-}
-
-fn are_texts(slices: &[SliceWithStartOffset<'_>]) -> bool {
+fn check_records(test: &Test<'_>, slices: &[SliceWithStartOffset<'_>], count: usize, row: &str) {
+    check_eq(test, &slices.len(), &count, row);
     for (slice, text) in slices.iter().zip(TEXTS) {
-        if !is_text(*slice, text) {
-            return false;
+        check_eq(
+            test,
+            &<&str as TableRead>::from_buffer(*slice, 0),
+            &Ok(*text),
+            row,
+        );
+    }
+}
+
+fn check_cut(test: &Test<'_>, part: &[u8], count: usize, fault: Option<ErrorKind>, row: &str) {
+    match read_all(test.alloc(), part) {
+        Ok(records) => {
+            check_records(test, records.slices.as_slice(), count, row);
+            check_eq(test, &records.fault, &fault, row);
+        }
+        Err(_) => check(test, false, row),
+    }
+}
+
+const ROWS: [(usize, usize, Option<ErrorKind>, &str); 7] = [
+    (49, 3, None, "whole"),
+    (48, 2, Some(ErrorKind::InvalidLength), "within the last"),
+    (
+        36,
+        2,
+        Some(ErrorKind::InvalidLength),
+        "right after the last's size",
+    ),
+    (35, 2, Some(ErrorKind::InvalidOffset), "within that size"),
+    (32, 2, None, "after the second"),
+    (15, 0, Some(ErrorKind::InvalidLength), "within the first"),
+    (0, 0, None, "before all"),
+];
+
+fn check_cuts(test: &Test<'_>, stream: &[u8]) {
+    check_eq(test, &stream.len(), &49, "the stream's bytes");
+    for (length, count, fault, row) in ROWS {
+        match stream.get(..length) {
+            Some(part) => check_cut(test, part, count, fault, row),
+            None => check(test, false, row),
         }
     }
-    true
 }
 
-fn is_read(
-    alloc: Global,
-    stream: &[u8],
-    length: usize,
-    count: usize,
-    fault: Option<ErrorKind>,
-) -> bool {
-    match stream.get(..length) {
-        Some(part) => match read_all(alloc, part) {
-            Ok(records) => {
-                let slices = records.slices.as_slice();
-                slices.len() == count && are_texts(slices) && records.fault == fault
-            }
-            Err(_) => false,
-        },
-        None => false,
-    }
-}
-
-// Whole; within the last buffer, right after its size, and within that; after the second; within
-// the first; and before all.
-fn cuts_are_read(alloc: Global, stream: &[u8]) -> bool {
-    let rows = [
-        (49, 3, None),
-        (48, 2, Some(ErrorKind::InvalidLength)),
-        (36, 2, Some(ErrorKind::InvalidLength)),
-        (35, 2, Some(ErrorKind::InvalidOffset)),
-        (32, 2, None),
-        (15, 0, Some(ErrorKind::InvalidLength)),
-        (0, 0, None),
-    ];
-    for (length, count, fault) in rows {
-        if !is_read(alloc, stream, length, count, fault) {
-            return false;
-        }
-    }
-    stream.len() == 49
-}
-
-fn stream_is_read(alloc: Global, builder: &mut Builder) -> Result<bool, BuildError> {
-    let mut stream = Vec::new(alloc);
+fn check_stream(test: &Test<'_>, builder: &mut Builder) -> Result<(), BuildError> {
+    let mut stream = Vec::new(test.alloc());
     for text in TEXTS {
         append(&mut stream, builder, text)?;
     }
-    Ok(cuts_are_read(alloc, stream.as_slice()))
+    check_cuts(test, stream.as_slice());
+    Ok(())
 }
 
 #[test]
-fn a_stream_of_three_texts(rt: HostRuntime) {
-    let alloc = rt.alloc();
-    let read = in_builder(alloc, Caches::all(), |builder| {
-        holds(stream_is_read(alloc, builder))
-    });
-    check(&rt, read, "each cut");
+fn a_stream_of_three_texts(rt: HostRuntime) -> Result<(), Fail> {
+    let test = Test::new(&rt);
+    in_builder(&test, Caches::all(), check_stream);
+    test.end()
 }

@@ -1,13 +1,13 @@
-use super::prints;
 use super::traits::field;
-use crate::tests::check;
 use planus_read::Error;
 use planus_read::errors::{ErrorKind, ErrorLocation, UnknownEnumTagKind};
+use planus_testing::{Test, check, check_eq, check_prints};
 use planus_view::CopyError;
-use std::alloc::Global;
+use std::test::Fail;
 
 #[test]
-fn kinds_print_their_texts(rt: HostRuntime) {
+fn kinds_print_their_texts(rt: HostRuntime) -> Result<(), Fail> {
+    let test = Test::new(&rt);
     let rows = [
         (ErrorKind::InvalidOffset, "Invalid offset"),
         (ErrorKind::InvalidLength, "Invalid length"),
@@ -35,22 +35,24 @@ fn kinds_print_their_texts(rt: HostRuntime) {
         ),
     ];
     for (kind, text) in rows {
-        check(&rt, prints(rt.alloc(), &kind, text), text);
+        check_prints(&test, &kind, text);
     }
+    test.end()
 }
 
-fn fault_prints(alloc: Global, bytes: &[u8], text: &str) -> bool {
-    let Err(source) = std::str::from_utf8(bytes) else {
-        return false;
-    };
-    match format!(in alloc; "Invalid utf-8: {source}") {
-        Ok(words) => words.as_str() == text && prints(alloc, &ErrorKind::from(source), text),
-        Err(_) => false,
+fn check_fault(test: &Test<'_>, bytes: &[u8], text: &str) {
+    match std::str::from_utf8(bytes) {
+        Ok(_) => check(test, false, text),
+        Err(source) => {
+            check_prints(test, &format_args!("Invalid utf-8: {source}"), text);
+            check_prints(test, &ErrorKind::from(source), text);
+        }
     }
 }
 
 #[test]
-fn faults_in_utf8_print_as_std_prints_them(rt: HostRuntime) {
+fn faults_in_utf8_print_as_std_prints_them(rt: HostRuntime) -> Result<(), Fail> {
+    let test = Test::new(&rt);
     let rows: [(&[u8], &str); 4] = [
         (
             &[0xff],
@@ -70,23 +72,26 @@ fn faults_in_utf8_print_as_std_prints_them(rt: HostRuntime) {
         ),
     ];
     for (bytes, text) in rows {
-        check(&rt, fault_prints(rt.alloc(), bytes, text), text);
+        check_fault(&test, bytes, text);
     }
+    test.end()
 }
 
 // The third of the four bytes is the first that isn't UTF-8.
 const FAULTY: [u8; 13] = [4, 0, 0, 0, 4, 0, 0, 0, b'A', b'x', 0xff, 0xfe, 0];
 
-fn errors_print(alloc: Global) -> bool {
-    let Err(kind) = field::<&str>(&FAULTY, 0) else {
-        return false;
-    };
-    let text = "In <T@ff>::m(): Invalid utf-8: invalid utf-8 sequence of 1 bytes from index 2";
-    prints(
-        alloc,
+const FAULT: &str = "In <T@ff>::m(): Invalid utf-8: invalid utf-8 sequence of 1 bytes from index 2";
+
+fn check_errors(test: &Test<'_>) {
+    check_prints(
+        test,
         &long_name(255),
         "In <Monster@ff>::name(): Invalid length",
-    ) && prints(alloc, &kind.with_error_location("T", "m", 255), text)
+    );
+    match field::<&str>(&FAULTY, 0) {
+        Ok(_) => check(test, false, FAULT),
+        Err(kind) => check_prints(test, &kind.with_error_location("T", "m", 255), FAULT),
+    }
 }
 
 fn location(byte_offset: usize) -> ErrorLocation {
@@ -97,34 +102,47 @@ fn location(byte_offset: usize) -> ErrorLocation {
     }
 }
 
-fn unknown_tags_print(alloc: Global) -> bool {
+const TAG: &str = "In <Color@10>::color(): Unknown enum (tag = -1)";
+
+fn check_unknown_tags(test: &Test<'_>) {
     let kind = UnknownEnumTagKind { tag: -1 };
     let tag = kind.with_error_location("Color", "color", 16);
-    let text = "In <Color@10>::color(): Unknown enum (tag = -1)";
-    let Ok(copy) = tag.clone() else {
-        return false;
-    };
-    prints(alloc, &kind, "Unknown enum (tag = -1)")
-        && prints(alloc, &tag, text)
-        && prints(alloc, &Error::from(copy), text)
-        && prints(alloc, &location(255), "<T@ff>::m()")
-        && prints(alloc, &location(usize::MAX), "<T>::m()")
+    check_prints(test, &kind, "Unknown enum (tag = -1)");
+    check_prints(test, &tag, TAG);
+    match tag.clone() {
+        Ok(copy) => check_prints(test, &Error::from(copy), TAG),
+        Err(_) => check(test, false, TAG),
+    }
+}
+
+fn check_locations(test: &Test<'_>) {
+    check_prints(test, &location(255), "<T@ff>::m()");
+    check_prints(test, &location(usize::MAX), "<T>::m()");
 }
 
 fn long_name(offset: usize) -> Error {
     ErrorKind::InvalidLength.with_error_location("Monster", "name", offset)
 }
 
-fn errors_are_compared() -> bool {
-    field::<u32>(&[0; 3], 0) == Err(ErrorKind::InvalidOffset)
-        && long_name(4) == long_name(4)
-        && long_name(4) != long_name(5)
-        && CopyError::from(long_name(4)) != CopyError::OutOfMemory
+fn check_comparing(test: &Test<'_>) {
+    let kind = field::<u32>(&[0; 3], 0);
+    let copying = CopyError::from(long_name(4));
+    check_eq(test, &kind, &Err(ErrorKind::InvalidOffset), "a field");
+    check_eq(test, &long_name(4), &long_name(4), "one error twice");
+    check(test, long_name(4) != long_name(5), "two errors");
+    check(
+        test,
+        copying != CopyError::OutOfMemory,
+        "two errors of copies",
+    );
 }
 
 #[test]
-fn errors_print_their_texts(rt: HostRuntime) {
-    check(&rt, errors_print(rt.alloc()), "errors");
-    check(&rt, unknown_tags_print(rt.alloc()), "tags and locations");
-    check(&rt, errors_are_compared(), "compared");
+fn errors_print_their_texts(rt: HostRuntime) -> Result<(), Fail> {
+    let test = Test::new(&rt);
+    check_errors(&test);
+    check_unknown_tags(&test);
+    check_locations(&test);
+    check_comparing(&test);
+    test.end()
 }

@@ -1,13 +1,13 @@
 //! The worked tables, with expected values written out.
 
-use super::{UNIONS, WEAPON, fails_printing, fails_with, same_kind};
-use crate::tests::check;
+use super::{UNIONS, WEAPON, check_fails_with};
 use planus_read::errors::ErrorKind;
 use planus_read::table_reader::Table;
 use planus_read::{
     Place, SliceWithStartOffset, TableRead, TableReadUnionVector, TaggedPlace, array_from_buffer,
 };
-use std::alloc::Global;
+use planus_testing::{Test, check, check_eq, check_fails};
+use std::test::Fail;
 
 const U16_TABLE: [u8; 16] = [4, 0, 0, 0, 0xfa, 0xff, 0xff, 0xff, 24, 0, 6, 0, 6, 0, 4, 0];
 
@@ -48,49 +48,48 @@ fn table_at(bytes: &[u8]) -> Result<Table<'_>, ErrorKind> {
     Table::from_buffer(SliceWithStartOffset::new(bytes, 0), 0)
 }
 
-pub fn bad_tables_fail() -> bool {
-    let rows: [(&[u8], ErrorKind); 3] = [
-        (&[4, 0, 0, 0], ErrorKind::InvalidOffset),
-        (&[0, 0, 0], ErrorKind::InvalidOffset),
-        (
-            &[4, 0, 0, 0, 0xfc, 0xff, 0xff, 0xff, 3, 0],
-            ErrorKind::InvalidVtableLength { length: 3 },
-        ),
-    ];
-    let mut all = true;
-    for (bytes, error) in rows {
-        all = all
-            && match table_at(bytes) {
-                Ok(_) => false,
-                Err(kind) => same_kind(kind, error),
-            };
-    }
-    all
+fn check_bad_table(test: &Test<'_>, bytes: &[u8], want: ErrorKind, row: &str) {
+    check_eq(test, &table_at(bytes).err(), &Some(want), row);
 }
 
-pub fn the_weapon_is_read() -> bool {
+const VTABLE_OF_THREE_BYTES: [u8; 10] = [4, 0, 0, 0, 0xfc, 0xff, 0xff, 0xff, 3, 0];
+
+pub fn check_bad_tables(test: &Test<'_>) {
+    let odd = ErrorKind::InvalidVtableLength { length: 3 };
+    check_bad_table(
+        test,
+        &[4, 0, 0, 0],
+        ErrorKind::InvalidOffset,
+        "a reference to the end",
+    );
+    check_bad_table(test, &[0, 0, 0], ErrorKind::InvalidOffset, "three bytes");
+    check_bad_table(test, &VTABLE_OF_THREE_BYTES, odd, "a vtable of three bytes");
+}
+
+pub fn check_weapon(test: &Test<'_>) {
     let Ok(table) = table_at(&WEAPON) else {
-        return false;
+        return check(test, false, "the weapon");
     };
-    matches!(table.access::<&str>(0, "Weapon", "name"), Ok(Some("Axe")))
-        && matches!(
-            table.access_required::<&str>(0, "Weapon", "name"),
-            Ok("Axe")
-        )
-        && matches!(table.access::<i16>(1, "Weapon", "damage"), Ok(Some(24)))
-        && matches!(table.access::<&str>(2, "Weapon", "none"), Ok(None))
-        && matches!(table.access_required::<u16>(1, "Weapon", "damage"), Ok(24))
-        && fails_with(
-            table.access_required::<u16>(9, "Weapon", "none"),
-            ErrorKind::MissingRequired,
-        )
+    let name = table.access::<&str>(0, "Weapon", "name");
+    let required = table.access_required::<&str>(0, "Weapon", "name");
+    check_eq(test, &name, &Ok(Some("Axe")), "the name");
+    check_eq(test, &required, &Ok("Axe"), "the required name");
+    check_damage(test, table);
 }
 
-fn has_number(table: Table<'_>, slot: usize, number: Option<u16>) -> bool {
-    match table.access::<u16>(slot, "T", "n") {
-        Ok(read) => read == number,
-        Err(_) => false,
-    }
+fn check_damage(test: &Test<'_>, table: Table<'_>) {
+    let damage = table.access::<i16>(1, "Weapon", "damage");
+    let required = table.access_required::<u16>(1, "Weapon", "damage");
+    let none = table.access::<&str>(2, "Weapon", "none");
+    let missing = table.access_required::<u16>(9, "Weapon", "none");
+    check_eq(test, &damage, &Ok(Some(24)), "the damage");
+    check_eq(test, &required, &Ok(24), "the required damage");
+    check_eq(test, &none, &Ok(None), "no third field");
+    check_fails_with(test, missing, ErrorKind::MissingRequired, "no tenth field");
+}
+
+fn check_number(test: &Test<'_>, table: Table<'_>, slot: usize, want: Option<u16>, row: &str) {
+    check_eq(test, &table.access::<u16>(slot, "T", "n"), &Ok(want), row);
 }
 
 fn has_no_union(table: Table<'_>, slot: usize) -> bool {
@@ -100,144 +99,185 @@ fn has_no_union(table: Table<'_>, slot: usize) -> bool {
     )
 }
 
-fn union_fails(table: Table<'_>, slot: usize, kind: ErrorKind) -> bool {
-    fails_with(table.access_union::<TaggedPlace<'_>>(slot, "T", "u"), kind)
-}
-
-pub fn the_u16_table_is_read() -> bool {
-    let (Ok(table), Ok(behind)) = (table_at(&U16_TABLE), table_at(&U16_TABLE_VTABLE_FIRST)) else {
-        return false;
-    };
-    has_number(table, 0, Some(24))
-        && has_number(table, 1, None)
-        && has_number(table, usize::MAX, None)
-        && has_number(behind, 0, Some(24))
-        && has_no_union(table, 1)
-        && has_no_union(table, usize::MAX)
-        && union_fails(table, 0, ErrorKind::InvalidVtableLength { length: 6 })
-        && matches!(
-            table.access_union_vector::<Heads<'_>>(0, "T", "v"),
-            Ok(None)
-        )
-}
-
-fn half_vector_fails(table: Table<'_>) -> bool {
-    fails_with(
+fn has_no_vector(table: Table<'_>) -> bool {
+    matches!(
         table.access_union_vector::<Heads<'_>>(0, "T", "v"),
-        ErrorKind::InvalidOffset,
+        Ok(None)
     )
 }
 
-pub fn half_a_union_vector_fails() -> bool {
+fn check_bad_union(test: &Test<'_>, table: Table<'_>, want: ErrorKind, row: &str) {
+    check_fails_with(
+        test,
+        table.access_union::<TaggedPlace<'_>>(0, "T", "u"),
+        want,
+        row,
+    );
+}
+
+pub fn check_u16_table(test: &Test<'_>) {
+    let (Ok(table), Ok(behind)) = (table_at(&U16_TABLE), table_at(&U16_TABLE_VTABLE_FIRST)) else {
+        return check(test, false, "tables of a number");
+    };
+    check_number(test, table, 0, Some(24), "the number");
+    check_number(test, table, 1, None, "no second number");
+    check_number(
+        test,
+        table,
+        usize::MAX,
+        None,
+        "no number at the greatest slot",
+    );
+    check_number(test, behind, 0, Some(24), "the number behind its vtable");
+    check_unions_of_u16_table(test, table);
+}
+
+fn check_unions_of_u16_table(test: &Test<'_>, table: Table<'_>) {
+    let odd = ErrorKind::InvalidVtableLength { length: 6 };
+    check(test, has_no_union(table, 1), "no union at slot 1");
+    check(
+        test,
+        has_no_union(table, usize::MAX),
+        "no union at the greatest slot",
+    );
+    check_bad_union(test, table, odd, "a tag with no value");
+    check(test, has_no_vector(table), "no vector of unions");
+}
+
+fn check_bad_vector(test: &Test<'_>, table: Table<'_>, row: &str) {
+    let vector = table.access_union_vector::<Heads<'_>>(0, "T", "v");
+    check_fails_with(test, vector, ErrorKind::InvalidOffset, row);
+}
+
+pub fn check_half_a_union_vector(test: &Test<'_>) {
     let Ok(table) = table_at(&HALF_UNION_VECTOR) else {
-        return false;
+        return check(test, false, "half a vector of unions");
     };
-    has_no_union(table, 0)
-        && fails_with(
-            table.access_union_required::<TaggedPlace<'_>>(0, "T", "u"),
-            ErrorKind::MissingRequired,
-        )
-        && half_vector_fails(table)
+    let union = table.access_union_required::<TaggedPlace<'_>>(0, "T", "u");
+    check(test, has_no_union(table, 0), "no union in half a vector");
+    check_fails_with(test, union, ErrorKind::MissingRequired, "no required union");
+    check_bad_vector(test, table, "half a vector of unions");
 }
 
-pub fn fields_past_the_end_fail() -> bool {
+pub fn check_fields_past_the_end(test: &Test<'_>) {
     let Ok(table) = table_at(&TAG_PAST_END) else {
-        return false;
+        return check(test, false, "fields past the end");
     };
-    union_fails(table, 0, ErrorKind::InvalidOffset)
-        && half_vector_fails(table)
-        && fails_with(table.access::<u8>(0, "T", "n"), ErrorKind::InvalidOffset)
-        && matches!(table.access::<u8>(1, "T", "n"), Ok(None))
-        && fails_with(
-            table.access_union_vector_required::<Heads<'_>>(2, "T", "v"),
-            ErrorKind::MissingRequired,
-        )
+    let number = table.access::<u8>(0, "T", "n");
+    let vector = table.access_union_vector_required::<Heads<'_>>(2, "T", "v");
+    check_bad_union(test, table, ErrorKind::InvalidOffset, "a tag past the end");
+    check_bad_vector(test, table, "tags past the end");
+    check_fails_with(
+        test,
+        number,
+        ErrorKind::InvalidOffset,
+        "a number past the end",
+    );
+    check_eq(
+        test,
+        &table.access::<u8>(1, "T", "n"),
+        &Ok(None),
+        "no number",
+    );
+    check_fails_with(
+        test,
+        vector,
+        ErrorKind::MissingRequired,
+        "no required vector",
+    );
 }
 
-fn is_text(union: Option<TaggedPlace<'_>>, tag: u8, text: &str) -> bool {
-    match union {
-        Some(union) => {
-            union.tag() == tag && matches!(union.place().read::<&str>(), Ok(read) if read == text)
-        }
-        None => false,
+fn check_hi(test: &Test<'_>, union: TaggedPlace<'_>, row: &str) {
+    check_eq(test, &union.tag(), &1, row);
+    check_eq(test, &union.place().read::<&str>(), &Ok("Hi"), row);
+}
+
+pub fn check_union(test: &Test<'_>) {
+    let Ok(table) = table_at(&UNIONS) else {
+        return check(test, false, "the table of unions");
+    };
+    match table.access_union::<TaggedPlace<'_>>(0, "T", "u") {
+        Ok(Some(union)) => check_hi(test, union, "the union"),
+        _ => check(test, false, "the union"),
+    }
+    match table.access_union_required::<TaggedPlace<'_>>(0, "T", "u") {
+        Ok(union) => check_hi(test, union, "the required union"),
+        Err(_) => check(test, false, "the required union"),
     }
 }
 
-pub fn a_union_is_read() -> bool {
-    let Ok(table) = table_at(&UNIONS) else {
-        return false;
-    };
-    let there = table.access_union::<TaggedPlace<'_>>(0, "T", "u");
-    let required = table.access_union_required::<TaggedPlace<'_>>(0, "T", "u");
-    matches!(there, Ok(union) if is_text(union, 1, "Hi"))
-        && matches!(required, Ok(union) if is_text(Some(union), 1, "Hi"))
-}
-
-fn leads_to(values: SliceWithStartOffset<'_>, offset: usize, text: &str) -> bool {
+fn check_value(test: &Test<'_>, values: SliceWithStartOffset<'_>, offset: usize, text: &str) {
     match <Place<'_> as TableRead<'_>>::from_buffer(values, offset) {
-        Ok(place) => matches!(place.read::<&str>(), Ok(read) if read == text),
-        Err(_) => false,
+        Ok(place) => check_eq(test, &place.read::<&str>(), &Ok(text), text),
+        Err(_) => check(test, false, text),
     }
 }
 
-pub fn two_unions_are_read() -> bool {
-    let Ok(table) = table_at(&UNIONS) else {
-        return false;
-    };
-    let Ok(heads) = table.access_union_vector_required::<Heads<'_>>(2, "T", "v") else {
-        return false;
-    };
+fn check_heads(test: &Test<'_>, heads: Heads<'_>) {
     let ((tags, tag_count), (values, value_count)) = (heads.tags, heads.values);
-    tag_count == 2
-        && value_count == 2
-        && tags.offset_from_start() == 48
-        && values.offset_from_start() == 56
-        && tags.as_slice().starts_with(&[1, 2])
-        && leads_to(values, 0, "A")
-        && leads_to(values, 4, "B")
-        && matches!(
-            table.access_union_vector::<Heads<'_>>(2, "T", "v"),
-            Ok(Some(_))
-        )
+    check_eq(test, &tag_count, &2, "the count of tags");
+    check_eq(test, &value_count, &2, "the count of values");
+    check_eq(test, &tags.offset_from_start(), &48, "where the tags are");
+    check_eq(
+        test,
+        &values.offset_from_start(),
+        &56,
+        "where the values are",
+    );
+    check(test, tags.as_slice().starts_with(&[1, 2]), "the tags");
+    check_value(test, values, 0, "A");
+    check_value(test, values, 4, "B");
 }
 
-fn name_fails(alloc: Global, bytes: &[u8]) -> bool {
+fn has_two_unions(table: Table<'_>) -> bool {
+    matches!(
+        table.access_union_vector::<Heads<'_>>(2, "T", "v"),
+        Ok(Some(_))
+    )
+}
+
+pub fn check_two_unions(test: &Test<'_>) {
+    let Ok(table) = table_at(&UNIONS) else {
+        return check(test, false, "the table of unions");
+    };
+    match table.access_union_vector_required::<Heads<'_>>(2, "T", "v") {
+        Ok(heads) => check_heads(test, heads),
+        Err(_) => check(test, false, "the required vector of unions"),
+    }
+    check(test, has_two_unions(table), "the vector of unions");
+}
+
+fn check_bad_name(test: &Test<'_>, bytes: &[u8]) {
+    let text = "In <Weapon@4>::name(): Missing null terminator";
     match table_at(bytes) {
-        Ok(table) => fails_printing(
-            alloc,
-            table.access::<&str>(0, "Weapon", "name"),
-            "In <Weapon@4>::name(): Missing null terminator",
-        ),
-        Err(_) => false,
+        Ok(table) => check_fails(test, table.access::<&str>(0, "Weapon", "name"), text),
+        Err(_) => check(test, false, text),
     }
 }
 
 // The name of the type may have any lifetime.
-fn price_fails(alloc: Global, weapon: Table<'_>, type_: &str) -> bool {
-    match weapon.access_required::<u8>(2, type_, "price") {
-        Ok(_) => false,
-        Err(e) => super::prints(alloc, &e, "In <Weapon2@4>::price(): Missing required field"),
-    }
+fn check_no_price(test: &Test<'_>, weapon: Table<'_>, type_: &str) {
+    let text = "In <Weapon2@4>::price(): Missing required field";
+    check_fails(test, weapon.access_required::<u8>(2, type_, "price"), text);
 }
 
-fn slots_fail(alloc: Global) -> bool {
+fn check_bad_slots(test: &Test<'_>) {
     let (Ok(weapon), Ok(past_end)) = (table_at(&WEAPON), table_at(&TAG_PAST_END)) else {
-        return false;
+        return check(test, false, "tables");
     };
-    price_fails(alloc, weapon, "Weapon2")
-        && fails_printing(
-            alloc,
-            past_end.access_union::<TaggedPlace<'_>>(0, "T", "u"),
-            "In <T@4>::u(): Invalid offset",
-        )
+    let union = past_end.access_union::<TaggedPlace<'_>>(0, "T", "u");
+    check_no_price(test, weapon, "Weapon2");
+    check_fails(test, union, "In <T@4>::u(): Invalid offset");
 }
 
 #[test]
-fn errors_of_slots(rt: HostRuntime) {
+fn errors_of_slots(rt: HostRuntime) -> Result<(), Fail> {
+    let test = Test::new(&rt);
     let mut last_byte_one = WEAPON;
     last_byte_one[31] = 1;
     for bytes in [&last_byte_one, &WEAPON[..31], &WEAPON[..30]] {
-        check(&rt, name_fails(rt.alloc(), bytes), "a damaged name");
+        check_bad_name(&test, bytes);
     }
-    check(&rt, slots_fail(rt.alloc()), "slots");
+    check_bad_slots(&test);
+    test.end()
 }

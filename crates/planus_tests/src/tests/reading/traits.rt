@@ -1,13 +1,14 @@
+use super::UNIONS;
 use super::tables::Heads;
-use super::{UNIONS, fails_printing};
-use crate::tests::check;
 use planus_read::errors::{Error, ErrorKind};
 use planus_read::table_reader::Table;
 use planus_read::{
     Place, ReadAsRoot, SignedBytes, SliceWithStartOffset, Stride, TableRead, TableReadUnion,
     TableReadUnionVector, TaggedPlace, VectorRead, VectorReadInner, VectorReadUnion, located,
 };
-use std::alloc::Global;
+use planus_testing::{Test, check, check_bytes, check_eq, check_fails};
+use std::fmt::Debug;
+use std::test::Fail;
 
 const BYTES: [u8; 16] = [
     0xff, 0xfe, 0xfd, 0xfc, 0xfb, 0xfa, 0xf9, 0xf8, 1, 0, 2, 0, 3, 0, 0, 0,
@@ -67,26 +68,35 @@ fn read_root<'a, 'n, T: ReadAsRoot<'a>>(bytes: &'a [u8]) -> Result<T, located::E
 }
 
 // As a field, and as an item of a vector.
-fn is_read<'buf, T: TableRead<'buf> + VectorRead<'buf> + PartialEq + Drop>(
+fn check_read<'buf, T: TableRead<'buf> + VectorRead<'buf> + PartialEq + Debug + Copy + Drop>(
+    test: &Test<'_>,
     bytes: &'buf [u8],
     offset: usize,
     want: T,
-) -> bool {
-    matches!(field::<T>(bytes, offset), Ok(read) if read == want)
-        && matches!(item::<T>(bytes, offset), Some(read) if read == want)
+    row: &str,
+) {
+    check_eq(test, &field::<T>(bytes, offset), &Ok(want), row);
+    check_eq(test, &item::<T>(bytes, offset), &Some(want), row);
 }
 
-pub fn numbers_are_read() -> bool {
-    is_read::<u8>(&BYTES, 1, 0xfe)
-        && is_read::<u16>(&BYTES, 0, 0xfeff)
-        && is_read::<u32>(&BYTES, 0, 0xfcfd_feff)
-        && is_read::<u64>(&BYTES, 0, 0xf8f9_fafb_fcfd_feff)
-        && is_read::<i8>(&BYTES, 1, -2)
-        && is_read::<i16>(&BYTES, 0, -257)
-        && is_read::<i32>(&BYTES, 0, -50_462_977)
-        && is_read::<i64>(&BYTES, 8, 0x3_0002_0001)
-        && is_read::<bool>(&BYTES, 8, true)
-        && is_read::<bool>(&BYTES, 9, false)
+pub fn check_numbers(test: &Test<'_>) {
+    check_read::<u8>(test, &BYTES, 1, 0xfe, "u8");
+    check_read::<u16>(test, &BYTES, 0, 0xfeff, "u16");
+    check_read::<u32>(test, &BYTES, 0, 0xfcfd_feff, "u32");
+    check_read::<u64>(test, &BYTES, 0, 0xf8f9_fafb_fcfd_feff, "u64");
+    check_read::<i8>(test, &BYTES, 1, -2, "i8");
+    check_read::<i16>(test, &BYTES, 0, -257, "i16");
+    check_read::<i32>(test, &BYTES, 0, -50_462_977, "i32");
+    check_read::<i64>(test, &BYTES, 8, 0x3_0002_0001, "i64");
+    check_read::<bool>(test, &BYTES, 8, true, "true");
+    check_read::<bool>(test, &BYTES, 9, false, "false");
+    let outside = field::<u64>(&BYTES, 9);
+    check_eq(
+        test,
+        &outside,
+        &Err(ErrorKind::InvalidOffset),
+        "u64 past the end",
+    );
 }
 
 // 1.5 and a NaN with a payload as floats of 4 bytes, and -0.125 as one of 8, in IEEE 754.
@@ -94,16 +104,24 @@ const FLOATS: [u8; 16] = [
     0, 0, 0xc0, 0x3f, 1, 0, 0x80, 0x7f, 0, 0, 0, 0, 0, 0, 0xc0, 0xbf,
 ];
 
-pub fn floats_are_read() -> bool {
-    is_read::<f32>(&FLOATS, 0, 1.5)
-        && is_read::<f64>(&FLOATS, 8, -0.125)
-        && matches!(field::<f32>(&FLOATS, 4), Ok(read) if read.is_nan())
-        && matches!(inner_item::<f64>(&FLOATS, 8), Some(Ok(read)) if read == -0.125)
-}
-
-pub fn numbers_past_the_end_fail() -> bool {
-    matches!(field::<u64>(&BYTES, 9), Err(ErrorKind::InvalidOffset))
-        && matches!(field::<f64>(&FLOATS, 9), Err(ErrorKind::InvalidOffset))
+pub fn check_floats(test: &Test<'_>) {
+    check_read::<f32>(test, &FLOATS, 0, 1.5, "f32");
+    check_read::<f64>(test, &FLOATS, 8, -0.125, "f64");
+    let is_nan = matches!(field::<f32>(&FLOATS, 4), Ok(read) if read.is_nan());
+    check(test, is_nan, "a NaN");
+    let inner = inner_item::<f64>(&FLOATS, 8);
+    check(
+        test,
+        matches!(inner, Some(Ok(read)) if read == -0.125),
+        "an inner item",
+    );
+    let outside = field::<f64>(&FLOATS, 9);
+    check_eq(
+        test,
+        &outside,
+        &Err(ErrorKind::InvalidOffset),
+        "f64 past the end",
+    );
 }
 
 // A reference to the string `Hi` at 0, and one to damage at 4.
@@ -111,55 +129,106 @@ const TEXTS: [u8; 16] = [8, 0, 0, 0, 99, 0, 0, 0, 2, 0, 0, 0, 72, 105, 0, 0];
 
 const ONE_BYTE: [u8; 9] = [4, 0, 0, 0, 1, 0, 0, 0, 0xff];
 
-fn is_minus_one(list: SignedBytes<'_>) -> bool {
-    list.len() == 1
-        && !list.is_empty()
-        && list.as_bytes() == [0xff].as_slice()
-        && list.get(0) == Some(-1)
-        && list.get(1).is_none()
+fn check_minus_one(test: &Test<'_>, list: SignedBytes<'_>) {
+    check_eq(test, &list.len(), &1, "the length of one byte");
+    check(test, !list.is_empty(), "one byte isn't none");
+    check_bytes(test, list.as_bytes(), &[0xff], "one byte");
+    check_eq(test, &list.get(0), &Some(-1), "one number");
+    check_eq(test, &list.get(1), &None, "no second number");
 }
 
 const THREE_BYTES: [u8; 11] = [4, 0, 0, 0, 3, 0, 0, 0, 0xff, 2, 0x80];
 
-fn are_three(list: SignedBytes<'_>) -> bool {
+fn seen(list: SignedBytes<'_>) -> usize {
     let mut seen: usize = 0;
     for number in &list {
         if list.get(seen) == Some(number) {
-            seen = seen.wrapping_add(1);
+            seen = seen.saturating_add(1);
         }
     }
+    seen
+}
+
+fn check_three(test: &Test<'_>, list: SignedBytes<'_>) {
     let mut ends = list.into_iter();
-    seen == 3
-        && list.iter().eq([-1i8, 2, -128])
-        && ends.next_back() == Some(-128)
-        && ends.next() == Some(-1)
-        && ends.len() == 1
+    check_eq(test, &seen(list), &3, "the numbers that are seen");
+    check(test, list.iter().eq([-1i8, 2, -128]), "three numbers");
+    check_eq(test, &ends.next_back(), &Some(-128), "the last number");
+    check_eq(test, &ends.next(), &Some(-1), "the first number");
+    check_eq(test, &ends.len(), &1, "the numbers that are left");
 }
 
-pub fn lists_are_fields() -> bool {
-    let signed = field::<SignedBytes<'_>>(&ONE_BYTE, 0);
-    let three = field::<SignedBytes<'_>>(&THREE_BYTES, 0);
-    matches!(field::<&str>(&TEXTS, 0), Ok("Hi"))
-        && matches!(field::<&str>(&TEXTS, 4), Err(ErrorKind::InvalidOffset))
-        && matches!(field::<&[u8]>(&TEXTS, 0), Ok(b"Hi"))
-        && matches!(field::<Table<'_>>(&TEXTS, 4), Err(ErrorKind::InvalidOffset))
-        && matches!(signed, Ok(list) if is_minus_one(list))
-        && matches!(three, Ok(list) if are_three(list))
+fn check_signed(test: &Test<'_>) {
+    match field::<SignedBytes<'_>>(&ONE_BYTE, 0) {
+        Ok(list) => check_minus_one(test, list),
+        Err(_) => check(test, false, "one byte"),
+    }
+    match field::<SignedBytes<'_>>(&THREE_BYTES, 0) {
+        Ok(list) => check_three(test, list),
+        Err(_) => check(test, false, "three bytes"),
+    }
 }
 
-fn reads(place: Place<'_>, text: &str) -> bool {
-    matches!(place.read::<&str>(), Ok(read) if read == text)
+pub fn check_lists(test: &Test<'_>) {
+    let (text, damaged) = (field::<&str>(&TEXTS, 0), field::<&str>(&TEXTS, 4));
+    let table = field::<Table<'_>>(&TEXTS, 4);
+    check_eq(test, &text, &Ok("Hi"), "a string");
+    check_eq(
+        test,
+        &damaged,
+        &Err(ErrorKind::InvalidOffset),
+        "a damaged string",
+    );
+    check_eq(
+        test,
+        &field::<&[u8]>(&TEXTS, 0),
+        &Ok(b"Hi".as_slice()),
+        "bytes",
+    );
+    check_eq(
+        test,
+        &table.err(),
+        &Some(ErrorKind::InvalidOffset),
+        "a damaged table",
+    );
+    check_signed(test);
 }
 
-pub fn texts_are_items() -> bool {
-    let place = item::<Place<'_>>(&TEXTS, 0).map(|place| place.read::<u32>());
+fn check_hi(test: &Test<'_>, place: Place<'_>, row: &str) {
+    check_eq(test, &place.read::<&str>(), &Ok("Hi"), row);
+}
+
+fn check_places(test: &Test<'_>) {
+    let number = item::<Place<'_>>(&TEXTS, 0).map(|place| place.read::<u32>());
     let outside = field::<Place<'_>>(&TEXTS, 99).map(|place| place.read::<u8>());
-    <&str as Stride>::stride() == 4
-        && matches!(inner_item::<&str>(&TEXTS, 0), Some(Ok("Hi")))
-        && matches!(item::<Result<&str, Error>>(&TEXTS, 0), Some(Ok("Hi")))
-        && matches!(place, Some(Ok(8)))
-        && matches!(field::<Place<'_>>(&TEXTS, 0), Ok(place) if reads(place, "Hi"))
-        && matches!(outside, Ok(Err(ErrorKind::InvalidOffset)))
+    check_eq(test, &number, &Some(Ok(8)), "a number at a place");
+    check_eq(
+        test,
+        &outside,
+        &Ok(Err(ErrorKind::InvalidOffset)),
+        "a place past the end",
+    );
+    match field::<Place<'_>>(&TEXTS, 0) {
+        Ok(place) => check_hi(test, place, "a string at a place"),
+        Err(_) => check(test, false, "a string at a place"),
+    }
+}
+
+pub fn check_texts(test: &Test<'_>) {
+    let item = item::<Result<&str, Error>>(&TEXTS, 0);
+    check_eq(
+        test,
+        &<&str as Stride>::stride(),
+        &4,
+        "the stride of strings",
+    );
+    check(
+        test,
+        matches!(inner_item::<&str>(&TEXTS, 0), Some(Ok("Hi"))),
+        "an inner item",
+    );
+    check_eq(test, &item, &Some(Ok("Hi")), "an item");
+    check_places(test);
 }
 
 #[derive(Clone, Copy)]
@@ -194,26 +263,45 @@ impl<'buf> VectorReadUnion<'buf> for OneText<'buf> {
     }
 }
 
-fn is_hi(union: TaggedPlace<'_>, tag: u8) -> bool {
-    union.tag() == tag && reads(union.place(), "Hi")
+fn check_heads(test: &Test<'_>) {
+    match union_vector_field::<Heads<'_>>(&UNIONS, 12, 16) {
+        Ok(heads) => {
+            check_eq(test, &heads.tags.1, &2, "the count of tags");
+            check_eq(test, &heads.values.1, &2, "the count of values");
+        }
+        Err(_) => check(test, false, "a vector of unions"),
+    }
+    let outside = union_vector_field::<Heads<'_>>(&UNIONS, 12, 77);
+    check_eq(
+        test,
+        &outside.err(),
+        &Some(ErrorKind::InvalidOffset),
+        "values past the end",
+    );
 }
 
-fn heads_are_read() -> bool {
-    matches!(
-        union_vector_field::<Heads<'_>>(&UNIONS, 12, 16),
-        Ok(heads) if heads.tags.1 == 2 && heads.values.1 == 2
-    ) && matches!(
-        union_vector_field::<Heads<'_>>(&UNIONS, 12, 77),
-        Err(ErrorKind::InvalidOffset)
-    )
+fn check_tagged(test: &Test<'_>, union: Option<TaggedPlace<'_>>, tag: u8, row: &str) {
+    match union {
+        Some(union) => {
+            check_eq(test, &union.tag(), &tag, row);
+            check_hi(test, union.place(), row);
+        }
+        None => check(test, false, row),
+    }
 }
 
-pub fn unions_are_read() -> bool {
-    <TaggedPlace<'_> as VectorReadUnion<'_>>::vector_name() == "[union]"
-        && matches!(union_field::<TaggedPlace<'_>>(&TEXTS, 7, 0), Ok(union) if is_hi(union, 7))
-        && matches!(union_item::<TaggedPlace<'_>>(&TEXTS, 3, 0), Ok(union) if is_hi(union, 3))
-        && matches!(union_item::<OneText<'_>>(&TEXTS, 1, 0), Ok(OneText("Hi")))
-        && heads_are_read()
+pub fn check_unions(test: &Test<'_>) {
+    let name = <TaggedPlace<'_> as VectorReadUnion<'_>>::vector_name();
+    check_eq(test, &name, &"[union]", "the name of vectors of unions");
+    check_tagged(test, union_field(&TEXTS, 7, 0).ok(), 7, "a union");
+    check_tagged(test, union_item(&TEXTS, 3, 0).ok(), 3, "an item");
+    let text = union_item::<OneText<'_>>(&TEXTS, 1, 0);
+    check(
+        test,
+        matches!(text, Ok(OneText("Hi"))),
+        "a union of strings",
+    );
+    check_heads(test);
 }
 
 #[derive(Clone, Copy)]
@@ -234,33 +322,54 @@ impl<'a> ReadAsRoot<'a> for Root<'a> {
 
 const ROOT: [u8; 16] = [4, 0, 0, 0, 0xfa, 0xff, 0xff, 0xff, 24, 0, 6, 0, 6, 0, 4, 0];
 
-pub fn roots_are_read() -> bool {
-    let (Ok(Root(root)), Ok(nested)) = (read_root::<Root<'_>>(&ROOT), field::<Table<'_>>(&ROOT, 0))
-    else {
-        return false;
-    };
-    matches!(root.access::<u16>(0, "Root", "n"), Ok(Some(24)))
-        && matches!(nested.access_required::<u8>(0, "Root", "n"), Ok(24))
+pub fn check_roots(test: &Test<'_>) {
+    match read_root::<Root<'_>>(&ROOT) {
+        Ok(Root(root)) => {
+            check_eq(
+                test,
+                &root.access::<u16>(0, "Root", "n"),
+                &Ok(Some(24)),
+                "a root's number",
+            );
+        }
+        Err(_) => check(test, false, "a root"),
+    }
+    match field::<Table<'_>>(&ROOT, 0) {
+        Ok(nested) => {
+            check_eq(
+                test,
+                &nested.access_required::<u8>(0, "Root", "n"),
+                &Ok(24),
+                "a table's",
+            );
+        }
+        Err(_) => check(test, false, "a table"),
+    }
 }
 
-fn union_fails(alloc: Global, tag: u8, offset: usize, text: &str) -> bool {
-    fails_printing(alloc, union_item::<OneText<'_>>(&TEXTS, tag, offset), text)
+fn check_bad_union(test: &Test<'_>, tag: u8, offset: usize, text: &str) {
+    check_fails(test, union_item::<OneText<'_>>(&TEXTS, tag, offset), text);
 }
 
-fn errors_print(alloc: Global) -> bool {
-    let unknown = "In <[OneText]@3e8>::get(): Unknown union (tag = 9)";
-    let outside = "In <[OneText]@3e8>::get(): Invalid offset";
-    let root = "In <[Root]@0>::read_as_root(): Invalid offset";
-    let item = match item::<Result<&str, Error>>(&TEXTS, 4) {
-        Some(text) => fails_printing(alloc, text, "In <[str]@0>::get(): Invalid offset"),
-        None => false,
-    };
-    item && union_fails(alloc, 9, 0, unknown)
-        && union_fails(alloc, 1, 4, outside)
-        && fails_printing(alloc, read_root::<Root<'_>>(&[]), root)
+fn check_bad_item(test: &Test<'_>, text: &str) {
+    match item::<Result<&str, Error>>(&TEXTS, 4) {
+        Some(item) => check_fails(test, item, text),
+        None => check(test, false, text),
+    }
 }
 
 #[test]
-fn errors_of_traits(rt: HostRuntime) {
-    check(&rt, errors_print(rt.alloc()), "an item, unions and a root");
+fn errors_of_traits(rt: HostRuntime) -> Result<(), Fail> {
+    let test = Test::new(&rt);
+    check_bad_item(&test, "In <[str]@0>::get(): Invalid offset");
+    check_bad_union(
+        &test,
+        9,
+        0,
+        "In <[OneText]@3e8>::get(): Unknown union (tag = 9)",
+    );
+    check_bad_union(&test, 1, 4, "In <[OneText]@3e8>::get(): Invalid offset");
+    let root = read_root::<Root<'_>>(&[]);
+    check_fails(&test, root, "In <[Root]@0>::read_as_root(): Invalid offset");
+    test.end()
 }

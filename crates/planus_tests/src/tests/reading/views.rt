@@ -3,26 +3,30 @@ mod no_memory;
 mod unions;
 mod vectors;
 
+use planus_testing::{Test, check};
 use planus_view::{ReadView, VectorOf};
-use std::alloc::{AllocError, Global};
+use std::alloc::AllocError;
 use std::fmt::Debug;
 
-fn shows<T: Debug>(alloc: Global, parts: &T) -> bool {
-    match format!(in alloc; "{parts:?}") {
-        Ok(text) => text.as_str().starts_with("SubViews { whole: "),
-        Err(_) => false,
+fn check_shown<T: Debug>(test: &Test<'_>, parts: &T) {
+    match format!(in test.alloc(); "{parts:?}") {
+        Ok(text) => {
+            let shown = text.as_str();
+            check(test, shown.starts_with("SubViews { whole: "), shown);
+        }
+        Err(_) => check(test, false, "memory for a text"),
     }
 }
 
-fn parts_are_shown<V: ReadView>(alloc: Global, whole: VectorOf<V>) -> bool
+fn check_parts_shown<V: ReadView>(test: &Test<'_>, whole: VectorOf<V>)
 where
     V::Item: Debug + Drop,
 {
-    shows(alloc, &whole.chunks(2))
-        && shows(alloc, &whole.rchunks(2))
-        && shows(alloc, &whole.chunks_exact(2))
-        && shows(alloc, &whole.rchunks_exact(2))
-        && shows(alloc, &whole.windows(2))
+    check_shown(test, &whole.chunks(2));
+    check_shown(test, &whole.rchunks(2));
+    check_shown(test, &whole.chunks_exact(2));
+    check_shown(test, &whole.rchunks_exact(2));
+    check_shown(test, &whole.windows(2));
 }
 
 fn push_numbers(bytes: &mut Vec<u8>, behind: &[u8]) -> Result<(), AllocError> {

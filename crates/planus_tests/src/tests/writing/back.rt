@@ -5,66 +5,92 @@ ghost use Rattle.planus_back.specs.Caches.{Fits, IsFound};
 
 mod random;
 
-use crate::tests::check;
 use crate::tests::writing::PlaceWord;
 use planus_back::{BackVec, ByteVec, Cache, GetCacheKey, Promises, TooLarge, VTable, laws};
-use std::alloc::AllocError;
+use planus_testing::{Test, check, check_bytes, check_eq, check_shows};
+use std::alloc::{AllocError, Global};
 use std::test::Fail;
 
-// A part after 2147483640 bytes.
-fn is_too_large(size: usize) -> bool {
-    matches!(Promises::new().request(2147483640, size, 0), Err(TooLarge))
+// A part after 2147483640 bytes: the padding that it takes.
+fn check_padding(test: &Test<'_>, size: usize, want: Result<usize, TooLarge>, row: &str) {
+    let got = match Promises::new().request(2147483640, size, 0) {
+        Ok((_, padding)) => Ok(padding),
+        Err(TooLarge) => Err(TooLarge),
+    };
+    check_eq(test, &got, &want, row);
 }
 
 #[test]
-fn promises(rt: HostRuntime) {
-    let greatest = matches!(Promises::new().request(2147483640, 7, 0), Ok((_, 0)))
-        && is_too_large(8)
-        && is_too_large(usize::MAX);
-    check(&rt, greatest, "the greatest place is the last");
+fn promises(rt: HostRuntime) -> Result<(), Fail> {
+    let test = Test::new(&rt);
+    check_padding(&test, 7, Ok(0), "to the greatest place");
+    check_padding(&test, 8, Err(TooLarge), "past it");
+    check_padding(&test, usize::MAX, Err(TooLarge), "the greatest size");
     let none = Promises::default();
-    let by_default = none == Promises::new() && none.mask() == 0 && none.delayed() == 0;
-    check(&rt, by_default, "none by default");
+    check_eq(&test, &none, &Promises::new(), "none by default");
+    check_eq(&test, &none.mask(), &0, "their mask");
+    check_eq(&test, &none.delayed(), &0, "what they delay");
+    test.end()
 }
 
-fn holds(vector: &BackVec, bytes: &[u8], room: usize) -> bool {
-    vector.as_slice() == bytes && vector.len() == bytes.len() && vector.room() == room
+fn check_vector(test: &Test<'_>, vector: &BackVec, bytes: &[u8], room: usize, row: &str) {
+    check_bytes(test, vector.as_slice(), bytes, row);
+    check_eq(test, &vector.len(), &bytes.len(), row);
+    check_eq(test, &vector.room(), &room, row);
 }
 
-fn grows_by_each_call(bytes: &mut BackVec) -> Result<bool, AllocError> {
-    let empty = holds(bytes, b"", 16);
+fn check_each_call(test: &Test<'_>, bytes: &mut BackVec) -> Result<(), AllocError> {
+    check_vector(test, bytes, b"", 16, "an empty vector");
     bytes.extend_from_slice(b"end")?;
     bytes.extend_with_zeros(2)?;
     bytes.extend_write(0x4030201, 4, &PlaceWord)?;
-    let fits = holds(bytes, b"\x01\x02\x03\x04\0\0end", 7);
+    check_vector(test, bytes, b"\x01\x02\x03\x04\0\0end", 7, "in its room");
     bytes.extend_from_slice(b"0123456789x")?;
-    Ok(empty && fits && holds(bytes, b"0123456789x\x01\x02\x03\x04\0\0end", 12))
+    check_vector(
+        test,
+        bytes,
+        b"0123456789x\x01\x02\x03\x04\0\0end",
+        12,
+        "in more room",
+    );
+    Ok(())
 }
 
-fn shows_as(bytes: &BackVec, want: &str) -> bool {
-    match format!(in bytes.alloc(); "{bytes:?}") {
-        Ok(text) => text.as_str() == want,
-        Err(_) => false,
-    }
-}
-
-fn goes_on_after_clear(bytes: &mut BackVec) -> Result<bool, AllocError> {
+fn check_after_clear(test: &Test<'_>, bytes: &mut BackVec) -> Result<(), AllocError> {
     bytes.clear();
-    let cleared = holds(bytes, b"", 32);
+    check_vector(test, bytes, b"", 32, "after a clear");
     bytes.extend_with_zeros(2)?;
-    let shown = shows_as(bytes, "[0, 0]");
+    check_shows(test, bytes, "[0, 0]");
     bytes.reserve(100)?;
-    Ok(cleared && shown && holds(bytes, b"\0\0", 100))
+    check_vector(test, bytes, b"\0\0", 100, "with room that was reserved");
+    Ok(())
+}
+
+fn check_growing(test: &Test<'_>, bytes: &mut BackVec) -> Result<(), AllocError> {
+    check_each_call(test, bytes)?;
+    check_after_clear(test, bytes)
+}
+
+// The vector is lent, since a function that owns one is slow to prove.
+fn in_vector<F: FnOnce(&Test<'_>, &mut BackVec) -> Result<(), AllocError>>(
+    test: &Test<'_>,
+    room: usize,
+    calls: F,
+)
+    requires { F.IsAlwaysCallable calls }
+{
+    let answer = match BackVec::with_capacity(test.alloc(), room) {
+        Ok(mut bytes) => calls(test, &mut bytes),
+        Err(error) => Err(error),
+    };
+    check(test, answer.is_ok(), "memory for a vector");
 }
 
 #[test]
 fn grows_at_its_front(rt: HostRuntime) -> Result<(), Fail> {
-    let mut bytes = BackVec::with_capacity(rt.alloc(), 0)?;
-    let each_call = matches!(grows_by_each_call(&mut bytes), Ok(true));
-    check(&rt, each_call, "each call");
-    let after_a_clear = matches!(goes_on_after_clear(&mut bytes), Ok(true));
-    check(&rt, after_a_clear, "after a clear");
-    Ok(())
+    let test = Test::new(&rt);
+    in_vector(&test, 0, check_growing);
+    test.end()
 }
 
 // Prepends 21 bytes by each call.
@@ -80,121 +106,144 @@ fn put_each(bytes: &mut BackVec)
     bytes.put_overwritten(0x8070605, 4, &PlaceWord);
 }
 
-fn puts_each(bytes: &mut BackVec) -> bool {
+fn check_puts(test: &Test<'_>, bytes: &mut BackVec) -> Result<(), AllocError> {
     if bytes.room() != 46 {
-        return false;
+        check_eq(test, &bytes.room(), &46, "the room for puts");
+        return Ok(());
     }
     put_each(bytes);
-    let put = holds(
-        bytes,
-        b"\x05\x06\x07\x08\x01\x02\x03\x04\0\0\0<body>>end",
-        25,
-    );
+    let put = b"\x05\x06\x07\x08\x01\x02\x03\x04\0\0\0<body>>end";
+    check_vector(test, bytes, put, 25, "each put");
     bytes.put_zeros(9);
     bytes.put_zeros(16);
-    put && bytes.room() == 0 && bytes.as_slice().starts_with(&[0; 25]) && bytes.len() == 46
+    check_eq(test, &bytes.room(), &0, "no room");
+    check_eq(test, &bytes.len(), &46, "46 bytes");
+    check(
+        test,
+        bytes.as_slice().starts_with(&[0; 25]),
+        "25 zero bytes",
+    );
+    Ok(())
 }
 
 #[test]
 fn puts_into_its_room(rt: HostRuntime) -> Result<(), Fail> {
-    let mut bytes = BackVec::with_capacity(rt.alloc(), 46)?;
-    check(&rt, puts_each(&mut bytes), "puts each");
+    let test = Test::new(&rt);
+    in_vector(&test, 46, check_puts);
+    test.end()
+}
+
+fn check_refusals(test: &Test<'_>, bytes: &mut BackVec) -> Result<(), AllocError> {
+    bytes.extend_from_slice(b"end")?;
+    check(test, bytes.reserve(1 << 62).is_err(), "too much room");
+    check(
+        test,
+        bytes.extend_with_zeros(usize::MAX).is_err(),
+        "too many zeros",
+    );
+    check_vector(test, bytes, b"end", 17, "as before the refusals");
     Ok(())
 }
 
-fn refusals_change_nothing(bytes: &mut BackVec) -> Result<bool, AllocError> {
-    bytes.extend_from_slice(b"end")?;
-    Ok(
-        bytes.reserve(1 << 62).is_err()
-            && bytes.extend_with_zeros(usize::MAX).is_err()
-            && holds(bytes, b"end", 17),
-    )
+fn is_refused(alloc: Global, room: usize) -> bool {
+    BackVec::with_capacity(alloc, room).is_err()
 }
 
 #[test]
 fn a_refusal_changes_nothing(rt: HostRuntime) -> Result<(), Fail> {
+    let test = Test::new(&rt);
     check(
-        &rt,
-        BackVec::with_capacity(rt.alloc(), 1 << 62).is_err(),
-        "too much room",
+        &test,
+        is_refused(rt.alloc(), 1 << 62),
+        "a vector with too much room",
     );
-    let mut bytes = BackVec::with_capacity(rt.alloc(), 20)?;
-    check(
-        &rt,
-        matches!(refusals_change_nothing(&mut bytes), Ok(true)),
-        "refusals change nothing",
-    );
-    Ok(())
+    in_vector(&test, 20, check_refusals);
+    test.end()
 }
 
-fn has_key<K: GetCacheKey>(bytes: &[u8], distance: u32, want: Option<&[u8]>) -> bool {
-    match (K::key_at(bytes, distance), want) {
-        (Some(key), Some(want)) => key == want,
-        (None, None) => true,
-        _ => false,
-    }
-}
-
-fn has_keys<K: GetCacheKey>(rows: &[(&[u8], u32, Option<&[u8]>)]) -> bool {
-    for (bytes, distance, want) in rows {
-        if !has_key::<K>(bytes, *distance, *want) {
-            return false;
-        }
-    }
-    true
+fn check_key<K: GetCacheKey>(
+    test: &Test<'_>,
+    bytes: &[u8],
+    distance: u32,
+    want: Option<&[u8]>,
+    row: &str,
+) {
+    check_eq(test, &K::key_at(bytes, distance), &want, row);
 }
 
 const KEYS: &[u8] = b"\x09\0\x02\0\0\0Hi\x06\0\x04\0\x01\0";
 
 const VTABLE: &[u8] = b"\x06\0\x04\0\x01\0";
 
-#[test]
-fn keys_lie_wholly_in_the_bytes(rt: HostRuntime) {
-    let lists: [(&[u8], u32, Option<&[u8]>); 6] = [
-        (KEYS, 12, Some(b"Hi")),
-        (KEYS, 14, None),
-        (KEYS, 15, None),
-        (KEYS, 3, None),
-        (KEYS, 0, None),
-        (b"\0\0\0\0", 4, Some(b"")),
-    ];
-    check(&rt, has_keys::<ByteVec>(&lists), "byte lists");
-    let vtables: [(&[u8], u32, Option<&[u8]>); 5] = [
-        (KEYS, 6, Some(VTABLE)),
-        (VTABLE, 4, Some(b"\x04\0\x01\0")),
-        (b"\x07\0\x04\0\x01\0", 6, None),
-        (KEYS, 1, None),
-        (KEYS, 15, None),
-    ];
-    check(&rt, has_keys::<VTable>(&vtables), "vtables");
+fn check_lists(test: &Test<'_>) {
+    check_key::<ByteVec>(test, KEYS, 12, Some(b"Hi"), "Hi");
+    check_key::<ByteVec>(test, KEYS, 14, None, "a count past the end");
+    check_key::<ByteVec>(test, KEYS, 15, None, "a list before the front");
+    check_key::<ByteVec>(test, KEYS, 3, None, "a list in three bytes");
+    check_key::<ByteVec>(test, KEYS, 0, None, "a list at the end");
+    check_key::<ByteVec>(test, b"\0\0\0\0", 4, Some(b""), "an empty list");
 }
 
-fn add(cache: &mut Cache<ByteVec>, bytes: &[u8], key: &[u8], distance: u32) -> Result<(), Fail>
+fn check_vtables(test: &Test<'_>) {
+    check_key::<VTable>(test, KEYS, 6, Some(VTABLE), "a vtable");
+    check_key::<VTable>(test, VTABLE, 4, Some(b"\x04\0\x01\0"), "the end of one");
+    check_key::<VTable>(test, b"\x07\0\x04\0\x01\0", 6, None, "one past the end");
+    check_key::<VTable>(test, KEYS, 1, None, "a vtable in one byte");
+    check_key::<VTable>(test, KEYS, 15, None, "a vtable before the front");
+}
+
+#[test]
+fn keys_lie_wholly_in_the_bytes(rt: HostRuntime) -> Result<(), Fail> {
+    let test = Test::new(&rt);
+    check_lists(&test);
+    check_vtables(&test);
+    test.end()
+}
+
+// Returns `Err`, too, where the key isn't there.
+fn add(
+    test: &Test<'_>,
+    cache: &mut Cache<ByteVec>,
+    bytes: &[u8],
+    key: &[u8],
+    distance: u32,
+) -> Result<(), AllocError>
     requires { Fits bytes_in cache.old bytes.now }
     ensures { OnOk result (Fits bytes_in cache.new bytes.now) }
 {
     match ByteVec::key_at(bytes, distance) {
-        Some(found) if found == key => {}
-        _ => return Err(Fail::new("the key doesn't stand there")),
+        Some(found) if found == key => cache.insert(key, distance),
+        found => {
+            check_eq(test, &found, &Some(key), "a key to add");
+            Err(AllocError)
+        }
     }
-    cache.insert(key, distance)?;
-    Ok(())
 }
 
 // The key `H\xfe`.
 const SIGNED: [i8; 2] = [72, -2];
 
-fn add_signed(cache: &mut Cache<ByteVec>, bytes: &[u8], distance: u32) -> Result<(), Fail>
+fn add_signed(
+    test: &Test<'_>,
+    cache: &mut Cache<ByteVec>,
+    bytes: &[u8],
+    distance: u32,
+) -> Result<(), AllocError>
     requires { Fits bytes_in cache.old bytes.now }
     ensures { OnOk result (Fits bytes_in cache.new bytes.now) }
 {
     match ByteVec::key_at(bytes, distance) {
-        Some(b"H\xfe") => {}
-        _ => return Err(Fail::new("the key doesn't stand there")),
+        Some(b"H\xfe") => cache.insert_in(cache.bucket_of_signed(&SIGNED), distance),
+        found => {
+            check_eq(
+                test,
+                &found,
+                &Some(b"H\xfe".as_slice()),
+                "a signed key to add",
+            );
+            Err(AllocError)
+        }
     }
-    let bucket = cache.bucket_of_signed(&SIGNED);
-    cache.insert_in(bucket, distance)?;
-    Ok(())
 }
 
 fn get_signed(cache: &Cache<ByteVec>, bytes: &[u8], key: &[i8]) -> Option<u32>
@@ -205,56 +254,87 @@ fn get_signed(cache: &Cache<ByteVec>, bytes: &[u8], key: &[i8]) -> Option<u32>
     cache.get_signed_in(cache.bucket_of_signed(key), bytes, key)
 }
 
-fn finds(cache: &Cache<ByteVec>, bytes: &[u8], key: &[u8], want: Option<u32>) -> bool
+fn check_found(
+    test: &Test<'_>,
+    cache: &Cache<ByteVec>,
+    bytes: &[u8],
+    key: &[u8],
+    want: Option<u32>,
+    row: &str,
+)
     requires { Fits bytes_in cache.now bytes.now }
 {
-    cache.get(bytes, key) == want
+    check_eq(test, &cache.get(bytes, key), &want, row);
 }
 
-fn finds_signed(cache: &Cache<ByteVec>, bytes: &[u8], key: &[i8], want: Option<u32>) -> bool
+fn check_signed_found(
+    test: &Test<'_>,
+    cache: &Cache<ByteVec>,
+    bytes: &[u8],
+    key: &[i8],
+    want: Option<u32>,
+    row: &str,
+)
     requires { Fits bytes_in cache.now bytes.now }
 {
-    get_signed(cache, bytes, key) == want
+    check_eq(test, &get_signed(cache, bytes, key), &want, row);
 }
 
 const TWO_KEYS: &[u8] = b"\x02\0\0\0H\xfe\x02\0\0\0Hi";
 
-fn the_first_is_found(cache: &Cache<ByteVec>, bytes: &[u8]) -> bool
+fn check_one_key(test: &Test<'_>, cache: &Cache<ByteVec>, bytes: &[u8])
     requires { Fits bytes_in cache.now bytes.now }
 {
-    finds(cache, bytes, b"Hi", Some(6))
-        && finds_signed(cache, bytes, &[72, 105], Some(6))
-        && finds_signed(cache, bytes, &SIGNED, None)
+    check_found(test, cache, bytes, b"Hi", Some(6), "Hi");
+    check_signed_found(test, cache, bytes, &[72, 105], Some(6), "Hi, signed");
+    check_signed_found(
+        test,
+        cache,
+        bytes,
+        &SIGNED,
+        None,
+        "a key that isn't there yet",
+    );
 }
 
-fn both_are_found(cache: &Cache<ByteVec>, bytes: &[u8]) -> bool
+fn check_two_keys(test: &Test<'_>, cache: &Cache<ByteVec>, bytes: &[u8])
     requires { Fits bytes_in cache.now bytes.now }
 {
-    finds(cache, bytes, b"Hi", Some(6))
-        && finds(cache, bytes, b"H\xfe", Some(12))
-        && finds_signed(cache, bytes, &SIGNED, Some(12))
-        && finds(cache, bytes, b"H", None)
+    check_found(test, cache, bytes, b"Hi", Some(6), "the first of two keys");
+    check_found(test, cache, bytes, b"H\xfe", Some(12), "the second");
+    check_signed_found(test, cache, bytes, &SIGNED, Some(12), "the second, signed");
+    check_found(test, cache, bytes, b"H", None, "a shorter key");
 }
 
-fn keys_are_found(cache: &mut Cache<ByteVec>, bytes: &[u8]) -> Result<bool, Fail>
+fn check_keys(test: &Test<'_>, cache: &mut Cache<ByteVec>, bytes: &[u8]) -> Result<(), AllocError>
     requires { Fits bytes_in cache.old bytes.now }
 {
-    let none = finds(cache, bytes, b"Hi", None);
-    add(cache, bytes, b"Hi", 6)?;
-    let first = the_first_is_found(cache, bytes);
-    add_signed(cache, bytes, 12)?;
-    Ok(none && first && both_are_found(cache, bytes))
+    check_found(test, cache, bytes, b"Hi", None, "no keys");
+    add(test, cache, bytes, b"Hi", 6)?;
+    check_one_key(test, cache, bytes);
+    add_signed(test, cache, bytes, 12)?;
+    check_two_keys(test, cache, bytes);
+    Ok(())
+}
+
+fn check_cache(test: &Test<'_>, mask: u64) -> Result<(), AllocError> {
+    laws::empty_caches_fit::<ByteVec>();
+    let mut cache: Cache<ByteVec> = Cache::new(test.alloc(), mask)?;
+    check_keys(test, &mut cache, TWO_KEYS)?;
+    cache.clear();
+    check_eq(test, &cache.get(TWO_KEYS, b"Hi"), &None, "after a clear");
+    Ok(())
 }
 
 #[test]
 fn caches_find_equal_keys(rt: HostRuntime) -> Result<(), Fail> {
-    laws::empty_caches_fit::<ByteVec>();
+    let test = Test::new(&rt);
     for mask in [u64::MAX, 1, 0] {
-        let mut cache: Cache<ByteVec> = Cache::new(rt.alloc(), mask)?;
-        let found = keys_are_found(&mut cache, TWO_KEYS)?;
-        cache.clear();
-        let cleared = cache.get(TWO_KEYS, b"Hi").is_none();
-        check(&rt, found && cleared, "keys");
+        check(
+            &test,
+            check_cache(&test, mask).is_ok(),
+            "memory for a cache",
+        );
     }
-    Ok(())
+    test.end()
 }

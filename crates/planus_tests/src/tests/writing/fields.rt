@@ -1,246 +1,298 @@
 ghost use Rattle.std.specs.Prelude.{◌≤◌, length};
 ghost use Rattle.planus_write.specs.Unions.{union_reach};
 
-use super::{NO_CACHES, holds, in_builder};
-use crate::tests::check;
+use self::Answer::{LeftOut, There};
+use super::NO_CACHES;
 use planus_fields::{
     DefaultValue, WriteAs, WriteAsDefault, WriteAsDefaultUnionVector, WriteAsOptional,
     WriteAsOptionalUnion, WriteAsOptionalUnionVector,
 };
+use planus_testing::{Test, check_bytes, check_distance, check_done, check_eq, in_builder};
 use planus_write::{
     BuildError, Builder, ByRef, ByteList, List, Offset, Primitive, SignedList, Text, UnionOffset,
     UnionVectorOffset,
 };
-use std::alloc::Global;
+use std::fmt::Debug;
+use std::test::Fail;
+
+type Numbers = Offset<List<u16>>;
+
+type Bytes = Offset<List<u8>>;
+
+type Signed = Offset<List<i8>>;
 
 pub struct Drinks;
 
-pub fn always<P: Primitive, T: WriteAs<P>>(
+pub fn check_always<P: Primitive, T: WriteAs<P>>(
+    test: &Test<'_>,
     builder: &mut Builder,
     field: &T,
     want: T::Prepared,
-) -> bool
+    row: &str,
+)
 where
-    T::Prepared: PartialEq,
+    T::Prepared: PartialEq + Debug,
     requires { T.may field.now builder.old }
 {
-    matches!(field.prepare(builder), Ok(prepared) if prepared == want)
+    check_eq(test, &field.prepare(builder), &Ok(want), row);
 }
 
-pub fn written<K, T: WriteAs<Offset<K>, Prepared = Offset<K>>>(
+pub fn check_written<K, T: WriteAs<Offset<K>, Prepared = Offset<K>>>(
+    test: &Test<'_>,
     builder: &mut Builder,
     field: &T,
     distance: u32,
-) -> bool
+    row: &str,
+)
     requires { T.may field.now builder.old }
 {
-    matches!(field.prepare(builder), Ok(offset) if offset.distance() == distance)
+    match field.prepare(builder) {
+        Ok(offset) => check_distance(test, offset, distance, row),
+        Err(error) => check_done(test, Err(error), row),
+    }
 }
 
-#[derive(Clone, Copy, PartialEq)]
+#[derive(Clone, Copy, Debug, PartialEq)]
 pub enum Answer {
     There,
     LeftOut,
     Refused,
 }
 
-pub fn optional<P: Primitive, T: WriteAsOptional<P>>(builder: &mut Builder, field: &T) -> Answer
+pub fn check_optional<P: Primitive, T: WriteAsOptional<P>>(
+    test: &Test<'_>,
+    builder: &mut Builder,
+    field: &T,
+    want: Answer,
+    row: &str,
+)
     requires { T.may field.now builder.old }
 {
-    match field.prepare(builder) {
+    let got = match field.prepare(builder) {
         Ok(Some(_)) => Answer::There,
         Ok(None) => Answer::LeftOut,
         Err(_) => Answer::Refused,
-    }
+    };
+    check_eq(test, &got, &want, row);
 }
 
-pub fn defaulted<P: Primitive, D, T: WriteAsDefault<P, D>>(
+pub fn check_default<P: Primitive, D, T: WriteAsDefault<P, D>>(
+    test: &Test<'_>,
     builder: &mut Builder,
     field: &T,
     default: &D,
-) -> Answer
+    want: Answer,
+    row: &str,
+)
     requires { T.may field.now builder.old }
 {
-    match field.prepare(builder, default) {
+    let got = match field.prepare(builder, default) {
         Ok(Some(_)) => Answer::There,
         Ok(None) => Answer::LeftOut,
         Err(_) => Answer::Refused,
-    }
+    };
+    check_eq(test, &got, &want, row);
 }
 
-pub fn is_there(answer: Answer) -> bool {
-    answer == Answer::There
-}
-
-pub fn is_left_out(answer: Answer) -> bool {
-    answer == Answer::LeftOut
-}
-
-pub fn drink_is<X: WriteAsOptionalUnion<Drinks>>(
+pub fn check_drink<X: WriteAsOptionalUnion<Drinks>>(
+    test: &Test<'_>,
     builder: &mut Builder,
     field: &X,
-    tag: Option<u8>,
-) -> bool
+    want: Option<u8>,
+    row: &str,
+)
     requires { X.may field.now builder.old }
 {
-    match (field.prepare(builder), tag) {
-        (Ok(None), None) => true,
-        (Ok(Some(union)), Some(tag)) => union.tag() == tag && union.offset().distance() == 6,
-        _ => false,
-    }
-}
-
-fn stands(prepared: Option<UnionVectorOffset<Drinks>>, want: Option<(u32, u32)>) -> bool {
-    match (prepared, want) {
-        (None, None) => true,
-        (Some(vector), Some((values, tags))) => {
-            vector.values_offset().distance() == values && vector.tags_offset().distance() == tags
+    let tag = match field.prepare(builder) {
+        Ok(Some(union)) => {
+            check_distance(test, union.offset(), 6, row);
+            Some(union.tag())
         }
-        _ => false,
-    }
+        Ok(None) => None,
+        Err(error) => return check_done(test, Err(error), row),
+    };
+    check_eq(test, &tag, &want, row);
 }
 
-fn order_is<X: WriteAsDefaultUnionVector<Drinks>>(
+// The distances of the values and of the tags.
+fn check_vector(
+    test: &Test<'_>,
+    prepared: Result<Option<UnionVectorOffset<Drinks>>, BuildError>,
+    want: Option<(u32, u32)>,
+    row: &str,
+) {
+    let got = match prepared {
+        Ok(Some(vector)) => {
+            Some((
+                vector.values_offset().distance(),
+                vector.tags_offset().distance(),
+            ))
+        }
+        Ok(None) => None,
+        Err(error) => return check_done(test, Err(error), row),
+    };
+    check_eq(test, &got, &want, row);
+}
+
+fn check_order<X: WriteAsDefaultUnionVector<Drinks>>(
+    test: &Test<'_>,
     builder: &mut Builder,
     field: &X,
     want: Option<(u32, u32)>,
-) -> bool
+    row: &str,
+)
     requires { X.may field.now builder.old }
 {
-    match field.prepare(builder) {
-        Ok(prepared) => stands(prepared, want),
-        Err(_) => false,
-    }
+    check_vector(test, field.prepare(builder), want, row);
 }
 
-fn optional_order_is<X: WriteAsOptionalUnionVector<Drinks>>(
+fn check_optional_order<X: WriteAsOptionalUnionVector<Drinks>>(
+    test: &Test<'_>,
     builder: &mut Builder,
     field: &X,
     want: Option<(u32, u32)>,
-) -> bool
+    row: &str,
+)
     requires { X.may field.now builder.old }
 {
-    match field.prepare(builder) {
-        Ok(prepared) => stands(prepared, want),
-        Err(_) => false,
-    }
+    check_vector(test, field.prepare(builder), want, row);
 }
 
-pub fn numbers_are_prepared(builder: &mut Builder) -> bool {
-    always::<u8, u8>(builder, &7, 7)
-        && always::<u16, u16>(builder, &7, 7)
-        && always::<u32, u32>(builder, &7, 7)
-        && always::<u64, u64>(builder, &7, 7)
-        && always::<i8, i8>(builder, &-7, -7)
-        && always::<i16, i16>(builder, &-7, -7)
-        && always::<i32, i32>(builder, &-7, -7)
-        && always::<i64, i64>(builder, &-7, -7)
-        && always::<bool, bool>(builder, &true, true)
-        && builder.is_empty()
+pub fn check_numbers(test: &Test<'_>, builder: &mut Builder) {
+    check_always::<u8, u8>(test, builder, &7, 7, "u8");
+    check_always::<u16, u16>(test, builder, &7, 7, "u16");
+    check_always::<u32, u32>(test, builder, &7, 7, "u32");
+    check_always::<u64, u64>(test, builder, &7, 7, "u64");
+    check_always::<i8, i8>(test, builder, &-7, -7, "i8");
+    check_always::<i16, i16>(test, builder, &-7, -7, "i16");
+    check_always::<i32, i32>(test, builder, &-7, -7, "i32");
+    check_always::<i64, i64>(test, builder, &-7, -7, "i64");
+    check_always::<bool, bool>(test, builder, &true, true, "bool");
+    check_eq(test, &builder.len(), &0, "numbers write nothing");
 }
 
-pub fn numbers_are_left_out(builder: &mut Builder) -> bool {
-    is_there(optional::<i16, i16>(builder, &24))
-        && is_there(optional::<i16, Option<i16>>(builder, &Some(24)))
-        && is_left_out(optional::<i16, Option<i16>>(builder, &None))
-        && is_left_out(optional::<i16, ()>(builder, &()))
-        && is_left_out(defaulted::<bool, bool, bool>(builder, &false, &false))
-        && is_left_out(defaulted::<i16, i16, i16>(builder, &24, &24))
-        && is_there(defaulted::<i16, i16, i16>(builder, &25, &24))
-        && is_left_out(defaulted::<i16, i16, DefaultValue>(builder, &DefaultValue, &24))
-        && builder.is_empty()
+pub fn check_optional_numbers(test: &Test<'_>, builder: &mut Builder) {
+    check_optional::<i16, i16>(test, builder, &24, There, "24");
+    check_optional::<i16, Option<i16>>(test, builder, &Some(24), There, "some 24");
+    check_optional::<i16, Option<i16>>(test, builder, &None, LeftOut, "no number");
+    check_optional::<i16, ()>(test, builder, &(), LeftOut, "nothing for a number");
+    check_eq(test, &builder.len(), &0, "optional numbers write nothing");
 }
 
-pub fn texts_are_left_out(builder: &mut Builder, owned: &String) -> bool {
-    is_left_out(defaulted::<Offset<Text>, &str, &str>(builder, &"Axe", &"Axe"))
-        && is_left_out(defaulted::<Offset<Text>, &str, String>(builder, owned, &"Axe"))
-        && is_left_out(optional::<Offset<Text>, Option<&str>>(builder, &None))
-        && builder.is_empty()
+pub fn check_default_numbers(test: &Test<'_>, builder: &mut Builder) {
+    let default = DefaultValue;
+    check_default::<bool, bool, bool>(test, builder, &false, &false, LeftOut, "false");
+    check_default::<i16, i16, i16>(test, builder, &24, &24, LeftOut, "24 by default");
+    check_default::<i16, i16, i16>(test, builder, &25, &24, There, "25");
+    check_default::<i16, i16, DefaultValue>(test, builder, &default, &24, LeftOut, "default");
+    check_eq(
+        test,
+        &builder.len(),
+        &0,
+        "numbers with a default write nothing",
+    );
 }
 
-fn texts_are_there(builder: &mut Builder, owned: &String) -> bool {
-    let by_ref = ByRef(owned);
-    is_there(defaulted::<Offset<Text>, &str, &str>(builder, &"Axe", &""))
-        && builder.len() == 8
-        && written::<Text, String>(builder, owned, 16)
-        && is_there(optional::<Offset<Text>, ByRef<'_, String>>(builder, &by_ref))
-        && is_there(defaulted::<Offset<Text>, &str, ByRef<'_, String>>(builder, &by_ref, &""))
-        && builder.len() == 32
+pub fn check_no_texts(test: &Test<'_>, builder: &mut Builder, owned: &String) {
+    let (axe, none) = ("Axe", None);
+    check_default::<Offset<Text>, &str, &str>(test, builder, &axe, &"Axe", LeftOut, "a text");
+    check_default::<Offset<Text>, &str, String>(test, builder, owned, &"Axe", LeftOut, "owned");
+    check_optional::<Offset<Text>, Option<&str>>(test, builder, &none, LeftOut, "no text");
+    check_eq(test, &builder.len(), &0, "texts that are left out");
 }
 
-fn texts_of_before_are_there(builder: &mut Builder) -> Result<bool, BuildError> {
+fn check_texts(test: &Test<'_>, builder: &mut Builder, owned: &String) {
+    let (axe, by_ref) = ("Axe", ByRef(owned));
+    check_default::<Offset<Text>, &str, &str>(test, builder, &axe, &"", There, "a text");
+    check_eq(test, &builder.len(), &8, "a text");
+    check_written::<Text, String>(test, builder, owned, 16, "owned");
+    check_optional::<Offset<Text>, ByRef<'_, String>>(test, builder, &by_ref, There, "by ref");
+    check_default::<Offset<Text>, &str, ByRef<'_, String>>(
+        test, builder, &by_ref, &"", There, "by ref",
+    );
+    check_eq(test, &builder.len(), &32, "four texts");
+}
+
+fn check_texts_of_before(test: &Test<'_>, builder: &mut Builder) -> Result<(), BuildError> {
     builder.create_string("Axe")?;
     let last = builder.current_offset::<Text>();
-    let same = written::<Text, Offset<Text>>(builder, &last, 8);
+    check_written::<Text, Offset<Text>>(test, builder, &last, 8, "an offset");
     let last = builder.current_offset::<Text>();
-    let there = is_there(optional::<Offset<Text>, Offset<Text>>(builder, &last));
+    check_optional::<Offset<Text>, Offset<Text>>(test, builder, &last, There, "an offset");
     let last = builder.current_offset::<Text>();
-    let by_default = is_there(defaulted::<Offset<Text>, &str, Offset<Text>>(
-        builder, &last, &"Axe",
-    ));
-    Ok(same && there && by_default && builder.len() == 8)
+    check_default::<Offset<Text>, &str, Offset<Text>>(
+        test,
+        builder,
+        &last,
+        &"Axe",
+        There,
+        "an offset",
+    );
+    check_eq(test, &builder.len(), &8, "one text");
+    Ok(())
 }
 
-fn all_texts_are_there(alloc: Global, builder: &mut Builder) -> Result<bool, BuildError> {
-    let owned = String::from_str(alloc, "Axe")?;
-    let there = texts_are_there(builder, &owned);
-    builder.clear();
-    Ok(there && holds(texts_of_before_are_there(builder)))
+fn check_owned_texts(test: &Test<'_>, builder: &mut Builder) -> Result<(), BuildError> {
+    let owned = String::from_str(test.alloc(), "Axe")?;
+    check_texts(test, builder, &owned);
+    Ok(())
 }
 
-pub fn empty_lists_are_left_out(builder: &mut Builder, owned: &Vec<u16>) -> bool {
-    let none: &[u16] = &[];
-    let absent: Option<&[u16]> = None;
+pub fn check_no_lists(test: &Test<'_>, builder: &mut Builder, owned: &Vec<u16>) {
+    let (none, absent): (&[u16], Option<&[u16]>) = (&[], None);
     let (bytes, signed) = (ByteList(&[]), SignedList(&[]));
-    is_left_out(defaulted::<Offset<List<u16>>, (), &[u16]>(builder, &none, &()))
-        && is_left_out(optional::<Offset<List<u16>>, Option<&[u16]>>(builder, &absent))
-        && is_left_out(defaulted::<Offset<List<u16>>, (), Vec<u16>>(builder, owned, &()))
-        && is_left_out(defaulted::<Offset<List<u8>>, (), ByteList<'_>>(builder, &bytes, &()))
-        && is_left_out(defaulted::<Offset<List<i8>>, (), SignedList<'_>>(builder, &signed, &()))
-        && builder.is_empty()
+    check_default::<Numbers, (), &[u16]>(test, builder, &none, &(), LeftOut, "no numbers");
+    check_optional::<Numbers, Option<&[u16]>>(test, builder, &absent, LeftOut, "no list");
+    check_default::<Numbers, (), Vec<u16>>(test, builder, owned, &(), LeftOut, "owned");
+    check_default::<Bytes, (), ByteList<'_>>(test, builder, &bytes, &(), LeftOut, "no bytes");
+    check_default::<Signed, (), SignedList<'_>>(test, builder, &signed, &(), LeftOut, "signed");
+    check_eq(test, &builder.len(), &0, "lists that are left out");
 }
 
 // Each takes its count alone, four bytes.
-fn empty_lists_are_there(builder: &mut Builder, owned: &Vec<u16>) -> bool {
+fn check_empty_lists(test: &Test<'_>, builder: &mut Builder, owned: &Vec<u16>) {
     let none: &[u16] = &[];
     let (bytes, signed) = (ByteList(&[]), SignedList(&[]));
-    is_there(optional::<Offset<List<u16>>, &[u16]>(builder, &none))
-        && is_there(optional::<Offset<List<u16>>, Vec<u16>>(builder, owned))
-        && is_there(optional::<Offset<List<u8>>, ByteList<'_>>(builder, &bytes))
-        && is_there(optional::<Offset<List<i8>>, SignedList<'_>>(builder, &signed))
-        && builder.len() == 16
+    check_optional::<Numbers, &[u16]>(test, builder, &none, There, "an empty list");
+    check_optional::<Numbers, Vec<u16>>(test, builder, owned, There, "an empty vector");
+    check_optional::<Bytes, ByteList<'_>>(test, builder, &bytes, There, "no bytes");
+    check_optional::<Signed, SignedList<'_>>(test, builder, &signed, There, "no signed bytes");
+    check_eq(test, &builder.len(), &16, "four empty lists");
 }
 
-fn lists_are_there(builder: &mut Builder) -> bool {
+fn check_short_lists(test: &Test<'_>, builder: &mut Builder) {
     let one: &[u16] = &[1];
-    let written = is_there(defaulted::<Offset<List<u16>>, (), &[u16]>(builder, &one, &()));
-    let after_one = builder.len() == 6;
-    written
-        && after_one
-        && is_there(optional::<Offset<List<u16>>, [u16; 0]>(builder, &[]))
-        && builder.len() == 10
+    check_default::<Numbers, (), &[u16]>(test, builder, &one, &(), There, "one number");
+    check_eq(test, &builder.len(), &6, "one number");
+    check_optional::<Numbers, [u16; 0]>(test, builder, &[], There, "an empty array");
+    check_eq(test, &builder.len(), &10, "an empty array");
 }
 
-fn lists_are_prepared(builder: &mut Builder, owned: &Vec<u16>) -> bool {
+fn check_lists(test: &Test<'_>, builder: &mut Builder, owned: &Vec<u16>) {
     let one: &[u16] = &[1];
-    written::<List<u16>, [u16; 1]>(builder, &[1], 6)
-        && written::<List<u16>, Vec<u16>>(builder, owned, 10)
-        && written::<List<u16>, &[u16]>(builder, &one, 18)
-        && written::<List<u8>, ByteList<'_>>(builder, &ByteList(&[1]), 26)
-        && written::<List<i8>, SignedList<'_>>(builder, &SignedList(&[1]), 34)
+    let (bytes, signed) = (ByteList(&[1]), SignedList(&[1]));
+    check_written::<List<u16>, [u16; 1]>(test, builder, &[1], 6, "an array");
+    check_written::<List<u16>, Vec<u16>>(test, builder, owned, 10, "an empty vector");
+    check_written::<List<u16>, &[u16]>(test, builder, &one, 18, "a list");
+    check_written::<List<u8>, ByteList<'_>>(test, builder, &bytes, 26, "bytes");
+    check_written::<List<i8>, SignedList<'_>>(test, builder, &signed, 34, "signed bytes");
 }
 
-fn all_lists_are_there(builder: &mut Builder, owned: &Vec<u16>) -> bool {
-    let empty = empty_lists_are_there(builder, owned);
+fn check_all_lists(test: &Test<'_>, builder: &mut Builder) -> Result<(), BuildError> {
+    let owned = Vec::new(test.alloc());
+    check_empty_lists(test, builder, &owned);
     builder.clear();
-    let there = lists_are_there(builder);
+    check_lists(test, builder, &owned);
     builder.clear();
-    empty && there && lists_are_prepared(builder, owned)
+    check_short_lists(test, builder);
+    Ok(())
 }
 
-pub fn unions_are_left_out(builder: &mut Builder) -> bool {
+pub fn check_no_unions(test: &Test<'_>, builder: &mut Builder) {
     let absent: Option<UnionOffset<Drinks>> = None;
-    drink_is(builder, &absent, None) && drink_is(builder, &(), None) && builder.is_empty()
+    check_drink(test, builder, &absent, None, "no union");
+    check_drink(test, builder, &(), None, "nothing for a union");
+    check_eq(test, &builder.len(), &0, "unions that are left out");
 }
 
 fn last_as_union(builder: &Builder, tag: u8) -> UnionOffset<Drinks>
@@ -249,64 +301,66 @@ fn last_as_union(builder: &Builder, tag: u8) -> UnionOffset<Drinks>
     UnionOffset::new(tag, builder.current_offset())
 }
 
-fn unions_are_there(builder: &mut Builder) -> Result<bool, BuildError> {
+fn check_unions(test: &Test<'_>, builder: &mut Builder) -> Result<(), BuildError> {
     builder.create_string("A")?;
     let one = last_as_union(builder, 1);
-    let plain = drink_is(builder, &one, Some(1));
+    check_drink(test, builder, &one, Some(1), "a union");
     let one = last_as_union(builder, 2);
-    let optional = drink_is(builder, &Some(one), Some(2));
+    check_drink(test, builder, &Some(one), Some(2), "some union");
     let one = last_as_union(builder, 4);
-    let by_ref = drink_is(builder, &ByRef(&one), Some(4));
-    Ok(plain && optional && by_ref && builder.len() == 6)
+    check_drink(test, builder, &ByRef(&one), Some(4), "a union by reference");
+    check_eq(test, &builder.len(), &6, "one text");
+    Ok(())
 }
 
-pub fn union_vectors_are_left_out(builder: &mut Builder) -> bool {
+pub fn check_no_union_vectors(test: &Test<'_>, builder: &mut Builder) {
     let none: &[UnionOffset<Drinks>] = &[];
     let absent: Option<&[UnionOffset<Drinks>]> = None;
-    order_is(builder, &none, None)
-        && order_is(builder, &DefaultValue, None)
-        && optional_order_is(builder, &(), None)
-        && optional_order_is(builder, &absent, None)
-        && builder.is_empty()
+    check_order(test, builder, &none, None, "no unions");
+    check_order(test, builder, &DefaultValue, None, "unions by default");
+    check_optional_order(test, builder, &(), None, "nothing for unions");
+    check_optional_order(test, builder, &absent, None, "no vector of unions");
+    check_eq(
+        test,
+        &builder.len(),
+        &0,
+        "vectors of unions that are left out",
+    );
 }
 
-fn empty_union_vectors_are_there(builder: &mut Builder) -> bool {
+fn check_empty_union_vectors(test: &Test<'_>, builder: &mut Builder) -> Result<(), BuildError> {
     let none: &[UnionOffset<Drinks>] = &[];
-    optional_order_is(builder, &Some(none), Some((4, 8)))
-        && builder.as_slice() == [0u8; 8].as_slice()
+    check_optional_order(
+        test,
+        builder,
+        &Some(none),
+        Some((4, 8)),
+        "some empty vector",
+    );
+    check_bytes(test, builder.as_slice(), &[0; 8], "two counts");
+    Ok(())
 }
 
-fn written_union_vectors_are_there(builder: &mut Builder) -> Result<bool, BuildError> {
+fn check_written_union_vectors(test: &Test<'_>, builder: &mut Builder) -> Result<(), BuildError> {
     let none: &[UnionOffset<Drinks>] = &[];
     let vector = builder.create_union_vector::<Drinks, &[UnionOffset<Drinks>]>(none)?;
     let (tags, values) = (vector.tags_offset(), vector.values_offset());
     if tags.distance() as usize > builder.len() || values.distance() as usize > builder.len() {
-        return Ok(false);
+        return Err(BuildError::TooLarge);
     }
-    Ok(order_is(builder, &vector, Some((4, 8))) && builder.len() == 8)
-}
-
-fn all_unions_are_there(builder: &mut Builder) -> bool {
-    let empty = empty_union_vectors_are_there(builder);
-    builder.clear();
-    let written = holds(written_union_vectors_are_there(builder));
-    builder.clear();
-    empty && written && holds(unions_are_there(builder))
+    check_order(test, builder, &vector, Some((4, 8)), "a written vector");
+    check_eq(test, &builder.len(), &8, "a written vector");
+    Ok(())
 }
 
 #[test]
-fn fields(rt: HostRuntime) {
-    let (alloc, owned) = (rt.alloc(), Vec::new(rt.alloc()));
-    let texts = in_builder(alloc, NO_CACHES, |builder| {
-        holds(all_texts_are_there(alloc, builder))
-    });
-    check(&rt, texts, "texts");
-    let lists = in_builder(
-        alloc,
-        NO_CACHES,
-        |builder| all_lists_are_there(builder, &owned),
-    );
-    check(&rt, lists, "lists");
-    let unions = in_builder(alloc, NO_CACHES, all_unions_are_there);
-    check(&rt, unions, "unions");
+fn fields(rt: HostRuntime) -> Result<(), Fail> {
+    let test = Test::new(&rt);
+    in_builder(&test, NO_CACHES, check_owned_texts);
+    in_builder(&test, NO_CACHES, check_texts_of_before);
+    in_builder(&test, NO_CACHES, check_all_lists);
+    in_builder(&test, NO_CACHES, check_empty_union_vectors);
+    in_builder(&test, NO_CACHES, check_written_union_vectors);
+    in_builder(&test, NO_CACHES, check_unions);
+    test.end()
 }

@@ -1,6 +1,6 @@
-use super::{finishes, holds, in_builder};
-use crate::tests::check;
-use planus_write::{BuildError, Builder, Caches, List, Offset};
+use planus_testing::{Test, check, check_bytes, check_done, check_finish, in_builder};
+use planus_write::{BuildError, Builder, Caches, Offset};
+use std::test::Fail;
 
 const AXE: &[u8] = b"\x0c\0\0\0\x04\0\0\0\x03\0\0\0Axe\0";
 
@@ -10,47 +10,64 @@ const U64: &[u8] = b"\x1b\0\0\0\x08\0\0\0\0\0\0\0\x01\0\0\0\x01\0\0\0\0\0\0\0\x0
 
 const AGAIN: &[u8] = b"\x0c\0\0\0\x0c\0\0\0\x04\0\0\0\x03\0\0\0Axe\0";
 
-fn finishes_sized<T>(
+fn check_sized<T>(
+    test: &Test<'_>,
     builder: &mut Builder,
     root: Offset<T>,
     identifier: Option<[u8; 4]>,
     want: &[u8],
-) -> bool {
+    row: &str,
+) {
     if root.distance() as usize > builder.len() {
-        return false;
+        return check(test, false, row);
     }
     match builder.finish_size_prefixed(root, identifier) {
-        Ok(bytes) => bytes == want,
-        Err(_) => false,
+        Ok(bytes) => check_bytes(test, bytes, want, row),
+        Err(error) => check_done(test, Err(error), row),
     }
+}
+
+fn check_a_text(test: &Test<'_>, builder: &mut Builder) -> Result<(), BuildError> {
+    check_bytes(
+        test,
+        builder.finish_size_prefixed("Axe", None)?,
+        AXE,
+        "a text alone",
+    );
+    Ok(())
 }
 
 // A size-prefixed finish, and then a plain one before it.
-fn texts_are_finished(builder: &mut Builder) -> Result<bool, BuildError> {
-    let alone = builder.finish_size_prefixed("Axe", None)? == AXE;
+fn check_texts(test: &Test<'_>, builder: &mut Builder) -> Result<(), BuildError> {
+    let text = builder.create_string("Axe")?;
+    check_sized(test, builder, text, None, AXE, "a text");
+    check_finish(test, builder, text, None, AGAIN);
     builder.clear();
     let text = builder.create_string("Axe")?;
-    let twice = finishes_sized(builder, text, None, AXE) && finishes(builder, text, None, AGAIN);
-    builder.clear();
-    let text = builder.create_string("Axe")?;
-    Ok(alone && twice && finishes_sized(builder, text, Some(*b"TEST"), NAMED))
+    check_sized(
+        test,
+        builder,
+        text,
+        Some(*b"TEST"),
+        NAMED,
+        "with an identifier",
+    );
+    Ok(())
 }
 
 // The number of 8 bytes is at a multiple of 8 from the size on.
-fn a_list_is_finished(builder: &mut Builder) -> Result<bool, BuildError> {
+fn check_a_list(test: &Test<'_>, builder: &mut Builder) -> Result<(), BuildError> {
     builder.create_string("Hi")?;
-    let list: Offset<List<u64>> = builder.create_vector::<u64, [u64; 1]>([1])?;
-    Ok(finishes_sized(builder, list, None, U64))
-}
-
-fn all_are_finished(builder: &mut Builder) -> bool {
-    let texts = holds(texts_are_finished(builder));
-    builder.clear();
-    texts && holds(a_list_is_finished(builder))
+    let list = builder.create_vector::<u64, [u64; 1]>([1])?;
+    check_sized(test, builder, list, None, U64, "a list");
+    Ok(())
 }
 
 #[test]
-fn sizes_in_front(rt: HostRuntime) {
-    let finished = in_builder(rt.alloc(), Caches::all(), all_are_finished);
-    check(&rt, finished, "texts and a list");
+fn sizes_in_front(rt: HostRuntime) -> Result<(), Fail> {
+    let test = Test::new(&rt);
+    in_builder(&test, Caches::all(), check_a_text);
+    in_builder(&test, Caches::all(), check_texts);
+    in_builder(&test, Caches::all(), check_a_list);
+    test.end()
 }

@@ -1,11 +1,11 @@
 ghost use Rattle.std.specs.Prelude.{◌-◌, ◌++◌, []};
 ghost use Rattle.std.specs.Int.{w8, w16, w32, w64, to_le_bytes, cast_unsigned};
 
-use super::{holds, in_builder};
-use crate::tests::check;
+use planus_testing::{Test, check_finish, in_builder};
 use planus_write::{
     BuildError, Builder, Caches, ObjectFill, ObjectWriter, Offset, TableWriter, Text,
 };
+use std::test::Fail;
 
 #[derive(Drop)]
 struct Wide {
@@ -62,24 +62,22 @@ impl ObjectFill for Nothing {
     }
 }
 
-// The builder is empty afterwards.
-fn last_is(builder: &mut Builder, want: &[u8]) -> bool {
+fn check_last(test: &Test<'_>, builder: &mut Builder, want: &[u8]) {
     let root = builder.current_offset::<()>();
-    let same = match builder.finish(root, None) {
-        Ok(bytes) => bytes == want,
-        Err(_) => false,
-    };
-    builder.clear();
-    same
+    check_finish(test, builder, root, None, want);
 }
 
-fn an_empty_table(builder: &mut Builder) -> Result<bool, BuildError> {
+fn check_an_empty_table(test: &Test<'_>, builder: &mut Builder) -> Result<(), BuildError> {
     let empty: TableWriter<4> = TableWriter::default();
     empty.finish(builder, &Nothing)?;
-    Ok(last_is(builder, b"\x04\0\0\0\xfc\xff\xff\xff\x04\0\x04\0"))
+    check_last(test, builder, b"\x04\0\0\0\xfc\xff\xff\xff\x04\0\x04\0");
+    Ok(())
 }
 
-fn a_table_with_numbers(builder: &mut Builder) -> Result<bool, BuildError> {
+const NUMBERS: &[u8] =
+    b"\x04\0\0\0\xf2\xff\xff\xff\x01\0\0\0\0\0\0\0\x02\0\x0a\0\x0d\0\x04\0\0\0\x0c\0";
+
+fn check_numbers(test: &Test<'_>, builder: &mut Builder) -> Result<(), BuildError> {
     let mut writer: TableWriter<10> = TableWriter::default();
     writer.write_entry::<u64>(0);
     writer.write_entry::<u8>(2);
@@ -88,30 +86,29 @@ fn a_table_with_numbers(builder: &mut Builder) -> Result<bool, BuildError> {
         second: 2,
     };
     writer.finish(builder, &wide)?;
-    let want = b"\x04\0\0\0\xf2\xff\xff\xff\x01\0\0\0\0\0\0\0\x02\0\x0a\0\x0d\0\x04\0\0\0\x0c\0";
-    Ok(last_is(builder, want))
+    check_last(test, builder, NUMBERS);
+    Ok(())
 }
 
-fn a_table_with_a_text(builder: &mut Builder) -> Result<bool, BuildError> {
+const A_TEXT: &[u8] =
+    b"\x04\0\0\0\xf4\xff\xff\xff\x10\0\0\0\x18\0\0\0\x08\0\x0a\0\x04\0\x08\0\x03\0\0\0Axe\0";
+
+fn check_a_text(test: &Test<'_>, builder: &mut Builder) -> Result<(), BuildError> {
     let name = builder.create_string("Axe")?;
     let mut writer: TableWriter<8> = TableWriter::default();
     writer.write_entry::<Offset<Text>>(0);
     writer.write_entry::<i16>(1);
     let named = Named { name, damage: 24 };
     writer.finish(builder, &named)?;
-    let want =
-        b"\x04\0\0\0\xf4\xff\xff\xff\x10\0\0\0\x18\0\0\0\x08\0\x0a\0\x04\0\x08\0\x03\0\0\0Axe\0";
-    Ok(last_is(builder, want))
-}
-
-fn all_tables(builder: &mut Builder) -> bool {
-    holds(an_empty_table(builder))
-        && holds(a_table_with_numbers(builder))
-        && holds(a_table_with_a_text(builder))
+    check_last(test, builder, A_TEXT);
+    Ok(())
 }
 
 #[test]
-fn tables(rt: HostRuntime) {
-    let written = in_builder(rt.alloc(), Caches::all(), all_tables);
-    check(&rt, written, "none, numbers and a text");
+fn tables(rt: HostRuntime) -> Result<(), Fail> {
+    let test = Test::new(&rt);
+    in_builder(&test, Caches::all(), check_an_empty_table);
+    in_builder(&test, Caches::all(), check_numbers);
+    in_builder(&test, Caches::all(), check_a_text);
+    test.end()
 }

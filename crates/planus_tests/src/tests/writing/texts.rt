@@ -1,28 +1,38 @@
-use super::{NO_CACHES, finishes, holds, in_builder, prepared};
-use crate::tests::check;
+use super::{NO_CACHES, check_prepared};
+use planus_testing::{Test, check_bytes, check_eq, check_finish, in_builder};
 use planus_write::{BuildError, Builder, ByRef, Caches, Text};
 use std::alloc::{AllocError, Global};
+use std::test::Fail;
 
 const AXE: &[u8] = b"\x04\0\0\0\x03\0\0\0Axe\0";
 
 const NAMED: &[u8] = b"\x08\0\0\0TEST\x03\0\0\0Axe\0";
 
-fn texts_are_finished(builder: &mut Builder) -> Result<bool, BuildError> {
-    let alone = builder.finish("Axe", None)? == AXE;
+type Done = Result<(), BuildError>;
+
+const AGAIN: &[u8] = b"\x08\0\0\0\x04\0\0\0\x03\0\0\0Axe\0";
+
+fn check_a_text(test: &Test<'_>, builder: &mut Builder) -> Done {
+    check_bytes(test, builder.finish("Axe", None)?, AXE, "a text alone");
+    Ok(())
+}
+
+fn check_texts(test: &Test<'_>, builder: &mut Builder) -> Done {
+    let text = builder.create_string("Axe")?;
+    check_finish(test, builder, text, None, AXE);
+    check_finish(test, builder, text, None, AGAIN);
     builder.clear();
     let text = builder.create_string("Axe")?;
-    let again = b"\x08\0\0\0\x04\0\0\0\x03\0\0\0Axe\0";
-    let twice = finishes(builder, text, None, AXE) && finishes(builder, text, None, again);
-    builder.clear();
-    let text = builder.create_string("Axe")?;
-    Ok(alone && twice && finishes(builder, text, Some(*b"TEST"), NAMED))
+    check_finish(test, builder, text, Some(*b"TEST"), NAMED);
+    Ok(())
 }
 
 // A box is prepared in `without_memory`.
-fn wrapped_texts_are_prepared(alloc: Global, builder: &mut Builder) -> Result<bool, BuildError> {
-    let by_ref = prepared::<Text, ByRef<'_, &str>>(builder, &ByRef(&"Ho"))?;
-    let owned = prepared::<Text, String>(builder, &String::from_str(alloc, "Ha")?)?;
-    Ok(by_ref.distance() == 7 && owned.distance() == 15)
+fn check_wrapped_texts(test: &Test<'_>, builder: &mut Builder) -> Done {
+    let owned = String::from_str(test.alloc(), "Ha")?;
+    check_prepared::<Text, ByRef<'_, &str>>(test, builder, &ByRef(&"Ho"), 7, "by reference");
+    check_prepared::<Text, String>(test, builder, &owned, 15, "owned");
+    Ok(())
 }
 
 fn letters(alloc: Global, times: usize) -> Result<String, AllocError> {
@@ -42,51 +52,53 @@ fn one_mebibyte(alloc: Global, text: &str) -> Result<Vec<u8>, AllocError> {
     Ok(bytes)
 }
 
-fn a_long_text_is_finished(
-    builder: &mut Builder,
-    text: &str,
-    want: &[u8],
-) -> Result<bool, BuildError> {
+fn check_long_text(test: &Test<'_>, builder: &mut Builder, text: &str, want: &[u8]) -> Done {
     let root = builder.create_string(text)?;
     builder.create_string("Hi")?;
-    Ok(finishes(builder, root, None, want))
+    check_finish(test, builder, root, None, want);
+    Ok(())
 }
 
-fn a_text_of_one_mebibyte(alloc: Global, builder: &mut Builder) -> Result<bool, BuildError> {
-    let text = letters(alloc, 65536)?;
-    let want = one_mebibyte(alloc, text.as_str())?;
-    let same = holds(a_long_text_is_finished(builder, text.as_str(), want.as_slice()));
-    Ok(same && want.len() == 1048593)
+fn check_one_mebibyte(test: &Test<'_>, builder: &mut Builder) -> Done {
+    let text = letters(test.alloc(), 65536)?;
+    let want = one_mebibyte(test.alloc(), text.as_str())?;
+    check_eq(
+        test,
+        &want.len(),
+        &1048593,
+        "the bytes of a mebibyte's finish",
+    );
+    check_long_text(test, builder, text.as_str(), want.as_slice())
 }
 
-// A string of 524336 bytes takes 524341, and after the first three more for its alignment.
-fn texts_are_repeated(builder: &mut Builder, text: &str, count: usize) -> Result<bool, BuildError> {
+fn write_each(builder: &mut Builder, text: &str, count: usize) -> Done {
     for _ in 0..count {
         builder.create_string(text)?;
     }
-    Ok(text.len() == 524336 && builder.len() == 68689061)
+    Ok(())
 }
 
-fn more_than_64_mebibytes(alloc: Global, builder: &mut Builder) -> Result<bool, BuildError> {
-    let text = letters(alloc, 32771)?;
-    Ok(holds(texts_are_repeated(builder, text.as_str(), 131)))
-}
-
-fn all_texts(alloc: Global, builder: &mut Builder) -> bool {
-    let finished = holds(texts_are_finished(builder));
-    builder.clear();
-    let wrapped = holds(wrapped_texts_are_prepared(alloc, builder));
-    builder.clear();
-    finished && wrapped && holds(a_text_of_one_mebibyte(alloc, builder))
+// A string of 524336 bytes takes 524341, and after the first three more for its alignment.
+fn check_64_mebibytes(test: &Test<'_>, builder: &mut Builder) -> Done {
+    let text = letters(test.alloc(), 32771)?;
+    write_each(builder, text.as_str(), 131)?;
+    check_eq(test, &text.len(), &524336, "the bytes of a text");
+    check_eq(
+        test,
+        &builder.len(),
+        &68689061,
+        "texts of more than 64 mebibytes",
+    );
+    Ok(())
 }
 
 #[test]
-fn texts(rt: HostRuntime) {
-    let alloc = rt.alloc();
-    let written = in_builder(alloc, Caches::all(), |builder| all_texts(alloc, builder));
-    check(&rt, written, "short texts, and one of a mebibyte");
-    let many = in_builder(alloc, NO_CACHES, |builder| {
-        holds(more_than_64_mebibytes(alloc, builder))
-    });
-    check(&rt, many, "texts of more than 64 mebibytes");
+fn texts(rt: HostRuntime) -> Result<(), Fail> {
+    let test = Test::new(&rt);
+    in_builder(&test, Caches::all(), check_a_text);
+    in_builder(&test, Caches::all(), check_texts);
+    in_builder(&test, Caches::all(), check_wrapped_texts);
+    in_builder(&test, Caches::all(), check_one_mebibyte);
+    in_builder(&test, NO_CACHES, check_64_mebibytes);
+    test.end()
 }

@@ -2,33 +2,36 @@ ghost use Rattle.std.specs.Prelude.{◌≤◌, length, IsTrue, IfOk};
 ghost use Rattle.planus_write.specs.Preparing.{AllMay};
 ghost use Rattle.planus_write.specs.Unions.{union_reach};
 
-use super::{holds, in_builder};
-use crate::tests::check;
+use planus_testing::{Test, check_bytes, check_distance, check_done, check_eq, in_builder};
 use planus_write::{
     BuildError, Builder, ByRef, Caches, UnionOffset, WriteAsUnion, WriteAsUnionVector,
 };
-use std::alloc::Global;
+use std::test::Fail;
+
+type Done = Result<(), BuildError>;
 
 fn tagged(builder: &mut Builder, tag: u8, text: &str) -> Result<UnionOffset<()>, BuildError> {
     let text = builder.create_string(text)?;
     Ok(UnionOffset::new(tag, text.downcast()))
 }
 
-fn list_stands<X: WriteAsUnionVector<()> + Drop>(
+fn check_list<X: WriteAsUnionVector<()> + Drop>(
+    test: &Test<'_>,
     builder: &mut Builder,
     list: X,
     distances: (u32, u32),
     want: &[u8],
-) -> bool
+    row: &str,
+)
     requires { X.may list builder.old }
 {
     match builder.create_union_vector(list) {
         Ok(vector) => {
-            vector.values_offset().distance() == distances.0
-                && vector.tags_offset().distance() == distances.1
-                && builder.as_slice() == want
+            check_distance(test, vector.values_offset(), distances.0, row);
+            check_distance(test, vector.tags_offset(), distances.1, row);
+            check_bytes(test, builder.as_slice(), want, row);
         }
-        Err(_) => false,
+        Err(error) => check_done(test, Err(error), row),
     }
 }
 
@@ -55,62 +58,93 @@ fn two_unions(builder: &mut Builder) -> Result<[UnionOffset<()>; 2], BuildError>
 const TWO_UNIONS: &[u8] =
     b"\x02\0\0\0\x01\x02\0\0\x02\0\0\0\x10\0\0\0\x04\0\0\0\x01\0\0\0B\0\0\0\x01\0\0\0A\0";
 
-fn lists_of_unions_are_written(builder: &mut Builder) -> Result<bool, BuildError> {
-    let no_unions: [UnionOffset<()>; 0] = [];
-    let none = list_stands(builder, no_unions, (4, 8), b"\0\0\0\0\0\0\0\0");
-    builder.clear();
-    let unions = two_unions(builder)?;
-    let two = unions[0].tag() == 1 && list_stands(builder, unions, (26, 34), TWO_UNIONS);
-    builder.clear();
-    let unions = two_unions(builder)?;
-    Ok(none && two && list_stands(builder, ByRef(&unions), (26, 34), TWO_UNIONS))
+fn check_no_unions(test: &Test<'_>, builder: &mut Builder) -> Done {
+    let none: [UnionOffset<()>; 0] = [];
+    check_list(test, builder, none, (4, 8), &[0; 8], "no unions");
+    Ok(())
 }
 
-fn an_owned_list_of_unions(alloc: Global, builder: &mut Builder) -> Result<bool, BuildError> {
+fn check_array(test: &Test<'_>, builder: &mut Builder) -> Done {
     let unions = two_unions(builder)?;
-    let mut owned: Vec<UnionOffset<()>> = Vec::new(alloc);
+    check_eq(test, &unions[0].tag(), &1, "the first tag");
+    check_list(test, builder, unions, (26, 34), TWO_UNIONS, "an array");
+    Ok(())
+}
+
+fn check_array_by_reference(test: &Test<'_>, builder: &mut Builder) -> Done {
+    let unions = two_unions(builder)?;
+    check_list(
+        test,
+        builder,
+        ByRef(&unions),
+        (26, 34),
+        TWO_UNIONS,
+        "an array by reference",
+    );
+    Ok(())
+}
+
+fn check_owned_list(test: &Test<'_>, builder: &mut Builder) -> Done {
+    let unions = two_unions(builder)?;
+    let mut owned: Vec<UnionOffset<()>> = Vec::new(test.alloc());
     owned.extend_from_slice(&unions)?;
-    Ok(list_stands(builder, owned, (26, 34), TWO_UNIONS))
+    check_list(test, builder, owned, (26, 34), TWO_UNIONS, "an owned list");
+    Ok(())
 }
 
-fn a_written_list_of_unions(builder: &mut Builder) -> Result<bool, BuildError> {
+fn check_written_list(test: &Test<'_>, builder: &mut Builder) -> Done {
     let unions = two_unions(builder)?;
     let vector = builder.create_union_vector::<(), [UnionOffset<()>; 2]>(unions)?;
     let (tags, values) = (vector.tags_offset(), vector.values_offset());
     if tags.distance() as usize > builder.len() || values.distance() as usize > builder.len() {
-        return Ok(false);
+        return Err(BuildError::TooLarge);
     }
-    Ok(list_stands(builder, vector, (26, 34), TWO_UNIONS))
+    check_list(
+        test,
+        builder,
+        vector,
+        (26, 34),
+        TWO_UNIONS,
+        "a written list",
+    );
+    Ok(())
 }
 
-pub fn union_stands<T, X: WriteAsUnion<T>>(builder: &mut Builder, value: &X) -> bool
+pub fn check_union<T, X: WriteAsUnion<T>>(
+    test: &Test<'_>,
+    builder: &mut Builder,
+    value: &X,
+    row: &str,
+)
     requires { X.may value.now builder.old }
 {
     match value.prepare(builder) {
-        Ok(union) => union.tag() == 7 && union.offset().distance() == 6,
-        Err(_) => false,
+        Ok(union) => {
+            check_eq(test, &union.tag(), &7, row);
+            check_distance(test, union.offset(), 6, row);
+        }
+        Err(error) => check_done(test, Err(error), row),
     }
 }
 
 // A box is prepared in `without_memory`.
-fn a_union_is_prepared_by_reference(builder: &mut Builder) -> Result<bool, BuildError> {
+fn check_union_by_reference(test: &Test<'_>, builder: &mut Builder) -> Done {
     let union = tagged(builder, 7, "A")?;
-    Ok(are_written(builder, union, union) && union_stands(builder, &ByRef(&union)))
-}
-
-fn all_unions(alloc: Global, builder: &mut Builder) -> bool {
-    let lists = holds(lists_of_unions_are_written(builder));
-    builder.clear();
-    let owned = holds(an_owned_list_of_unions(alloc, builder));
-    builder.clear();
-    let written = holds(a_written_list_of_unions(builder));
-    builder.clear();
-    lists && owned && written && holds(a_union_is_prepared_by_reference(builder))
+    if !are_written(builder, union, union) {
+        return Err(BuildError::TooLarge);
+    }
+    check_union(test, builder, &ByRef(&union), "a union by reference");
+    Ok(())
 }
 
 #[test]
-fn unions(rt: HostRuntime) {
-    let alloc = rt.alloc();
-    let written = in_builder(alloc, Caches::all(), |builder| all_unions(alloc, builder));
-    check(&rt, written, "unions and lists of unions");
+fn unions(rt: HostRuntime) -> Result<(), Fail> {
+    let test = Test::new(&rt);
+    in_builder(&test, Caches::all(), check_no_unions);
+    in_builder(&test, Caches::all(), check_array);
+    in_builder(&test, Caches::all(), check_array_by_reference);
+    in_builder(&test, Caches::all(), check_owned_list);
+    in_builder(&test, Caches::all(), check_written_list);
+    in_builder(&test, Caches::all(), check_union_by_reference);
+    test.end()
 }

@@ -1,14 +1,14 @@
 ghost use Rattle.std.specs.Prelude.{◌≤◌, length, IsTrue};
 
+use super::fields::Answer::{LeftOut, There};
 use super::fields::{
-    Drinks, always, defaulted, drink_is, empty_lists_are_left_out, is_left_out, is_there,
-    numbers_are_left_out, numbers_are_prepared, optional, texts_are_left_out,
-    union_vectors_are_left_out, unions_are_left_out, written,
+    Drinks, check_always, check_default, check_default_numbers, check_drink, check_no_lists,
+    check_no_texts, check_no_union_vectors, check_no_unions, check_numbers, check_optional,
+    check_optional_numbers, check_written,
 };
-use super::unions::union_stands;
-use super::{NO_CACHES, prepared};
-use crate::tests::{check, first_wrong_of, holds_without_memory};
-use planus_testing::{exhaust, holds_or_says};
+use super::unions::check_union;
+use super::{NO_CACHES, check_prepared};
+use planus_testing::{Test, check, check_done, check_eq, without_memory};
 use planus_write::{BuildError, Builder, ByRef, Offset, Text, UnionOffset, VectorWrite};
 use std::alloc::{AllocError, Global};
 use std::slice;
@@ -38,31 +38,41 @@ fn new_values(alloc: Global, last: Offset<Text>) -> Result<Values, AllocError> {
 }
 
 // Only items that the vector holds themselves are prepared already.
-fn only_numbers_are_prepared_already(axe: &String) -> bool {
-    matches!(<u16 as VectorWrite<u16>>::as_prepared(&[7]), Some([7]))
-        && <ByRef<'_, u16> as VectorWrite<u16>>::as_prepared(&[ByRef(&7)]).is_none()
-        && <&str as VectorWrite<Offset<Text>>>::as_prepared(&["A"]).is_none()
-        && <String as VectorWrite<Offset<Text>>>::as_prepared(slice::from_ref(axe)).is_none()
+fn check_items(test: &Test<'_>, axe: &String) {
+    let numbers: Option<&[u16]> = <u16 as VectorWrite<u16>>::as_prepared(&[7]);
+    let by_ref = <ByRef<'_, u16> as VectorWrite<u16>>::as_prepared(&[ByRef(&7)]);
+    let text = <&str as VectorWrite<Offset<Text>>>::as_prepared(&["A"]);
+    let owned = <String as VectorWrite<Offset<Text>>>::as_prepared(slice::from_ref(axe));
+    check_eq(test, &numbers, &Some([7].as_slice()), "numbers");
+    check(test, by_ref.is_none(), "a number by reference");
+    check(test, text.is_none(), "a text");
+    check(test, owned.is_none(), "an owned text");
 }
 
-fn boxed_numbers_are_prepared(builder: &mut Builder, values: &Values) -> bool {
-    always::<u16, Box<u16>>(builder, &values.number, 7)
-        && is_there(optional::<u16, Box<u16>>(builder, &values.number))
-        && is_left_out(optional::<u16, Box<Option<u16>>>(builder, &values.absent))
-        && is_left_out(defaulted::<u16, u16, Box<u16>>(builder, &values.number, &7))
-        && builder.is_empty()
+fn check_boxed_numbers(test: &Test<'_>, builder: &mut Builder, values: &Values) {
+    let (number, absent) = (&values.number, &values.absent);
+    check_always::<u16, Box<u16>>(test, builder, number, 7, "a boxed number");
+    check_optional::<u16, Box<u16>>(test, builder, number, There, "a boxed number");
+    check_optional::<u16, Box<Option<u16>>>(test, builder, absent, LeftOut, "no boxed number");
+    check_default::<u16, u16, Box<u16>>(test, builder, number, &7, LeftOut, "a boxed default");
+    check_eq(test, &builder.len(), &0, "boxed numbers write nothing");
 }
 
 // In the builder's room: the first takes 6 bytes, and each other one 8.
-fn boxed_texts_are_prepared(builder: &mut Builder, values: &Values) -> bool {
-    written::<Text, Box<&str>>(builder, &values.text, 6)
-        && is_there(optional::<Offset<Text>, Box<&str>>(builder, &values.text))
-        && is_left_out(defaulted::<Offset<Text>, &str, Box<&str>>(builder, &values.text, &"A"))
-        && matches!(
-            prepared::<Text, Box<&str>>(builder, &values.text),
-            Ok(text) if text.distance() == 22
-        )
-        && builder.len() == 22
+fn check_boxed_texts(test: &Test<'_>, builder: &mut Builder, values: &Values) {
+    let text = &values.text;
+    check_written::<Text, Box<&str>>(test, builder, text, 6, "a boxed text");
+    check_optional::<Offset<Text>, Box<&str>>(test, builder, text, There, "a boxed text");
+    check_default::<Offset<Text>, &str, Box<&str>>(
+        test,
+        builder,
+        text,
+        &"A",
+        LeftOut,
+        "a boxed default",
+    );
+    check_prepared::<Text, Box<&str>>(test, builder, text, 22, "a third boxed text");
+    check_eq(test, &builder.len(), &22, "three boxed texts");
 }
 
 fn has(builder: &Builder, distance: u32) -> bool
@@ -72,77 +82,60 @@ fn has(builder: &Builder, distance: u32) -> bool
 }
 
 // An offset is that of the string that was written first.
-fn boxed_offsets_are_prepared(builder: &mut Builder, values: &Values) -> bool {
-    has(builder, values.last.distance())
-        && matches!(
-            prepared::<Text, Box<Offset<Text>>>(builder, &values.last),
-            Ok(text) if text.distance() == 6
-        )
+fn check_boxed_offsets(test: &Test<'_>, builder: &mut Builder, values: &Values) {
+    if !has(builder, values.last.distance()) {
+        return check(test, false, "a boxed offset");
+    }
+    check_prepared::<Text, Box<Offset<Text>>>(test, builder, &values.last, 6, "a boxed offset");
 }
 
-fn boxed_unions_are_prepared(builder: &mut Builder, values: &Values) -> bool {
-    has(builder, values.union.offset().distance())
-        && union_stands::<Drinks, Box<UnionOffset<Drinks>>>(builder, &values.union)
-        && has(builder, values.union.offset().distance())
-        && drink_is(builder, &values.union, Some(7))
+fn check_boxed_unions(test: &Test<'_>, builder: &mut Builder, values: &Values) {
+    let union = &values.union;
+    if !has(builder, union.offset().distance()) {
+        return check(test, false, "a boxed union");
+    }
+    check_union::<Drinks, Box<UnionOffset<Drinks>>>(test, builder, union, "a boxed union");
+    if !has(builder, union.offset().distance()) {
+        return check(test, false, "a boxed union's field");
+    }
+    check_drink(test, builder, union, Some(7), "a boxed union's field");
 }
 
-fn first_wrong(builder: &mut Builder, values: &Values) -> Option<&'static str> {
-    first_wrong_of(&[
-        ("numbers", numbers_are_prepared(builder)),
-        ("numbers left out", numbers_are_left_out(builder)),
-        ("texts left out", texts_are_left_out(builder, &values.axe)),
-        (
-            "lists left out",
-            empty_lists_are_left_out(builder, &values.empty),
-        ),
-        ("unions left out", unions_are_left_out(builder)),
-        (
-            "lists of unions left out",
-            union_vectors_are_left_out(builder),
-        ),
-        (
-            "items of lists",
-            only_numbers_are_prepared_already(&values.axe),
-        ),
-        ("boxed numbers", boxed_numbers_are_prepared(builder, values)),
-        ("boxed texts", boxed_texts_are_prepared(builder, values)),
-        ("boxed offsets", boxed_offsets_are_prepared(builder, values)),
-        ("boxed unions", boxed_unions_are_prepared(builder, values)),
-    ])
+fn check_boxed(test: &Test<'_>, builder: &mut Builder, values: &Values) {
+    check_items(test, &values.axe);
+    check_boxed_numbers(test, builder, values);
+    check_boxed_texts(test, builder, values);
+    check_boxed_offsets(test, builder, values);
+    check_boxed_unions(test, builder, values);
 }
 
-fn first_wrong_without_memory(
-    alloc: Global,
-    builder: &mut Builder,
-    values: &Values,
-) -> Result<(bool, Option<&'static str>), AllocError> {
-    let mut held: Vec<Vec<u8>> = Vec::with_capacity(alloc, 262144)?;
-    let exhausted = exhaust(alloc, &mut held)?;
-    let wrong = first_wrong(builder, values);
-    drop(held);
-    Ok((exhausted, wrong))
+fn check_all(test: &Test<'_>, builder: &mut Builder, values: &Values) {
+    check_numbers(test, builder);
+    check_optional_numbers(test, builder);
+    check_default_numbers(test, builder);
+    check_no_texts(test, builder, &values.axe);
+    check_no_lists(test, builder, &values.empty);
+    check_no_unions(test, builder);
+    check_no_union_vectors(test, builder);
+    check_boxed(test, builder, values);
 }
 
-fn first_wrong_of_values(
-    alloc: Global,
-    builder: &mut Builder,
-) -> Result<(bool, Option<&'static str>), BuildError> {
+fn check_values(test: &Test<'_>, builder: &mut Builder) -> Result<(), BuildError> {
     builder.create_string("A")?;
-    let values = new_values(alloc, builder.current_offset())?;
+    let values = new_values(test.alloc(), builder.current_offset())?;
     builder.clear();
-    Ok(first_wrong_without_memory(alloc, builder, &values)?)
+    without_memory(test, |test| check_all(test, builder, &values));
+    Ok(())
 }
 
-fn first_wrong_in_64_bytes(alloc: Global) -> Result<(bool, Option<&'static str>), BuildError> {
-    let mut builder = Builder::with_caches(alloc, 64, NO_CACHES)?;
-    first_wrong_of_values(alloc, &mut builder)
+fn check_in_64_bytes(test: &Test<'_>) -> Result<(), BuildError> {
+    let mut builder = Builder::with_caches(test.alloc(), 64, NO_CACHES)?;
+    check_values(test, &mut builder)
 }
 
 #[test]
 fn no_preparing_asks_for_memory(rt: HostRuntime) -> Result<(), Fail> {
-    let (exhausted, wrong) = first_wrong_in_64_bytes(rt.alloc())?;
-    let holds = holds_without_memory(exhausted, wrong);
-    check(&rt, holds_or_says(&rt, holds)?, wrong.unwrap_or(""));
-    Ok(())
+    let test = Test::new(&rt);
+    check_done(&test, check_in_64_bytes(&test), "a builder of 64 bytes");
+    test.end()
 }

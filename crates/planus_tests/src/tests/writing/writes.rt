@@ -1,11 +1,12 @@
 ghost use Rattle.std.specs.Prelude.{replicate, ⊤};
 
-use super::{holds, in_builder};
-use crate::tests::check;
-use crate::tests::writing::PlaceWord;
+use super::PlaceWord;
 use planus_back::{Fill, Overwrite};
+use planus_testing::{Test, check, check_bytes, check_distance, check_done, check_eq, in_builder};
 use planus_write::{BuildError, Builder, Caches, Text};
-use std::alloc::Global;
+use std::test::Fail;
+
+type Done = Result<(), BuildError>;
 
 #[derive(Drop)]
 struct Repeated {
@@ -32,82 +33,89 @@ impl Overwrite for Repeated {
     }
 }
 
-fn lengths_are(builder: &Builder, len: usize, room: usize) -> bool {
-    builder.len() == len && builder.is_empty() == (len == 0) && builder.room() == room
+fn check_lengths(test: &Test<'_>, builder: &Builder, len: usize, room: usize, row: &str) {
+    check_eq(test, &builder.len(), &len, row);
+    check_eq(test, &builder.is_empty(), &(len == 0), row);
+    check_eq(test, &builder.room(), &room, row);
 }
 
-fn lengths(builder: &mut Builder) -> Result<bool, BuildError> {
-    let before = lengths_are(builder, 0, 64);
+fn check_room(test: &Test<'_>, builder: &mut Builder) -> Done {
+    check_lengths(test, builder, 0, 64, "a builder with room");
     builder.write_with(5, 0, &Repeated { byte: 9 })?;
-    let after = lengths_are(builder, 5, 59);
+    check_lengths(test, builder, 5, 59, "after a write");
     builder.clear();
-    Ok(before && after && lengths_are(builder, 0, 64))
+    check_lengths(test, builder, 0, 64, "after a clear");
+    Ok(())
 }
 
-fn shows_bytes(alloc: Global, builder: &Builder) -> bool {
-    let text = "Builder { backing: Backing { inner: [7, 7, 7, 7, 7]";
-    match format!(in alloc; "{builder:?}") {
-        Ok(shown) => shown.as_str().starts_with(text),
-        Err(_) => false,
+fn check_shown(test: &Test<'_>, builder: &Builder) {
+    match format!(in test.alloc(); "{builder:?}") {
+        Ok(text) => {
+            let shown = text.as_str();
+            let begins = "Builder { backing: Backing { inner: [7, 7, 7, 7, 7]";
+            check(test, shown.starts_with(begins), shown);
+        }
+        Err(_) => check(test, false, "memory for a text"),
     }
 }
 
-fn what_is_last(alloc: Global, builder: &mut Builder) -> Result<bool, BuildError> {
+fn check_last(test: &Test<'_>, builder: &mut Builder) -> Done {
     builder.write_over(5, 0, &Repeated { byte: 7 })?;
     let last = builder.current_offset::<Text>();
-    let cloned = matches!(last.clone(), Ok(copy) if copy.distance() == 5);
-    Ok(
-        cloned
-            && last.distance() == 5
-            && last.downcast().distance() == 5
-            && builder.as_slice() == [7; 5].as_slice()
-            && shows_bytes(alloc, builder),
-    )
+    check_distance(test, last.clone()?, 5, "a copy");
+    check_distance(test, last.downcast(), 5, "of any type");
+    check_distance(test, last, 5, "what is last");
+    check_bytes(test, builder.as_slice(), &[7; 5], "its bytes");
+    check_shown(test, builder);
+    Ok(())
 }
 
-fn begins_with_its_length(builder: &Builder) -> bool {
-    let front = builder.current_offset::<Text>();
-    builder
-        .as_slice()
-        .starts_with(&front.distance().to_le_bytes())
+fn check_front(test: &Test<'_>, builder: &Builder, row: &str) {
+    let front = builder.current_offset::<Text>().distance().to_le_bytes();
+    check_eq(
+        test,
+        &builder.as_slice().first_chunk::<4>(),
+        &Some(&front),
+        row,
+    );
 }
 
 // After more than 65535 bytes.
-fn places(builder: &mut Builder) -> Result<bool, BuildError> {
+fn check_places(test: &Test<'_>, builder: &mut Builder) -> Done {
     builder.write_with(70001, 0, &Repeated { byte: 9 })?;
     builder.write_with(4, 0, &PlaceWord)?;
-    let filled = begins_with_its_length(builder);
+    check_front(test, builder, "a place that was filled in");
     builder.write_over(4, 0, &PlaceWord)?;
-    Ok(filled && begins_with_its_length(builder) && builder.len() == 70009)
+    check_front(test, builder, "a place that was written over");
+    check_eq(test, &builder.len(), &70009, "all bytes");
+    Ok(())
 }
 
-fn written_in_64_bytes(alloc: Global) -> bool {
-    match Builder::with_capacity(alloc, 64) {
-        Ok(mut builder) => {
-            let lengths = holds(lengths(&mut builder));
-            builder.clear();
-            lengths && holds(what_is_last(alloc, &mut builder))
-        }
-        Err(_) => false,
+fn check_in_64_bytes(test: &Test<'_>, builder: &mut Builder) -> Done {
+    check_room(test, builder)?;
+    builder.clear();
+    check_last(test, builder)
+}
+
+fn check_capacity(test: &Test<'_>) {
+    match Builder::with_capacity(test.alloc(), 64) {
+        Ok(mut builder) => check_done(test, check_in_64_bytes(test, &mut builder), "64 bytes"),
+        Err(error) => check_done(test, Err(error), "64 bytes"),
     }
 }
 
-fn has_room(alloc: Global, room: usize) -> bool {
-    match Builder::with_capacity(alloc, room) {
-        Ok(builder) => builder.room() >= room,
-        Err(_) => false,
+fn check_much_room(test: &Test<'_>, room: usize) {
+    match Builder::with_capacity(test.alloc(), room) {
+        Ok(builder) => check(test, builder.room() >= room, "room for 16 mebibytes"),
+        Err(error) => check_done(test, Err(error), "room for 16 mebibytes"),
     }
 }
 
 #[test]
-fn writes(rt: HostRuntime) {
-    let alloc = rt.alloc();
-    check(&rt, written_in_64_bytes(alloc), "lengths and what is last");
-    let places = in_builder(alloc, Caches::all(), |builder| holds(places(builder)));
-    check(&rt, places, "places");
-    check(
-        &rt,
-        has_room(alloc, 16777259),
-        "more than 16 mebibytes of room",
-    );
+fn writes(rt: HostRuntime) -> Result<(), Fail> {
+    let test = Test::new(&rt);
+    check_capacity(&test);
+    in_builder(&test, Caches::all(), check_places);
+    check_much_room(&test, 16777259);
+    test.end()
 }

@@ -1,28 +1,29 @@
 //! All calls without memory, and copies, which take some.
 
-use super::unions::calls::union_calls_agree;
-use super::vectors::calls::vector_calls_agree;
-use super::vectors::copies::{copies_are_refused, numbers_are_copied};
-use crate::tests::{check, first_wrong_of, holds_without_memory, without_memory};
-use planus_testing::holds_or_says;
-use std::alloc::Global;
+use super::unions::calls::check_union_calls;
+use super::vectors::calls::check_vector_calls;
+use super::vectors::copies::{check_copy, refusal_of_copy};
+use planus_testing::{Test, check_eq, without_memory};
+use planus_view::CopyError;
 use std::test::Fail;
 
-fn first_wrong(alloc: Global) -> (Option<&'static str>, bool) {
-    let wrong = first_wrong_of(&[
-        ("vectors", vector_calls_agree()),
-        ("vectors of unions", union_calls_agree()),
-    ]);
-    (wrong, copies_are_refused(alloc))
+fn check_calls(test: &Test<'_>) -> Option<CopyError> {
+    check_vector_calls(test);
+    check_union_calls(test);
+    refusal_of_copy(test.alloc())
 }
 
 #[test]
 fn only_copies_ask_for_memory(rt: HostRuntime) -> Result<(), Fail> {
-    let alloc = rt.alloc();
-    let (exhausted, (wrong, refused)) = without_memory(alloc, || first_wrong(alloc))?;
-    let holds = holds_without_memory(exhausted, wrong);
-    check(&rt, holds_or_says(&rt, holds)?, wrong.unwrap_or(""));
-    check(&rt, refused || !exhausted, "copies");
-    check(&rt, numbers_are_copied(alloc), "copies, made again");
-    Ok(())
+    let test = Test::new(&rt);
+    if let Some(refusal) = without_memory(&test, check_calls) {
+        check_eq(
+            &test,
+            &refusal,
+            &Some(CopyError::OutOfMemory),
+            "a copy with no memory",
+        );
+    }
+    check_copy(&test);
+    test.end()
 }

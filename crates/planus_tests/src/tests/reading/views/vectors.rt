@@ -4,6 +4,7 @@ mod rows;
 
 use planus_read::errors::ErrorKind;
 use planus_read::{SliceWithStartOffset, TableRead};
+use planus_testing::{Test, check, check_eq};
 use planus_view::Vector;
 
 // The numbers 1 to 5 of two bytes each, after a reference.
@@ -20,21 +21,16 @@ fn five() -> Vector<'static, u16> {
     }
 }
 
-fn has(vector: Vector<'_, u16>, want: &[u16]) -> bool {
-    if vector.len() != want.len() {
-        return false;
-    }
+fn check_has(test: &Test<'_>, vector: Vector<'_, u16>, want: &[u16], row: &str) {
+    check_eq(test, &vector.len(), &want.len(), row);
     for (item, want) in vector.iter().zip(want) {
-        if item != *want {
-            return false;
-        }
+        check_eq(test, &item, want, row);
     }
-    true
 }
 
-fn some_has(vector: Option<Vector<'_, u16>>, want: &[u16]) -> bool {
+fn check_some(test: &Test<'_>, vector: Option<Vector<'_, u16>>, want: &[u16], row: &str) {
     match vector {
-        Some(vector) => has(vector, want),
-        None => false,
+        Some(vector) => check_has(test, vector, want, row),
+        None => check(test, false, row),
     }
 }

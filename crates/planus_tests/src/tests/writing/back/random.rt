@@ -1,6 +1,7 @@
 //! A back vector beside what was prepended, by many random steps.
 
 use planus_back::BackVec;
+use planus_testing::{Test, check, check_eq};
 use std::alloc::{AllocError, Global};
 use std::test::Fail;
 
@@ -26,14 +27,19 @@ fn new(alloc: Global, draws: &mut Draws) -> Result<BackVec, AllocError> {
     BackVec::with_capacity(alloc, (draws.draw() % 64) as usize)
 }
 
-fn has_in_front(bytes: &BackVec, front: &[u8], before: &[u8]) -> bool {
-    bytes.len().checked_sub(front.len()) == Some(before.len())
-        && bytes.as_slice().starts_with(front)
-        && bytes.as_slice().ends_with(before)
+fn check_in_front(test: &Test<'_>, bytes: &BackVec, front: &[u8], before: &[u8]) {
+    let added = bytes.len().checked_sub(front.len());
+    check_eq(test, &added, &Some(before.len()), "the bytes of before");
+    check(
+        test,
+        bytes.as_slice().starts_with(front),
+        "what is in front",
+    );
+    check(test, bytes.as_slice().ends_with(before), "what is behind");
 }
 
-fn grows(alloc: Global, bytes: &mut BackVec, draws: &mut Draws) -> Result<bool, AllocError> {
-    let before = Vec::from_slice(alloc, bytes.as_slice())?;
+fn grow(test: &Test<'_>, bytes: &mut BackVec, draws: &mut Draws) -> Result<(), AllocError> {
+    let before = Vec::from_slice(test.alloc(), bytes.as_slice())?;
     let mut front = [0; 50];
     let count = (draws.draw() % 50) as usize;
     let front = &mut front[..count];
@@ -43,24 +49,36 @@ fn grows(alloc: Global, bytes: &mut BackVec, draws: &mut Draws) -> Result<bool, 
     } else {
         bytes.extend_with_zeros(count)?;
     }
-    Ok(has_in_front(bytes, front, before.as_slice()))
+    check_in_front(test, bytes, front, before.as_slice());
+    Ok(())
 }
 
-fn step(alloc: Global, bytes: &mut BackVec, draws: &mut Draws) -> Result<bool, AllocError> {
+fn step(test: &Test<'_>, bytes: &mut BackVec, draws: &mut Draws) -> Result<(), AllocError> {
     match draws.draw() % 20 {
         0 | 1 => bytes.clear(),
-        2 => *bytes = new(alloc, draws)?,
-        _ => return grows(alloc, bytes, draws),
+        2 => *bytes = new(test.alloc(), draws)?,
+        _ => return grow(test, bytes, draws),
     }
-    Ok(bytes.len() == 0)
+    check_eq(test, &bytes.len(), &0, "an empty vector");
+    Ok(())
+}
+
+fn many_steps(test: &Test<'_>, draws: &mut Draws) -> Result<(), AllocError> {
+    let mut bytes = new(test.alloc(), draws)?;
+    for _ in 0..100000 {
+        step(test, &mut bytes, draws)?;
+    }
+    Ok(())
 }
 
 #[test]
 fn test_backvec(rt: HostRuntime) -> Result<(), Fail> {
+    let test = Test::new(&rt);
     let mut draws = Draws { last: 1 };
-    let mut bytes = new(rt.alloc(), &mut draws)?;
-    for number in 0..100000 {
-        assert!(rt; step(rt.alloc(), &mut bytes, &mut draws)?, "step {number}");
-    }
-    Ok(())
+    check(
+        &test,
+        many_steps(&test, &mut draws).is_ok(),
+        "memory for 100000 steps",
+    );
+    test.end()
 }

@@ -2,13 +2,12 @@
 
 ghost use Rattle.std.specs.Prelude.{◌≡◌, ⊤, codes};
 
-use super::super::calls::{item_calls_agree, part_calls_agree};
-use super::super::{parts_are_shown, push_numbers};
+use super::super::calls::{check_item_calls, check_part_calls};
+use super::super::{check_parts_shown, push_numbers};
 use super::unions;
-use crate::tests::check;
-use crate::tests::reading::prints;
 use planus_read::errors::ErrorKind;
 use planus_read::{Error, SliceWithStartOffset, TableRead, TableReadUnion, VectorReadUnion};
+use planus_testing::{Test, check, check_eq, check_prints};
 use planus_unions::UnionVector;
 use planus_view::CopyError;
 use std::alloc::{AllocError, Global};
@@ -61,46 +60,57 @@ fn held(item: Option<Result<Number, Error>>) -> Option<u32> {
     }
 }
 
-fn ends_are(v: UnionVector<'_, Number>, first: Option<u32>, last: Option<u32>) -> bool {
-    held(v.first()) == first
-        && held(v.last()) == last
-        && held(v.get(0usize)) == first
-        && held(v.iter().next_back()) == last
+fn check_ends(
+    test: &Test<'_>,
+    v: UnionVector<'_, Number>,
+    first: Option<u32>,
+    last: Option<u32>,
+    row: &str,
+) {
+    let firsts = [held(v.first()), held(v.get(0usize))];
+    let lasts = [held(v.last()), held(v.iter().next_back())];
+    check_eq(test, &firsts, &[first; 2], row);
+    check_eq(test, &lasts, &[last; 2], row);
 }
 
-fn bytes_agree(bytes: &[u8], len: usize, first: u32, last: u32) -> bool {
+fn check_calls(test: &Test<'_>, v: UnionVector<'_, Number>, len: usize, row: &str) {
+    check_item_calls(test, v, len, row);
+    check_part_calls(test, v, len, row);
+}
+
+fn check_unions(test: &Test<'_>, bytes: &[u8], len: usize, first: u32, last: u32, row: &str) {
     match unions(bytes, 0, 4) {
         Ok(v) => {
-            ends_are(v, Some(first), Some(last))
-                && item_calls_agree(v, len)
-                && part_calls_agree(v, len)
+            check_ends(test, v, Some(first), Some(last), row);
+            check_calls(test, v, len, row);
         }
-        Err(_) => false,
+        Err(kind) => check_eq(test, &Some(kind), &None, row),
     }
 }
 
-fn last_chunk_begins(five: UnionVector<'_, Number>, number: u32) -> bool {
-    let mut from_the_back = five.rchunks(2);
-    match from_the_back.next() {
-        Some(chunk) => held(chunk.first()) == Some(number),
-        None => false,
+fn check_last_chunk(test: &Test<'_>, five: UnionVector<'_, Number>) {
+    match five.rchunks(2).next() {
+        Some(chunk) => check_eq(test, &held(chunk.first()), &Some(13), "the last chunk"),
+        None => check(test, false, "the last chunk"),
     }
 }
 
-pub fn union_calls_agree() -> bool {
+pub fn check_union_calls(test: &Test<'_>) {
     let none = UnionVector::new_empty();
-    ends_are(none, None, None)
-        && item_calls_agree(none, 0)
-        && part_calls_agree(none, 0)
-        && bytes_agree(&ONE, 1, 0, 0)
-        && bytes_agree(&FIVE, 5, 10, 14)
-        && matches!(unions(&FIVE, 0, 4), Ok(five) if last_chunk_begins(five, 13))
+    check_ends(test, none, None, None, "no unions");
+    check_calls(test, none, 0, "no unions");
+    check_unions(test, &ONE, 1, 0, 0, "one union");
+    check_unions(test, &FIVE, 5, 10, 14, "five unions");
+    match unions(&FIVE, 0, 4) {
+        Ok(five) => check_last_chunk(test, five),
+        Err(_) => check(test, false, "five unions"),
+    }
 }
 
-fn five_are_shown(alloc: Global) -> bool {
+fn check_five_shown(test: &Test<'_>) {
     match unions::<Number>(&FIVE, 0, 4) {
-        Ok(five) => parts_are_shown(alloc, five),
-        Err(_) => false,
+        Ok(five) => check_parts_shown(test, five),
+        Err(_) => check(test, false, "five unions"),
     }
 }
 
@@ -117,24 +127,19 @@ fn copies_of(alloc: Global, bytes: &[u8]) -> Result<Vec<Number>, CopyError> {
     }
 }
 
-fn five_are_copied(alloc: Global) -> bool {
+fn check_five_copied(test: &Test<'_>) {
     let numbers = [Number(10), Number(11), Number(12), Number(13), Number(14)];
-    match copies_of(alloc, &FIVE) {
-        Ok(copies) => copies.as_slice() == numbers.as_slice(),
-        Err(_) => false,
+    match copies_of(test.alloc(), &FIVE) {
+        Ok(copies) => check_eq(test, &copies.as_slice(), &numbers.as_slice(), "copies"),
+        Err(error) => check_eq(test, &Some(error), &None, "copies"),
     }
 }
 
-fn damaged_are_refused(alloc: Global) -> bool {
-    match copies_of(alloc, &DAMAGED) {
-        Err(CopyError::Read(error)) => {
-            prints(
-                alloc,
-                &error,
-                "In <[Number]@1c>::get(): Unknown union (tag = 7)",
-            )
-        }
-        _ => false,
+fn check_damaged(test: &Test<'_>) {
+    let text = "In <[Number]@1c>::get(): Unknown union (tag = 7)";
+    match copies_of(test.alloc(), &DAMAGED) {
+        Err(CopyError::Read(error)) => check_prints(test, &error, text),
+        _ => check(test, false, text),
     }
 }
 
@@ -147,39 +152,33 @@ fn many_unions(alloc: Global) -> Result<Vec<u8>, AllocError> {
     Ok(bytes)
 }
 
-fn are_counted(copies: &[Number]) -> bool {
-    let mut want = 0;
-    for number in copies {
-        if number.0 != want {
-            return false;
-        }
-        want = want.wrapping_add(1);
+fn check_counted(test: &Test<'_>, copies: &[Number]) {
+    for (number, want) in copies.iter().zip(0..5003) {
+        check_eq(test, &number.0, &want, "one of many unions");
     }
-    want == 5003
+    check_eq(test, &copies.len(), &5003, "many unions");
 }
 
-fn many_are_copied(alloc: Global, bytes: &[u8]) -> bool {
-    match copies_of(alloc, bytes) {
-        Ok(copies) => are_counted(copies.as_slice()),
-        Err(_) => false,
+fn check_many(test: &Test<'_>, bytes: &[u8]) {
+    match copies_of(test.alloc(), bytes) {
+        Ok(copies) => check_counted(test, copies.as_slice()),
+        Err(error) => check_eq(test, &Some(error), &None, "many unions"),
     }
 }
 
 #[test]
 fn copies_of_5003_unions(rt: HostRuntime) -> Result<(), Fail> {
     let bytes = many_unions(rt.alloc())?;
-    check(
-        &rt,
-        many_are_copied(rt.alloc(), bytes.as_slice()),
-        "many are copied",
-    );
-    Ok(())
+    let test = Test::new(&rt);
+    check_many(&test, bytes.as_slice());
+    test.end()
 }
 
 #[test]
-fn five_unions(rt: HostRuntime) {
-    let alloc = rt.alloc();
-    check(&rt, five_are_shown(alloc), "shown");
-    let copied = five_are_copied(alloc) && damaged_are_refused(alloc);
-    check(&rt, copied, "copied");
+fn five_unions(rt: HostRuntime) -> Result<(), Fail> {
+    let test = Test::new(&rt);
+    check_five_shown(&test);
+    check_five_copied(&test);
+    check_damaged(&test);
+    test.end()
 }

@@ -1,8 +1,9 @@
 ghost use Rattle.std.specs.Prelude.{⊤, ◌<◌, ◌^◌, length};
 
-use super::super::calls::{item_calls_agree, part_calls_agree};
+use super::super::calls::{check_item_calls, check_part_calls};
 use super::FIVE;
 use planus_read::{Error, SliceWithStartOffset, Stride, TableRead, VectorRead};
+use planus_testing::{Test, check};
 use planus_view::Vector;
 
 #[derive(Clone, Copy)]
@@ -30,38 +31,55 @@ const FIVE_TEXTS: [u8; 33] = [
 
 const ONE: [u8; 10] = [4, 0, 0, 0, 1, 0, 0, 0, 1, 0];
 
-fn calls_agree<'buf, T: VectorRead<'buf> + Drop>(v: Vector<'buf, T>, len: usize) -> bool {
-    item_calls_agree(v, len) && part_calls_agree(v, len)
+fn check_calls<'buf, T: VectorRead<'buf> + Drop>(
+    test: &Test<'_>,
+    v: Vector<'buf, T>,
+    len: usize,
+    row: &str,
+) {
+    check_item_calls(test, v, len, row);
+    check_part_calls(test, v, len, row);
 }
 
-fn bytes_agree<'buf, T: VectorRead<'buf> + Drop>(bytes: &'buf [u8], len: usize) -> bool
+fn check_list<'buf, T: VectorRead<'buf> + Drop>(
+    test: &Test<'_>,
+    bytes: &'buf [u8],
+    len: usize,
+    row: &str,
+)
     requires { length bytes.now < 2 ^ 63 }
 {
     match Vector::<'buf, T>::from_buffer(SliceWithStartOffset::new(bytes, 0), 0) {
-        Ok(v) => calls_agree(v, len),
-        Err(_) => false,
+        Ok(v) => check_calls(test, v, len, row),
+        Err(_) => check(test, false, row),
     }
 }
 
-fn all_agree<'buf, T: VectorRead<'buf> + Drop>(one: &'buf [u8], five: &'buf [u8]) -> bool
+fn check_lists<'buf, T: VectorRead<'buf> + Drop>(
+    test: &Test<'_>,
+    one: &'buf [u8],
+    five: &'buf [u8],
+    row: &str,
+)
     requires { (length one.now < 2 ^ 63) × (length five.now < 2 ^ 63) }
 {
-    calls_agree(Vector::<'buf, T>::new_empty(), 0)
-        && bytes_agree::<T>(one, 1)
-        && bytes_agree::<T>(five, 5)
+    check_calls(test, Vector::<'buf, T>::new_empty(), 0, row);
+    check_list::<T>(test, one, 1, row);
+    check_list::<T>(test, five, 5, row);
 }
 
-fn seconds_are_read() -> bool {
+fn check_seconds(test: &Test<'_>) {
     let five: Result<Vector<'_, Second>, _> = Vector::from_buffer(
         SliceWithStartOffset::new(&FIVE, 0),
         0,
     );
-    matches!(five, Ok(five) if matches!(five.get(4), Some(Second(0))))
+    let is_read = matches!(five, Ok(five) if matches!(five.get(4), Some(Second(0))));
+    check(test, is_read, "the second byte of the fifth number");
 }
 
-pub fn vector_calls_agree() -> bool {
-    all_agree::<u16>(&ONE, &FIVE)
-        && all_agree::<Result<&str, Error>>(&ONE_TEXT, &FIVE_TEXTS)
-        && all_agree::<Second>(&ONE, &FIVE)
-        && seconds_are_read()
+pub fn check_vector_calls(test: &Test<'_>) {
+    check_lists::<u16>(test, &ONE, &FIVE, "numbers");
+    check_lists::<Result<&str, Error>>(test, &ONE_TEXT, &FIVE_TEXTS, "strings");
+    check_lists::<Second>(test, &ONE, &FIVE, "second bytes");
+    check_seconds(test);
 }

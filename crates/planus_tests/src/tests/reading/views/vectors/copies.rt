@@ -4,9 +4,8 @@ use super::super::calls::taken;
 use super::super::push_numbers;
 use super::rows::{DAMAGED, TEXTS, texts};
 use super::{five, numbers};
-use crate::tests::check;
-use crate::tests::reading::prints;
 use planus_read::errors::ErrorKind;
+use planus_testing::{Test, check, check_eq, check_prints};
 use planus_view::{CopyError, FromItem, Vector};
 use std::alloc::{AllocError, Global};
 use std::test::Fail;
@@ -29,30 +28,46 @@ impl FromItem<u16> for Small {
     }
 }
 
-pub fn numbers_are_copied(alloc: Global) -> bool {
-    match five().to_vec::<u16>(alloc) {
-        Ok(same) => same.as_slice() == [1, 2, 3, 4, 5].as_slice(),
-        Err(_) => false,
+pub fn check_copy(test: &Test<'_>) {
+    match five().to_vec::<u16>(test.alloc()) {
+        Ok(same) => check_eq(
+            test,
+            &same.as_slice(),
+            &[1, 2, 3, 4, 5].as_slice(),
+            "a copy",
+        ),
+        Err(error) => check_eq(test, &Some(error), &None, "a copy"),
     }
 }
 
-fn small_numbers_are_copied(alloc: Global) -> bool {
+fn check_converted(test: &Test<'_>) {
     let Some(four) = five().get(..4) else {
-        return false;
+        return check(test, false, "the first four numbers");
     };
-    let four_are = match four.to_vec::<Small>(alloc) {
-        Ok(small) => small.len() == 4,
-        Err(_) => false,
-    };
-    let five_are_not = match five().to_vec::<Small>(alloc) {
-        Err(CopyError::Read(e)) => e.source_location.type_ == "Small",
-        _ => false,
-    };
-    four_are && five_are_not
+    match four.to_vec::<Small>(test.alloc()) {
+        Ok(small) => check_eq(test, &small.len(), &4, "four small numbers"),
+        Err(_) => check(test, false, "four small numbers"),
+    }
+    let refusal = five().to_vec::<Small>(test.alloc()).err();
+    check_refused(
+        test,
+        refusal,
+        "Small",
+        "five numbers, one of them not small",
+    );
 }
 
-pub fn copies_are_refused(alloc: Global) -> bool {
-    matches!(five().to_vec::<u16>(alloc), Err(CopyError::OutOfMemory))
+fn check_refused(test: &Test<'_>, refusal: Option<CopyError>, type_: &str, row: &str) {
+    match refusal {
+        Some(CopyError::Read(error)) => {
+            check_eq(test, &error.source_location.type_, &type_, row);
+        }
+        _ => check(test, false, row),
+    }
+}
+
+pub fn refusal_of_copy(alloc: Global) -> Option<CopyError> {
+    five().to_vec::<u16>(alloc).err()
 }
 
 fn texts_of(alloc: Global, bytes: &[u8]) -> Result<Vec<String>, CopyError> {
@@ -62,40 +77,36 @@ fn texts_of(alloc: Global, bytes: &[u8]) -> Result<Vec<String>, CopyError> {
     }
 }
 
-fn texts_are_copied(alloc: Global) -> bool {
-    match texts_of(alloc, &TEXTS) {
+fn check_texts(test: &Test<'_>) {
+    match texts_of(test.alloc(), &TEXTS) {
         Ok(copies) => {
-            matches!(copies.as_slice(), [a, b] if a.as_str() == "A" && b.as_str() == "B")
+            let is_a_b = matches!(
+                copies.as_slice(),
+                [a, b] if a.as_str() == "A" && b.as_str() == "B"
+            );
+            check(test, is_a_b, "the strings A and B");
         }
-        Err(_) => false,
+        Err(_) => check(test, false, "the strings A and B"),
     }
 }
 
-fn damaged_texts_are_refused(alloc: Global) -> bool {
-    match texts_of(alloc, &DAMAGED) {
-        Err(CopyError::Read(error)) => {
-            prints(
-                alloc,
-                &error,
-                "In <[str]@c>::get(): Missing null terminator",
-            )
-        }
-        _ => false,
+fn check_damaged_texts(test: &Test<'_>) {
+    let text = "In <[str]@c>::get(): Missing null terminator";
+    match texts_of(test.alloc(), &DAMAGED) {
+        Err(CopyError::Read(error)) => check_prints(test, &error, text),
+        _ => check(test, false, text),
     }
 }
 
 #[test]
-fn items_are_copied(rt: HostRuntime) {
-    let alloc = rt.alloc();
-    check(&rt, small_numbers_are_copied(alloc), "converted");
-    let copied = texts_are_copied(alloc) && damaged_texts_are_refused(alloc);
-    check(&rt, copied, "texts");
+fn items_are_copied(rt: HostRuntime) -> Result<(), Fail> {
+    let test = Test::new(&rt);
+    check_converted(&test);
+    check_texts(&test);
+    check_damaged_texts(&test);
     let error = ErrorKind::InvalidOffset.with_error_location("T", "get", 0);
-    check(
-        &rt,
-        matches!(CopyError::from(error), CopyError::Read(e) if e.source_location.type_ == "T"),
-        "an error",
-    );
+    check_refused(&test, Some(CopyError::from(error)), "T", "an error");
+    test.end()
 }
 
 fn many_numbers(alloc: Global) -> Result<Vec<u8>, AllocError> {
@@ -104,23 +115,25 @@ fn many_numbers(alloc: Global) -> Result<Vec<u8>, AllocError> {
     Ok(bytes)
 }
 
-fn are_counted(copies: &[u16]) -> bool {
-    let mut want = 0;
-    for number in copies {
-        if *number != want {
-            return false;
-        }
-        want = want.wrapping_add(1);
+fn check_counted(test: &Test<'_>, copies: &[u16]) {
+    for (number, want) in copies.iter().zip(0..5003) {
+        check_eq(test, number, &want, "one of many numbers");
     }
-    want == 5003
+    check_eq(test, &copies.len(), &5003, "many numbers");
 }
 
-fn many_are_copied(alloc: Global, many: Vector<'_, u16>) -> bool {
-    let copied = match many.to_vec::<u16>(alloc) {
-        Ok(copies) => are_counted(copies.as_slice()),
-        Err(_) => false,
-    };
-    copied && many.iter().clone().unwrap().count() == 5003 && taken(many.chunks(7)) == 5003
+fn check_many(test: &Test<'_>, many: Vector<'_, u16>) {
+    match many.to_vec::<u16>(test.alloc()) {
+        Ok(copies) => check_counted(test, copies.as_slice()),
+        Err(_) => check(test, false, "many numbers"),
+    }
+    check_eq(
+        test,
+        &many.iter().clone().unwrap().count(),
+        &5003,
+        "many items",
+    );
+    check_eq(test, &taken(many.chunks(7)), &5003, "many items in chunks");
 }
 
 // A string of 5003 letters and one of one letter.
@@ -133,33 +146,34 @@ fn a_long_text(alloc: Global) -> Result<Vec<u8>, AllocError> {
     Ok(bytes)
 }
 
-fn a_long_text_is_copied(alloc: Global, bytes: &[u8]) -> bool {
+fn check_long_text(test: &Test<'_>, bytes: &[u8]) {
     let Some(behind) = bytes.get(20..) else {
-        return false;
+        return check(test, false, "a long string");
     };
-    match texts_of(alloc, bytes) {
+    match texts_of(test.alloc(), bytes) {
         Ok(copies) => {
-            matches!(copies.as_slice(), [a, b] if a.len() == 5003
+            let is_copied = matches!(copies.as_slice(), [a, b] if a.len() == 5003
                 && behind.starts_with(a.as_bytes())
-                && b.as_str() == "B")
+                && b.as_str() == "B");
+            check(test, is_copied, "a long string, and another");
         }
-        Err(_) => false,
+        Err(_) => check(test, false, "a long string, and another"),
     }
 }
 
 #[test]
-fn many_and_long_items_are_copied(rt: HostRuntime) -> Result<(), Fail> {
+fn many_numbers_are_copied(rt: HostRuntime) -> Result<(), Fail> {
     let list = many_numbers(rt.alloc())?;
-    check(
-        &rt,
-        many_are_copied(rt.alloc(), numbers(list.as_slice())?),
-        "many",
-    );
+    let many = numbers(list.as_slice())?;
+    let test = Test::new(&rt);
+    check_many(&test, many);
+    test.end()
+}
+
+#[test]
+fn a_long_text_is_copied(rt: HostRuntime) -> Result<(), Fail> {
     let text = a_long_text(rt.alloc())?;
-    check(
-        &rt,
-        a_long_text_is_copied(rt.alloc(), text.as_slice()),
-        "long",
-    );
-    Ok(())
+    let test = Test::new(&rt);
+    check_long_text(&test, text.as_slice());
+    test.end()
 }
