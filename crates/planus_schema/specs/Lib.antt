@@ -1,7 +1,6 @@
 pub mod Names
 pub mod Wrong
 pub mod Enums
-pub mod Index
 pub mod Structs
 pub mod WrongEnums
 pub mod Unions

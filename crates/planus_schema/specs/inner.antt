@@ -1,2 +1,3 @@
 pub mod Scopes
 pub mod Read
+pub mod Index

@@ -3,7 +3,7 @@
 ghost use Rattle.std.specs.Prelude.{◌≡◌, slice_get, map, IfOk};
 ghost use Rattle.std.specs.Option.{option_map};
 ghost use Rattle.planus_schema.specs.Names.{head_of, index_of as index_of_lem};
-ghost use Rattle.planus_schema.specs.Index.{IsIndex};
+ghost use Rattle.planus_schema.specs.inner.Index.{IsIndex};
 
 use crate::head::Head;
 use std::alloc::{AllocError, Global};
@@ -22,7 +22,7 @@ impl<'h> Model for Heads<'h> {
     ghost use Rattle.std.specs.Prelude.{List, map};
     ghost use Rattle.planus_schema.specs.declared.head.Head.{Head};
     ghost use Rattle.planus_schema.specs.Names.{head_of};
-    ghost use Rattle.planus_schema.specs.Index.{IsIndex};
+    ghost use Rattle.planus_schema.specs.inner.Index.{IsIndex};
 
     ghost Value = { List Head };
 

@@ -6,7 +6,7 @@ ghost use Rattle.planus_back.specs.Caches.{Fits, IsFound};
 mod random;
 
 use crate::tests::writing::PlaceWord;
-use planus_back::{BackVec, ByteVec, Cache, GetCacheKey, Promises, TooLarge, VTable, laws};
+use planus_back::{BackVec, ByteVec, Cache, GetCacheKey, Promises, TooLarge, VTable, Zeroed, laws};
 use planus_testing::{Test, check, check_bytes, check_eq, check_shows};
 use std::alloc::{AllocError, Global};
 use std::test::Fail;
@@ -102,7 +102,7 @@ fn put_each(bytes: &mut BackVec)
     bytes.put_three_padded(0, b"<", b"body", b">>");
     bytes.put_zeros(0);
     bytes.put_zeros(3);
-    bytes.put_filled(0x4030201, 4, &PlaceWord);
+    bytes.put_overwritten(0x4030201, 4, &Zeroed(&PlaceWord));
     bytes.put_overwritten(0x8070605, 4, &PlaceWord);
 }
 
@@ -233,7 +233,7 @@ fn add_signed(
     ensures { OnOk result (Fits bytes_in cache.new bytes.now) }
 {
     match ByteVec::key_at(bytes, distance) {
-        Some(b"H\xfe") => cache.insert_in(cache.bucket_of_signed(&SIGNED), distance),
+        Some(b"H\xfe") => cache.insert_in(cache.bucket_of(&SIGNED), distance),
         found => {
             check_eq(
                 test,
@@ -251,7 +251,7 @@ fn get_signed(cache: &Cache<ByteVec>, bytes: &[u8], key: &[i8]) -> Option<u32>
     ensures { IsFound bytes_in cache.now bytes.now (map (λ number. cast_unsigned w8 number) key.now)
         result }
 {
-    cache.get_signed_in(cache.bucket_of_signed(key), bytes, key)
+    cache.get_in(cache.bucket_of(key), bytes, key)
 }
 
 fn check_found(

@@ -5,7 +5,7 @@ use Rattle.std.proofs.lemmas.Iterator.Adapters.{position_from-zero}
 use Rattle.std.proofs.lemmas.Map.Text.{btree_map_updates_str}
 use Rattle.planus_schema.specs.declared.head.Head.{Head}
 use Rattle.planus_schema.specs.Names.{head_of, has_name}
-use Rattle.planus_schema.specs.Index.{index_at}
+use Rattle.planus_schema.specs.inner.Index.{index_at}
 use Rattle.planus_schema.proofs.IndexLemmas.{one_before}
 use Rattle.planus_schema.proofs.heads.Heads.new.Goals as goal
 
