@@ -9,7 +9,7 @@ use Rattle.std.specs.Option.{option_map, unwrap_or, MatchOption}
 use Rattle.std.specs.Map.{lookup, set_value}
 use Rattle.std.proofs.lemmas.Map.Made.{lookup-map_values}
 use Rattle.std.proofs.lemmas.Map.Steps.{set_value_same}
-use Rattle.planus_back.specs.Buckets.{lists_of, listed_at, distances_at, AddsAt, FoundAmong}
+use Rattle.planus_back.specs.Buckets.{lists_of, listed_at, distances_at, AddsAt, AreKeys, FoundAmong}
 
 abbrev pub items_of : Vec ℕ Global → List ℕ
 items_of distances = distances.items
@@ -87,3 +87,16 @@ module _ (key_in : List ℕ → Option (List ℕ)) (bytes key xs ys : List ℕ) 
         | inr le ↦ (let e : get_or (xs ++ ys) i 0 ≡ get_or ys (i - length xs) 0 = grind (arith, common_steps, le) in none (i - length xs) (grind (arith, common_steps, below, le)) (rw (← e) stands))
       ]
   found_before (Some d) none found = ((found.0.0, grind (arith, common_steps, found.0.1), grind (arith, common_steps, found.0.1, found.0.2)), found.1)
+
+module _ (key_in : List ℕ → Option (List ℕ)) (bytes xs ys : List ℕ) (keys : AreKeys key_in (xs ++ ys) bytes) where
+  pub keys_before : AreKeys key_in xs bytes
+  keys_before i below =
+      let k = keys i (grind (arith, common_steps, below)) in
+      let e : get_or (xs ++ ys) i 0 ≡ get_or xs i 0 = grind (arith, common_steps, below) in
+      (k.0, rw (← e) k.1)
+
+  pub keys_last : AreKeys key_in ys bytes
+  keys_last i below =
+      let k = keys (length xs + i) (grind (arith, common_steps, below)) in
+      let e : get_or (xs ++ ys) (length xs + i) 0 ≡ get_or ys i 0 = grind (arith, common_steps, below) in
+      (k.0, rw (← e) k.1)

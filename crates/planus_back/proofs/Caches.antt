@@ -14,8 +14,8 @@ use Rattle.planus_back.specs.declared.bucket.Bucket.{Bucket}
 use Rattle.planus_back.specs.Numbers.{number_of}
 use Rattle.planus_back.specs.Caches.{CacheView, Has, Fits, bucket}
 use Rattle.planus_back.specs.Caches.{IsEmpty, Adds, FitsWhereKeyStands, FitsWhereItsKeyStands, IsBucketOf, IsFound}
-use Rattle.planus_back.specs.Buckets.{listed_at, distances_at, AddsAt, FoundAmong}
-use Rattle.planus_back.proofs.Buckets.{found_last, found_before}
+use Rattle.planus_back.specs.Buckets.{listed_at, distances_at, AddsAt, AreKeys, FoundAmong}
+use Rattle.planus_back.proofs.Buckets.{found_last, found_before, keys_before, keys_last}
 
 pub IsEmpty-nil : (s : CacheView) → s.last ≡ [] → s.earlier ≡ [] → IsEmpty s
 unfolding Has
@@ -141,6 +141,17 @@ module _ (key_in : List ℕ → Option (List ℕ)) (old : CacheView) (b : Bucket
 
   pub found_nowhere : (o : Option ℕ) → o ≡ None → FoundAmong key_in the_last bytes key o → old.earlier ≡ [] → IsFound key_in old bytes key None
   found_nowhere o is none empty = found_in_earlier o None is none (rw empty (λ i below. absurd (omega (arith, below))))
+
+keys_in : (key_in : List ℕ → Option (List ℕ)) (s : CacheView) (bytes : List ℕ) (h : ℕ) → Fits key_in s bytes → AreKeys key_in (bucket s h) bytes
+unfolding Fits
+keys_in key_in s bytes h fits i below = let f = fits h i below in (f.0, f.1)
+
+pub keys_in_last : (key_in : List ℕ → Option (List ℕ)) (s : CacheView) (bytes : List ℕ) (h : ℕ) → Fits key_in s bytes
+    → AreKeys key_in (option_to_list (lookup (nat_eq h) s.last)) bytes
+keys_in_last key_in s bytes h fits = keys_last key_in bytes (listed_at s.earlier h) _ (keys_in key_in s bytes h fits)
+
+pub keys_in_earlier : (key_in : List ℕ → Option (List ℕ)) (s : CacheView) (bytes : List ℕ) (h : ℕ) → Fits key_in s bytes → AreKeys key_in (listed_at s.earlier h) bytes
+keys_in_earlier key_in s bytes h fits = keys_before key_in bytes (listed_at s.earlier h) (option_to_list (lookup (nat_eq h) s.last)) (keys_in key_in s bytes h fits)
 
 pub Has-stands : (key_in : List ℕ → Option (List ℕ)) (s : CacheView) (bytes : List ℕ) (d : ℕ) → Fits key_in s bytes → Has s d → (key : List ℕ) × (key_at key_in bytes d ≡ Some key)
 unfolding Fits Has

@@ -21,6 +21,12 @@ abbrev pub AddsAt : (ℕ → List ℕ) → ℕ → ℕ → (ℕ → List ℕ) �
 AddsAt old number distance new =
     (other : ℕ) → new other ≡ cond (nat_eq number other) (old number ++ distance ∷ []) (old other)
 
+-- a key is at each of the distances
+abbrev pub AreKeys : (List ℕ → Option (List ℕ)) → List ℕ → List ℕ → Type 0
+AreKeys key_in distances bytes =
+    (i : ℕ) → i < length distances
+    → (key : List ℕ) × (key_at key_in bytes (slice_index distances i) ≡ Some key)
+
 -- one of the distances where the key is, or none if there is none
 abbrev pub FoundAmong : (List ℕ → Option (List ℕ)) → List ℕ → List ℕ → List ℕ → Option ℕ → Type 0
 FoundAmong key_in distances bytes key answer =

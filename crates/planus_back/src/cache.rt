@@ -1,7 +1,8 @@
 //! Contents of growing bytes, by their hash.
 ghost use Rattle.std.specs.Prelude.{◌≡◌, OnOk, OnErr, IfOk, nat_eq, option_to_list};
 ghost use Rattle.std.specs.Map.{lookup};
-ghost use Rattle.planus_back.specs.Buckets.{lists_of, listed_at, distances_at, AddsAt, FoundAmong};
+ghost use Rattle.planus_back.specs.Buckets.{lists_of, listed_at, distances_at, AddsAt, AreKeys};
+ghost use Rattle.planus_back.specs.Buckets.{FoundAmong};
 ghost use Rattle.planus_back.specs.Caches.{Fits, IsEmpty, IsBucketOf, IsFound, Adds};
 ghost use Rattle.planus_back.specs.Caches.{FitsWhereKeyStands, FitsWhereItsKeyStands};
 
@@ -41,20 +42,20 @@ impl<C> Model for Cache<C> {
     } };
 }
 
-/// Returns the first of some distances where a key is in the bytes, or `None`.
+/// Returns the first of some distances where a key is in the bytes, or `None`. Some key must be at
+/// each.
 #[inline]
 pub fn find_key<C: GetCacheKey, T: Byte>(
     distances: &[u32],
     serialized: &[u8],
     key: &[T],
 ) -> Option<u32>
+    requires { AreKeys C.key_in distances.now serialized.now }
     ensures { FoundAmong C.key_in distances.now serialized.now (T.bytes_of key.now) result }
 {
     for distance in distances {
-        if let Some(found) = C::key_at(serialized, *distance) {
-            if T::are(key, found) {
-                return Some(*distance);
-            }
+        if T::are(key, C::key_there(serialized, *distance)) {
+            return Some(*distance);
         }
     }
     None
@@ -172,6 +173,7 @@ impl<C: GetCacheKey> Cache<C> {
 
     #[inline(always)]
     fn last_in<T: Byte>(&self, bucket: Bucket, serialized: &[u8], key: &[T]) -> Option<u32>
+        requires { Fits C.key_in self.now serialized.now }
         ensures { FoundAmong C.key_in
             (option_to_list (lookup (nat_eq bucket.number) self.now.last)) serialized.now
             (T.bytes_of key.now) result }
@@ -185,6 +187,7 @@ impl<C: GetCacheKey> Cache<C> {
     #[cold]
     #[inline(never)]
     fn earlier_in<T: Byte>(&self, bucket: Bucket, serialized: &[u8], key: &[T]) -> Option<u32>
+        requires { Fits C.key_in self.now serialized.now }
         ensures { FoundAmong C.key_in (listed_at self.now.earlier bucket.number) serialized.now
             (T.bytes_of key.now) result }
     {
@@ -225,7 +228,7 @@ impl<C: GetCacheKey> Cache<C> {
     }
 
     /// [`Cache::get`] of a key whose bucket is known.
-    #[inline(never)]
+    #[inline(always)]
     pub fn get_in<T: Byte>(&self, bucket: Bucket, serialized: &[u8], key: &[T]) -> Option<u32>
         requires fits { Fits C.key_in self.now serialized.now }
         requires bucket { IsBucketOf self.now (T.bytes_of key.now) bucket }

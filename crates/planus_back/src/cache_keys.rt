@@ -12,6 +12,11 @@ pub trait GetCacheKey {
     /// wholly in `serialized`.
     fn key_at(serialized: &[u8], distance: u32) -> Option<&[u8]>
         ensures { option_copied result ≡ key_at key_in serialized.now distance };
+
+    /// Returns the key of the contents at a distance where there is one.
+    fn key_there(serialized: &[u8], distance: u32) -> &[u8]
+        requires { (key : List ℕ) × (key_at key_in serialized.now distance ≡ Some key) }
+        ensures { key_at key_in serialized.now distance ≡ Some result.now };
 }
 
 /// The kind of vtables: a key is a whole vtable, its own size first.
@@ -39,6 +44,15 @@ impl GetCacheKey for VTable {
         let size = u16::from_le_bytes(*bytes.first_chunk::<2>()?) as usize;
         bytes.get(..size)
     }
+
+    #[inline]
+    fn key_there(serialized: &[u8], distance: u32) -> &[u8] {
+        let bytes = &serialized[serialized.len() - distance as usize..];
+        match bytes.first_chunk::<2>() {
+            Some(size) => &bytes[..u16::from_le_bytes(*size) as usize],
+            None => unreachable!(),
+        }
+    }
 }
 
 impl GetCacheKey for ByteVec {
@@ -48,5 +62,14 @@ impl GetCacheKey for ByteVec {
         let bytes = last_bytes(serialized, distance)?;
         let count = u32::from_le_bytes(*bytes.first_chunk::<4>()?) as usize;
         bytes[4..].get(..count)
+    }
+
+    #[inline]
+    fn key_there(serialized: &[u8], distance: u32) -> &[u8] {
+        let bytes = &serialized[serialized.len() - distance as usize..];
+        match bytes.first_chunk::<4>() {
+            Some(count) => &bytes[4..4 + u32::from_le_bytes(*count) as usize],
+            None => unreachable!(),
+        }
     }
 }

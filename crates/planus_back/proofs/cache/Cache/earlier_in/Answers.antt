@@ -1,7 +1,14 @@
 use Rattle.std.proofs.Common.{arith, sym, ap, ◌∙◌}
 use Rattle.std.specs.Option.{option_copied}
 use Rattle.planus_back.proofs.Buckets.{at_listed}
+use Rattle.planus_back.proofs.Caches.{keys_in_earlier}
 use Rattle.planus_back.proofs.cache.Cache.earlier_in.Goals as goal
+
+pub find_key-requires : goal.find_key-requires
+find_key-requires g c =
+    let key_in = g.C.GetCacheKey.key_in in
+    rw (← c.self.view_is, at_listed c.args.bucket.number _ _ (sym c.get.ensures.value ∙ ap option_copied c.in-Some.is), ← c.as_slice.ensures.value) at
+    (keys_in_earlier key_in c.args.self.now c.args.serialized.now c.args.bucket.number c.requires)
 
 pub returns-in-Some : goal.returns-in-Some
 returns-in-Some g c = rw (← c.self.view_is, at_listed c.args.bucket.number _ _ (sym c.get.ensures.value ∙ ap option_copied c.in-Some.is), ← c.as_slice.ensures.value) c.find_key.ensures
