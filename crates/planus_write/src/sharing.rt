@@ -3,7 +3,7 @@ ghost use Rattle.std.specs.Prelude.{◌≡◌, ◌+◌, ◌≤◌, ◌^◌, true
 ghost use Rattle.planus_back.specs.Caches.{IsEmpty};
 ghost use Rattle.planus_back.specs.Promises.{IsPowerOfTwo};
 ghost use Rattle.planus_write.specs.Holding.{few, many, HoldingFits, HoldsNothing, FindsHeld};
-ghost use Rattle.planus_write.specs.inner.Sharing.{LooksIn, KeepsIf, PlansShared};
+ghost use Rattle.planus_write.specs.inner.Sharing.{LooksIn, LooksIf, KeepsIf, PlansShared};
 ghost use Rattle.planus_write.specs.inner.Sharing.{FindsOrPlans};
 
 use crate::backing::{Backing, Plan};
@@ -65,7 +65,7 @@ impl<C: GetCacheKey> Sharing<C> {
     }
 
     #[inline(always)]
-    fn bucket_of<B: Byte>(&self, contents: &[B]) -> Option<Bucket>
+    pub(crate) fn bucket_of<B: Byte>(&self, contents: &[B]) -> Option<Bucket>
         ensures { LooksIn self.now.holding (B.bytes_of contents.now) result }
     {
         if self.is_many {
@@ -75,7 +75,7 @@ impl<C: GetCacheKey> Sharing<C> {
     }
 
     #[inline(always)]
-    fn find_in<B: Byte>(
+    pub(crate) fn find_in<B: Byte>(
         &self,
         bucket: Option<Bucket>,
         serialized: &[u8],
@@ -183,7 +183,8 @@ fn fill<C: GetCacheKey, B: Byte>(
 
 // Fails in this order: too large, memory for padding and part, memory for the cache.
 #[inline(always)]
-pub(crate) fn plan_shared<C: GetCacheKey, B: Byte>(
+pub(crate) fn plan_if<C: GetCacheKey, B: Byte>(
+    shared: bool,
     backing: &mut Backing,
     sharing: &mut Sharing<C>,
     bucket: Option<Bucket>,
@@ -193,14 +194,16 @@ pub(crate) fn plan_shared<C: GetCacheKey, B: Byte>(
 ) -> Result<Plan, BuildError>
     requires power { IsPowerOfTwo (mask + 1) }
     requires bound { mask + 1 ≤ 2 ^ 30 }
-    requires on { sharing.old.on ≡ true }
+    requires on { sharing.old.on ≡ shared }
     requires fits { HoldingFits C.key_in sharing.old.holding backing.old.bytes }
-    requires bucket { LooksIn sharing.old.holding (B.bytes_of contents.now) bucket }
+    requires bucket { LooksIf shared sharing.old.holding (B.bytes_of contents.now) bucket }
     ensures { PlansShared C.key_in (B.bytes_of contents.now) size (mask + 1)
         backing.old sharing.old result backing.new sharing.new }
 {
     let plan = backing.plan_room(size, mask)?;
-    sharing.keep_in(bucket, backing.as_slice(), contents, plan.place)?;
+    if shared {
+        sharing.keep_in(bucket, backing.as_slice(), contents, plan.place)?;
+    }
     Ok(plan)
 }
 
@@ -227,7 +230,7 @@ pub(crate) fn find_or_plan<C: GetCacheKey, B: Byte>(
     if let Some(distance) = sharing.find_in(bucket, backing.as_slice(), contents) {
         return Ok(Lookup::Found(distance));
     }
-    let plan = plan_shared(backing, sharing, bucket, contents, size, mask)?;
+    let plan = plan_if(true, backing, sharing, bucket, contents, size, mask)?;
     Ok(Lookup::Planned(plan))
 }
 

@@ -1,7 +1,7 @@
 -- How contents that may be shared are looked up and remembered.
 use Rattle.std.specs.Prelude.{◌≡◌, ◌+◌, ◌≤◌, List, Bool, true, false, Option, Some, None, Result}
 use Rattle.std.specs.Prelude.{Ok}
-use Rattle.std.specs.Prelude.{ℕ, Err, length}
+use Rattle.std.specs.Prelude.{ℕ, Err, length, ⊤}
 use Rattle.planus_back.specs.Caches.{IsBucketOf}
 use Rattle.planus_back.specs.Padding.{greatest_place}
 use Rattle.planus_back.specs.declared.bucket.Bucket.{Bucket}
@@ -22,6 +22,10 @@ abbrev pub LooksIn : Holding → List ℕ → Option Bucket → Type 0
 LooksIn (few distances) contents bucket = bucket ≡ None
 LooksIn (many held) contents (Some bucket) = IsBucketOf held contents bucket
 LooksIn (many held) contents None = ⊥
+
+abbrev pub LooksIf : Bool → Holding → List ℕ → Option Bucket → Type 0
+LooksIf true holding contents bucket = LooksIn holding contents bucket
+LooksIf false holding contents bucket = ⊤
 
 abbrev pub FindsIf : Bool → FindContents → Holding → List ℕ → List ℕ → Option ℕ → Type 0
 FindsIf true contents_in holding bytes contents answer =

@@ -1,6 +1,9 @@
 //! Strings.
 
-ghost use Rattle.std.specs.Prelude.{◌≡◌, [], true, false};
+ghost use Rattle.std.specs.Prelude.{◌≡◌, [], true, false, None};
+ghost use Rattle.planus_back.specs.CacheKeys.{bytes_in};
+ghost use Rattle.planus_write.specs.Holding.{FindsHeld};
+ghost use Rattle.planus_write.specs.inner.Sharing.{FindsIf, LooksIf, LooksIn};
 ghost use Rattle.planus_write.specs.Parts.{text_entry};
 ghost use Rattle.planus_write.specs.inner.Written.{place_of};
 ghost use Rattle.planus_write.specs.Placing.{WritesEntry};
@@ -10,9 +13,10 @@ use crate::backing::WORD_MASK;
 use crate::builder::Builder;
 use crate::errors::BuildError;
 use crate::offset::{Offset, Text};
-use crate::sharing::{Lookup, find_or_plan};
+use crate::sharing::plan_if;
 use crate::text_part::TextPart;
 use crate::written::Written;
+use planus_back::Bucket;
 
 impl Builder {
     // Both functions share one body, so that the code without a cache has nothing of the lookup.
@@ -27,12 +31,28 @@ impl Builder {
         }
     }
 
+    // Equal contents are found with few registers, since what follows is out of line.
     #[inline(never)]
     fn write_shared_text(&mut self, text: &str) -> Written
         requires { self.old.settings.texts_on ≡ true }
         ensures { WritesEntry (text_entry text.now) [] self.old (place_of result) self.new }
     {
-        Written::from(self.write_text_if(true, text))
+        let bytes = text.as_bytes();
+        let bucket = self.texts.bucket_of(bytes);
+        match self.texts.find_in(bucket, self.backing.as_slice(), bytes) {
+            Some(distance) => Written::At(distance),
+            None => self.write_other_text(bucket, text),
+        }
+    }
+
+    #[inline(never)]
+    fn write_other_text(&mut self, bucket: Option<Bucket>, text: &str) -> Written
+        requires on { self.old.settings.texts_on ≡ true }
+        requires bucket { LooksIn self.old.holdings.held_texts text.now bucket }
+        requires new { FindsHeld bytes_in self.old.holdings.held_texts self.old.bytes text.now None }
+        ensures { WritesEntry (text_entry text.now) [] self.old (place_of result) self.new }
+    {
+        Written::from(self.put_text(true, bucket, text))
     }
 
     #[inline(never)]
@@ -40,30 +60,34 @@ impl Builder {
         requires { self.old.settings.texts_on ≡ false }
         ensures { WritesEntry (text_entry text.now) [] self.old (place_of result) self.new }
     {
-        Written::from(self.write_text_if(false, text))
+        Written::from(self.put_text(false, None, text))
     }
 
     #[inline(always)]
-    fn write_text_if(&mut self, shared: bool, text: &str) -> Result<u32, BuildError>
-        requires { self.old.settings.texts_on ≡ shared }
+    fn put_text(
+        &mut self,
+        shared: bool,
+        bucket: Option<Bucket>,
+        text: &str,
+    ) -> Result<u32, BuildError>
+        requires on { self.old.settings.texts_on ≡ shared }
+        requires bucket { LooksIf shared self.old.holdings.held_texts text.now bucket }
+        requires new { FindsIf shared bytes_in self.old.holdings.held_texts self.old.bytes text.now
+            None }
         ensures { WritesEntry (text_entry text.now) [] self.old result self.new }
     {
         let bytes = text.as_bytes();
         let size = bytes.len() + 5;
-        match find_or_plan(
+        let plan = plan_if(
             shared,
             &mut self.backing,
             &mut self.texts,
+            bucket,
             bytes,
             size,
             WORD_MASK,
-        )? {
-            Lookup::Found(distance) => Ok(distance),
-            Lookup::Planned(plan) => {
-                let part = TextPart(bytes);
-                self.backing.put_planned_over(&plan, size, &part);
-                Ok(plan.place)
-            }
-        }
+        )?;
+        self.backing.put_planned_over(&plan, size, &TextPart(bytes));
+        Ok(plan.place)
     }
 }
