@@ -48,7 +48,7 @@ impl GetCacheKey for VTable {
     #[inline]
     fn key_there(serialized: &[u8], distance: u32) -> &[u8] {
         let bytes = &serialized[serialized.len() - distance as usize..];
-        match bytes.first_chunk::<2>() {
+        match bytes[..2].first_chunk::<2>() {
             Some(size) => &bytes[..u16::from_le_bytes(*size) as usize],
             None => unreachable!(),
         }
@@ -67,7 +67,7 @@ impl GetCacheKey for ByteVec {
     #[inline]
     fn key_there(serialized: &[u8], distance: u32) -> &[u8] {
         let bytes = &serialized[serialized.len() - distance as usize..];
-        match bytes.first_chunk::<4>() {
+        match bytes[..4].first_chunk::<4>() {
             Some(count) => &bytes[4..4 + u32::from_le_bytes(*count) as usize],
             None => unreachable!(),
         }
