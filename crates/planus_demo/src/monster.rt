@@ -28,7 +28,6 @@ use crate::equipment::Equipment;
 use crate::equipment_ref::EquipmentRef;
 use crate::weapon::{Weapon, WeaponRef};
 use planus::errors::ErrorKind;
-use planus::located::locate;
 use planus::table_reader::Table;
 use planus::{
     BuildError, Builder, ByRef, List, Offset, OrDefault, ReadAsRoot, Required, Result,
@@ -193,7 +192,9 @@ impl<'a> ReadAsRoot<'a> for MonsterRef<'a> {
         (codes "[MonsterRef]") (codes "read_as_root") 0 r };
 
     fn read_as_root(slice: &'a [u8]) -> Result<MonsterRef<'a>> {
-        let monster = TableRead::from_buffer(SliceWithStartOffset::new(slice, 0), 0);
-        locate(monster, Monster::name(), "read_as_root", 0)
+        match TableRead::from_buffer(SliceWithStartOffset::new(slice, 0), 0) {
+            Ok(monster) => Ok(monster),
+            Err(kind) => Err(kind.with_error_location(Monster::name(), "read_as_root", 0)),
+        }
     }
 }

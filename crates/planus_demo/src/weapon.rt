@@ -119,8 +119,10 @@ impl<'a> ReadAsRoot<'a> for WeaponRef<'a> {
         (codes "[WeaponRef]") (codes "read_as_root") 0 r };
 
     fn read_as_root(slice: &'a [u8]) -> Result<WeaponRef<'a>> {
-        let weapon = TableRead::from_buffer(SliceWithStartOffset::new(slice, 0), 0);
-        locate(weapon, Weapon::name(), "read_as_root", 0)
+        match TableRead::from_buffer(SliceWithStartOffset::new(slice, 0), 0) {
+            Ok(weapon) => Ok(weapon),
+            Err(kind) => Err(kind.with_error_location(Weapon::name(), "read_as_root", 0)),
+        }
     }
 }
 
