@@ -1,4 +1,4 @@
--- The hash of a key as `keys` computes it: a function of the key.
+-- The hash of a key: a function of the key.
 use Rattle.std.specs.Prelude.{◌≡◌, ℕ, zero, suc, ◌+◌, ◌*◌, ◌/◌, ◌%◌, ◌^◌, ◌-◌, ◌≤◌, List, [], ◌∷◌}
 use Rattle.std.specs.Prelude.{length, take, drop, nat_le, if◌then◌else◌, bit_xor}
 use Rattle.std.specs.Int.{w64, from_le_bytes}

@@ -4,8 +4,16 @@ ghost use Rattle.std.specs.Int.{w8, w64, cast_unsigned, from_le_bytes};
 ghost use Rattle.planus_back.specs.Bytes.{AreBytes};
 ghost use Rattle.planus_back.specs.Hashes.{IsLastWord, SplitsWord};
 
-/// A number of one byte: `u8` or `i8`.
-pub trait Byte: Copy {
+/// Seals [`Byte`], since no other crate can name it.
+pub trait Sealed {}
+
+impl Sealed for u8 {}
+
+impl Sealed for i8 {}
+
+/// A number of one byte: `u8` or `i8`. `byte_of` is its byte, `bytes_of` are the bytes of some
+/// numbers, and `of_each` says that these are the bytes of each in turn.
+pub trait Byte: Copy + Sealed {
     ghost byte_of: { Self → ℕ };
 
     ghost bytes_of: { List Self → List ℕ };

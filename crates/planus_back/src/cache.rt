@@ -105,7 +105,7 @@ fn replace_last(
 }
 
 /// Changes nothing on failure.
-#[inline]
+#[inline(always)]
 fn add(
     last: &mut HashMap<u64, u32, IdentityHasher>,
     earlier: &mut HashMap<u64, Vec<u32>, IdentityHasher>,
@@ -242,6 +242,7 @@ impl<C: GetCacheKey> Cache<C> {
     }
 
     /// [`Cache::insert`] given only the key's bucket.
+    #[inline(always)]
     pub fn insert_in(&mut self, bucket: Bucket, distance: u32) -> Result<(), AllocError>
         ensures ok { OnOk result (Adds self.old distance self.new) }
         ensures fits { OnOk result

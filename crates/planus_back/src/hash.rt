@@ -57,6 +57,9 @@ fn split_words<T: Byte>(key: &[T]) -> Option<(u64, u64, &[T])>
     ensures { MatchOption result (length (T.bytes_of key.now) < 16)
         (λ split. Splits (T.bytes_of key.now) split.0 split.1 (T.bytes_of split.2.now)) }
 {
+    if T::count(key) < 16 {
+        return None;
+    }
     let (first, behind) = T::split_word(key)?;
     let (second, behind) = T::split_word(behind)?;
     Some((first, second, behind))

@@ -6,7 +6,7 @@ pub mod backvec;
 #[doc(hidden)]
 pub mod block;
 pub mod bucket;
-pub mod byte;
+mod byte;
 pub mod cache;
 pub mod cache_keys;
 #[doc(hidden)]

@@ -1,3 +1,5 @@
+ghost use Rattle.std.specs.Prelude.{◌≡◌, IfOk};
+
 use std::alloc::Global;
 use std::cell::Cell;
 use std::fmt::{Debug, Display};
@@ -23,13 +25,15 @@ impl<'a> Test<'a> {
         self.rt.alloc()
     }
 
+    /// Returns how many rows were wrong, for tests of what counts them.
+    pub fn wrong_rows(self) -> u32 {
+        let Test { rt: _, wrong } = self;
+        wrong.get()
+    }
+
     /// Fails where a row was wrong.
     pub fn end(self) -> Result<(), Fail> {
-        let Test { rt: _, wrong } = self;
-        match wrong.get() {
-            0 => Ok(()),
-            wrong => Err(Fail::new(format_args!("wrong rows: {wrong}"))),
-        }
+        verdict(self.wrong_rows())
     }
 
     /// As [`end`](Test::end), and fails where these calls did.
@@ -51,6 +55,15 @@ impl<'a> Test<'a> {
         let wrong = self.wrong.get();
         self.wrong.set(wrong.saturating_add(1));
         wrong < SHOWN
+    }
+}
+
+fn verdict(wrong: u32) -> Result<(), Fail>
+    ensures { IfOk result (λ _. wrong ≡ 0) }
+{
+    match wrong {
+        0 => Ok(()),
+        wrong => Err(Fail::new(format_args!("wrong rows: {wrong}"))),
     }
 }
 

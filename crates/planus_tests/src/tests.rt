@@ -1,3 +1,4 @@
+mod asserting;
 mod examples;
 mod reading;
 mod writing;

@@ -174,9 +174,7 @@ fn fill<C: GetCacheKey, B: Byte>(
         distance (few first.now) (many cache.new)) }
 {
     for at in first {
-        if let Some(key) = C::key_at(serialized, *at) {
-            cache.insert(key, *at)?;
-        }
+        cache.insert(C::key_there(serialized, *at), *at)?;
     }
     cache.insert_in(cache.bucket_of(contents), distance)
 }

@@ -19,7 +19,6 @@ use crate::written::Written;
 use planus_back::Bucket;
 
 impl Builder {
-    // Both functions share one body, so that the code without a cache has nothing of the lookup.
     #[inline]
     pub(crate) fn write_text(&mut self, text: &str) -> Result<Offset<Text>, BuildError>
         ensures { WritesText text.now self.old result self.new }
@@ -63,6 +62,7 @@ impl Builder {
         Written::from(self.put_text(false, None, text))
     }
 
+    // The one body of both, so that the code without a cache has nothing of the cache.
     #[inline(always)]
     fn put_text(
         &mut self,

@@ -1,9 +1,7 @@
-use Rattle.std.proofs.Common.{◌≡◌, length, sym, subst, ◌∙◌, arith}
+use Rattle.std.proofs.Common.{◌≡◌, length, subst, arith}
 use Rattle.planus_back.proofs.Caches.{Fits-empty}
 use Rattle.planus_write.proofs.HeldContents.{HasFirst, has-none, has-next, spilled_if}
-use Rattle.planus_write.proofs.SharedContents.{none_is_not_some}
 use Rattle.planus_write.proofs.sharing.fill.Goals as goal
-use Rattle.planus_write.proofs.sharing.fill.Goals.{in-Some+in_ok-insert, in_default}
 
 pub loop-at-init : goal.loop-at-init
 loop-at-init g c = record {
@@ -11,16 +9,15 @@ loop-at-init g c = record {
   holds = has-none c.args.cache.now c.args.first.now c.requires.empty;
 }
 
+pub key_there-requires : goal.key_there-requires
+key_there-requires g c = c.requires.fits c.loop-at.at-index c.loop-at-test.true
+
 pub loop-at-preserved : goal.loop-at-preserved
 loop-at-preserved g c =
-    let l = c.loop-at in
-    elim c.match-key_at.branch [
-      | in-Some+in_ok-insert w ↦ rw w.cache-is (record {
-        fits = w.in_ok-insert.ensures.fits c.args.serialized.now l.invariant.fits (sym w.in-Some.ensures);
-        holds = has-next l.cache w.insert.new.self c.args.first.now l.at-index l.invariant.holds w.in_ok-insert.ensures.ok;
-      })
-      | in_default w ↦ absurd (none_is_not_some _ (rw w.in_default.is at c.key_at.ensures ∙ (c.requires.fits l.at-index c.loop-at-test.true).1))
-    ]
+    let l = c.loop-at in record {
+      fits = c.in_ok-insert.ensures.fits c.args.serialized.now l.invariant.fits c.key_there.ensures;
+      holds = has-next l.cache c.insert.new.self c.args.first.now l.at-index l.invariant.holds c.in_ok-insert.ensures.ok;
+    }
 
 pub returns : goal.returns
 returns g c =
