@@ -52,6 +52,7 @@ fn first_of<T: Byte>(key: &[T]) -> u64
     }
 }
 
+// One test, so that a short key has no loop.
 #[inline(always)]
 fn split_words<T: Byte>(key: &[T]) -> Option<(u64, u64, &[T])>
     ensures { MatchOption result (length (T.bytes_of key.now) < 16)
