@@ -1,5 +1,6 @@
 //! The builder.
-ghost use Rattle.std.specs.Prelude.{◌≡◌, ◌+◌, ◌≤◌, ◌^◌, [], length, IsTrue, ◌↔◌, IfOk, IfErr, ℕ};
+ghost use Rattle.std.specs.Prelude.{◌≡◌, ◌+◌, ◌<◌, ◌≤◌, ◌^◌, [], length, IsTrue, ◌↔◌, IfOk, IfErr};
+ghost use Rattle.std.specs.Prelude.{ℕ};
 ghost use Rattle.planus_back.specs.Promises.{IsPowerOfTwo};
 ghost use Rattle.planus_back.specs.Padding.{greatest_place};
 ghost use Rattle.std.specs.Borrow.{sem};
@@ -141,12 +142,15 @@ impl Builder {
         Offset::at(self.backing.len() as u32)
     }
 
-    /// Returns whether an offset is in the bytes, and so may be referred to.
+    /// Returns whether an offset is that of a part in the bytes, by its distance alone: it is above
+    /// 0 and at most the length. Such an offset may be referred to; that it is one of this builder's
+    /// since the last clear isn't tested.
     #[inline]
     pub fn has<T>(&self, offset: &Offset<T>) -> bool
-        ensures { IsTrue result ↔ IsIn self.now offset.now }
+        ensures { IsTrue result ↔ (IsIn self.now offset.now × (0 < offset.now.distance)) }
     {
-        offset.distance() as usize <= self.len()
+        let distance = offset.distance() as usize;
+        distance <= self.len() && 0 < distance
     }
 
     /// States that the builder has some history, for clauses about every history. Does nothing.

@@ -51,8 +51,8 @@ impl From<TooLarge> for BuildError {
     }
 }
 
-/// The kind is [`io::ErrorKind::OutOfMemory`], or [`io::ErrorKind::FileTooLarge`] with this error's
-/// message.
+/// The kind is [`io::ErrorKind::OutOfMemory`], or [`io::ErrorKind::FileTooLarge`]. No contract speaks
+/// of its message.
 impl From<BuildError> for io::Error {
     ghost use Rattle.std.specs.Prelude.{◌≡◌};
     ghost use Rattle.std.specs.IoError.{error_kind};
