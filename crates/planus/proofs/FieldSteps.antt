@@ -15,7 +15,7 @@ use Rattle.planus_write.specs.lemmas.Staying.{kept_stays}
 use Rattle.planus_write.specs.Contents.{Content, Comes}
 use Rattle.planus.specs.Contents.{FieldsAre, there_of, TableIsKept, WritesRest}
 use Rattle.planus.specs.lemmas.ContentLaws.{fields_stay, contents_both}
-use Rattle.planus.specs.Preparing.{WritesFields}
+use Rattle.planus.specs.Preparing.{WritesFields, Fields, PreparesAfter, Turn, take_turns, AreTaken, OneFails}
 use Rattle.planus.specs.TableFields.{all_of, field_in}
 
 pub if_ok : {T E : Type 0} {P Q : T → Type 0} (r : Result T E) → ((x : T) → P x → Q x) → IfOk r P
@@ -34,6 +34,60 @@ goes_on first second last old between a (Err error) new done (inl refused) =
 goes_on first second last old between a (Err error) new done (inr rest) =
     inr (rest.0, rest.1, (a, between, done, rest.2), rest.3)
 
+-- one call, and then another
+then_comes : {A B : Type 0} (first : Outcome A) (second : A → Outcome B) (old : State) (a : A)
+    (between : State) (answer : Result B BuildError) (new : State) → first old (Ok a) between
+    → second a between answer new → then_does first second old answer new
+then_comes first second old a between (Ok b) new done rest = (a, between, done, rest)
+then_comes first second old a between (Err error) new done rest = inr (a, between, done, rest)
+
+-- turns that were taken, and then others
+pub taken_then : (turns : List Turn) (others : PreparesAfter) (before : Fields) (old between : State)
+    (fields : Fields) → AreTaken turns old fields between
+    → (answer : Result Fields BuildError) (new : State)
+    → others (before ++ fields) between answer new → take_turns turns others before old answer new
+taken_then [] others before old between fields taken answer new rest =
+    subst (λ (state : State). others before state answer new) taken.1
+    (subst (λ (some : Fields). others some between answer new)
+    (ap (λ (some : Fields). before ++ some) taken.0 ∙ append-nil before) rest)
+taken_then (turn ∷ turns) others before old between fields taken answer new rest =
+    let one = field_in turn.slot turn.as_field taken.0 in
+    let more = taken_then turns others (before ++ one ∷ []) taken.1 between taken.3.0 taken.3.2 answer
+    new
+    (subst (λ (some : Fields). others some between answer new)
+    (ap (λ (some : Fields). before ++ some) taken.3.1 ∙ sym (append_assoc before (one ∷ []) taken.3.0))
+    rest) in
+    then_comes turn.outcome
+    (λ value. take_turns turns others (before ++ field_in turn.slot turn.as_field value ∷ [])) old
+    taken.0 taken.1 answer new taken.2 more
+
+-- turns of which one fails
+pub fails_then : (turns : List Turn) (others : PreparesAfter) (before : Fields) (old : State)
+    (error : BuildError) (new : State) → OneFails turns old error new
+    → take_turns turns others before old (Err error) new
+fails_then [] others before old error new h = absurd h
+fails_then (turn ∷ turns) others before old error new (inl refused) = inl refused
+fails_then (turn ∷ turns) others before old error new (inr (value, between, done, later)) =
+    inr (
+      value,
+      between,
+      done,
+      fails_then turns others (before ++ field_in turn.slot turn.as_field value ∷ []) between error new
+          later,
+    )
+
+-- what another start comes to, and then the last
+pub before_then : {A B : Type 0} (near far : Outcome A) (last : A → Outcome B) (between old : State)
+    → ((answer : Result A BuildError) (new : State) → near between answer new → far old answer new)
+    → (answer : Result B BuildError) (new : State) → then_does near last between answer new
+    → then_does far last old answer new
+before_then near far last between old lift (Ok b) new (a, next, done, rest) =
+    (a, next, lift (Ok a) next done, rest)
+before_then near far last between old lift (Err error) new (inl refused) =
+    inl (lift (Err error) new refused)
+before_then near far last between old lift (Err error) new (inr (a, next, done, rest)) =
+    inr (a, next, lift (Ok a) next done, rest)
+
 pub is_refused : {A B C : Type 0} (first : Outcome A) (second : A → Outcome B) (last : B → Outcome C)
     (old : State) (error : BuildError) (answer : Result C BuildError) (new : State)
     → answer ≡ Err error → first old (Err error) new
@@ -41,7 +95,7 @@ pub is_refused : {A B C : Type 0} (first : Outcome A) (second : A → Outcome B)
 is_refused first second last old error answer new same refused =
     subst (λ answer. then_does (then_does first second) last old answer new) (sym same) (inl (inl refused))
 
-all_append : (ts ls : List (List (ℕ × Field))) → all_of (ts ++ ls) ≡ all_of ts ++ all_of ls
+pub all_append : (ts ls : List (List (ℕ × Field))) → all_of (ts ++ ls) ≡ all_of ts ++ all_of ls
 all_append [] ls = refl
 all_append (t ∷ ts) ls =
     ap (λ rest. t ++ rest) (all_append ts ls) ∙ sym (append_assoc t (all_of ts) (all_of ls))

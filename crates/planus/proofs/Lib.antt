@@ -13,6 +13,7 @@ pub mod RefusedTables
 pub mod Accessors
 pub mod ItemAccessors
 pub mod Roots
+pub mod SizedRoots
 pub mod Unions
 pub mod UnionAccessors
 pub mod Lists

@@ -10,11 +10,18 @@ use Rattle.planus_read.specs.Located.{Located, Required, IsMissing}
 use Rattle.planus_read.specs.Plain.{Shape}
 use Rattle.planus_read.specs.Tables.{Reads, FieldAnswer, table_start}
 use Rattle.planus_read.specs.Values.{text, byte_list, plain_list, reference_list}
+use Rattle.planus_read.specs.Values.{Field, plain, reference}
 use Rattle.planus_view.specs.declared.vector.SliceView.{SliceView}
 use Rattle.planus_view.specs.declared.vector_of.VectorOf.{VectorOf}
 use Rattle.planus_write.specs.Contents.{Content, value, values, written}
 use Rattle.planus_write.specs.declared.byte_lists.ByteList.{ByteList}
+use Rattle.planus_write.specs.Items.{plain_item, reference_item}
+use Rattle.planus_write.specs.Placing.{Outcome}
+use Rattle.planus_write.specs.Preparing.{Answers, IsPrepared, PreparesItems, WritesByteList}
+use Rattle.planus_write.specs.Preparing.{WritesList, WritesText}
+use Rattle.planus_write.specs.declared.offset.List.{List as ListOf}
 use Rattle.planus_write.specs.declared.offset.Offset.{Offset}
+use Rattle.planus_write.specs.declared.offset.Text.{Text}
 use Rattle.planus_fields.specs.Contents.{holds_if}
 use Rattle.planus.specs.ReadBack.{SlotHolds, TableStands, TableHolds}
 use Rattle.planus.specs.ReadKinds.{reads_text, reads_bytes}
@@ -22,13 +29,17 @@ use Rattle.planus.specs.ReadPlain.{reads_plain, plain_content, ArePlain}
 use Rattle.planus.specs.ReadVectors.{reads_vector, ItemsAreTexts, ItemsAreTables}
 use Rattle.planus.specs.Views.{reads_as}
 
--- how a kind of field is read, and what reads back
+-- How a kind of field is read, and what reads back; how what is given is prepared, and which field
+-- is then written.
 pub record FieldKind (X G T : Type 0) : Type 1 where
   pub reads : Reads T
   pub May : List ℕ → X → Type 0
   pub content : X → Content
   pub part : G → X
   pub IsRead : List ℕ → X → T → Type 0
+  pub Prepared : Type 0
+  pub prepares : G → Outcome Prepared
+  pub as_field : Prepared → Field
 
 -- both none, or related values
 abbrev pub SameIf : {G T : Type 0} → (G → T → Type 0) → Option G → Option T → Type 0
@@ -60,14 +71,27 @@ module _ {X G T : Type 0} (kind : FieldKind X G T) (table : Table) (slot : ℕ)
       pub missing :
           (B : List ℕ) → SlotHolds B table slot None → IsMissing type_ method (table_start table) r
 
+-- the field of a value of this shape
+abbrev pub plain_field_of :
+    {T : Type 0} {size alignment : ℕ} → Shape T size alignment → T → Field
+plain_field_of {T} {size} {alignment} shape x =
+    plain (record { bytes = shape.encoded x; alignment = alignment })
+
+-- the field that refers to what was written
+abbrev pub reference_to : {K : Type 0} → Offset K → Field
+reference_to offset = reference offset.distance
+
 abbrev pub plain_kind :
     {T : Type 0} {size alignment : ℕ} → Shape T size alignment → FieldKind T T T
-plain_kind shape = record {
+plain_kind {T} shape = record {
   reads = reads_plain shape;
   May = λ B x. shape.fits x;
   content = plain_content shape;
   part = λ x. x;
   IsRead = λ B x found. found ≡ x;
+  Prepared = T;
+  prepares = Answers;
+  as_field = plain_field_of shape;
 }
 
 abbrev pub IsPlainRequired :
@@ -82,6 +106,9 @@ text_kind = record {
   content = λ bytes. value (text bytes);
   part = λ given. given.now;
   IsRead = λ B bytes found. found.now ≡ bytes;
+  Prepared = Offset Text;
+  prepares = λ given. WritesText given.now;
+  as_field = reference_to;
 }
 
 abbrev pub IsTextField : Table → ℕ → List ℕ → List ℕ → Result (Option (Bor (List ℕ))) Error → Type 0
@@ -97,6 +124,9 @@ bytes_kind = record {
   content = λ bytes. value (byte_list bytes);
   part = λ given. given.0.now;
   IsRead = λ B bytes found. found.now ≡ bytes;
+  Prepared = Offset (ListOf ℕ);
+  prepares = λ given. WritesByteList given.0.now;
+  as_field = reference_to;
 }
 
 abbrev pub IsBytesField : Table → ℕ → List ℕ → List ℕ → Result (Option (Bor (List ℕ))) Error
@@ -115,6 +145,10 @@ module _ {T R : Type 0} {kind : PlainGhosts R} where
     content = λ xs. value (plain_list kind.SIZE kind.ALIGNMENT (map kind.shape.encoded xs));
     part = λ given. given.now;
     IsRead = λ B xs vector. ArePlain B xs vector;
+    Prepared = Offset (ListOf R);
+    prepares = λ given. WritesList Answers (λ x. plain_item (kind.shape.encoded x)) kind.SIZE
+        kind.ALIGNMENT given.now;
+    as_field = reference_to;
   }
 
   abbrev pub IsPlainVector :
@@ -133,6 +167,10 @@ module _ {T R : Type 0} {kind : PlainGhosts R} where
     content = λ texts. values (map (λ one. text one.now) texts);
     part = λ given. given.now;
     IsRead = λ B texts vector. ItemsAreTexts kind (map (λ one. one.now) texts) vector;
+    Prepared = Offset (ListOf (Offset Text));
+    prepares = λ given. WritesList (PreparesItems (λ text. WritesText {T = Text} text.now))
+        (λ offset. reference_item offset.distance) 4 4 given.now;
+    as_field = reference_to;
   }
 
   abbrev pub IsTextVector :
@@ -153,6 +191,9 @@ module _ {T R : Type 0} {kind : PlainGhosts R} where
     part = λ given. given.now;
     IsRead = λ B offsets vector.
         ItemsAreTables kind K B (map (λ offset. offset.distance) offsets) vector;
+    Prepared = Offset (ListOf (Offset K));
+    prepares = λ given. WritesList Answers (λ offset. reference_item offset.distance) 4 4 given.now;
+    as_field = reference_to;
   }
 
   abbrev pub IsTableVector :
@@ -180,6 +221,9 @@ table_kind K table_of = record {
   content = written;
   part = λ offset. offset.distance;
   IsRead = IsViewOf table_of;
+  Prepared = Offset K;
+  prepares = IsPrepared;
+  as_field = reference_to;
 }
 
 abbrev pub IsTableField : {T : Type 0} → (K : Type 0) → (T → Table) → Table → ℕ → List ℕ → List ℕ

@@ -29,6 +29,7 @@ pub mod Streams
 pub mod Once
 pub mod SameTrees
 pub mod FieldLines
+pub mod Creating
 pub mod SizedRoots
 pub mod Printed
 pub use Rattle.planus_back.specs as back

@@ -1,11 +1,13 @@
 -- How the fields of a table are prepared and written.
-use Rattle.std.specs.Prelude.{ℕ, List, Ok, Err}
+use Rattle.std.specs.Prelude.{◌≡◌, ◌⊎◌, ℕ, List, [], ◌∷◌, ◌++◌, Option, Ok, Err}
 use Rattle.planus_read.specs.Values.{Field}
 use Rattle.planus_write.specs.Placing.{Outcome, then_does}
 use Rattle.planus_write.specs.Preparing.{Answers}
-use Rattle.planus.specs.TableFields.{all_of}
+use Rattle.planus.specs.TableFields.{all_of, field_in}
 use Rattle.planus_write.specs.Tables.{body_bytes, declared_of}
 use Rattle.planus_write.specs.TableWriting.{AnswersTable}
+use Rattle.planus_write.specs.State.{State}
+use Rattle.planus_write.specs.declared.errors.BuildError.{BuildError}
 use Rattle.planus_write.specs.declared.offset.Offset.{Offset}
 
 -- the table of these fields was written at the distance, or there is an error
@@ -25,3 +27,51 @@ PreparesAs of prepares old (Err error) new = prepares old (Err error) new
 abbrev pub PreparesBoth : {A B : Type 0} → Outcome A → Outcome B → Outcome (A × B)
 PreparesBoth first second =
     then_does first (λ a. then_does second (λ b. Answers (a, b)))
+
+-- what is prepared of fields, each present or not, in the order written
+abbrev pub Fields : Type 0
+Fields = List (List (ℕ × Field))
+
+-- after these fields, others are prepared, and all are returned
+abbrev pub PreparesAfter : Type 1
+PreparesAfter = Fields → Outcome Fields
+
+-- How one field is prepared, by its slot.
+pub record Turn : Type 1 where
+  pub Prepared : Type 0
+  pub outcome : Outcome (Option Prepared)
+  pub slot : ℕ
+  pub as_field : Prepared → Field
+
+-- the turns one after another, and then others
+abbrev pub take_turns : List Turn → PreparesAfter → PreparesAfter
+take_turns [] others before = others before
+take_turns (turn ∷ turns) others before =
+    then_does turn.outcome
+    (λ value. take_turns turns others (before ++ field_in turn.slot turn.as_field value ∷ []))
+
+-- All turns were taken, and prepared these.
+abbrev pub AreTaken : List Turn → State → Fields → State → Type 0
+AreTaken [] old fields new = (fields ≡ []) × (new ≡ old)
+AreTaken (turn ∷ turns) old fields new =
+    (value : Option turn.Prepared) × (between : State) × turn.outcome old (Ok value) between
+    × ((rest : Fields) × (fields ≡ field_in turn.slot turn.as_field value ∷ rest)
+    × AreTaken turns between rest new)
+
+-- A turn failed, after those before it.
+abbrev pub OneFails : List Turn → State → BuildError → State → Type 0
+OneFails [] old error new = ⊥
+OneFails (turn ∷ turns) old error new =
+    turn.outcome old (Err error) new
+    ⊎ ((value : Option turn.Prepared) × (between : State) × turn.outcome old (Ok value) between
+    × OneFails turns between error new)
+
+-- Fields that are prepared together are prepared in turn.
+pub record TakeTurns {X A : Type 0} (outcome : X → Outcome A) (turns : X → List Turn)
+    (there : A → List (ℕ × Field)) : Type 0 where
+  pub prepared :
+      (x : X) (old : State) (a : A) (new : State) → outcome x old (Ok a) new → (fields : Fields)
+      × AreTaken (turns x) old fields new × (all_of fields ≡ there a)
+  pub failed :
+      (x : X) (old : State) (error : BuildError) (new : State) → outcome x old (Err error) new
+      → OneFails (turns x) old error new

@@ -1,10 +1,13 @@
 -- The roots of size-prefixed buffers.
-use Rattle.std.specs.Prelude.{◌≡◌, ◌⊎◌, List, ℕ, Result, Ok, Err}
+use Rattle.std.specs.Prelude.{◌≡◌, ◌++◌, ◌⊎◌, List, ℕ, Option, Result, Ok, Err, IsOkAnd}
 use Rattle.std.specs.Borrow.{Bor}
 use Rattle.planus_read.specs.declared.errors.ErrorKind.{ErrorKind}
 use Rattle.planus_read.specs.declared.table_reader.Table.{Table}
 use Rattle.planus_read.specs.Clauses.{FirstBroken}
-use Rattle.planus_read.specs.SizePrefixed.{Prefixed, PrefixedThere, prefixed_clauses}
+use Rattle.planus_read.specs.SizePrefixed.{Prefixed, PrefixedThere, prefixed_clauses, IsPrefixed}
+use Rattle.planus_read.specs.Stands.{ReferenceStands}
+use Rattle.planus_write.specs.Contents.{Content}
+use Rattle.planus.specs.ReadBack.{TableStands, TableHolds}
 use Rattle.planus.specs.Views.{reads_as}
 
 module _ {V : Type 0} (table_of : V → Table) (B : List ℕ) where
@@ -13,11 +16,22 @@ module _ {V : Type 0} (table_of : V → Table) (B : List ℕ) where
   ReadsContent prefixed = reads_as table_of prefixed.content 4 0
 
   -- the root of the first buffer and what follows the buffer, or the error of the size or the root
-  abbrev pub IsSizedRoot : Result (V × Bor (List ℕ)) ErrorKind → Type 0
-  IsSizedRoot (Ok read) =
+  abbrev pub ReadsSized : Result (V × Bor (List ℕ)) ErrorKind → Type 0
+  ReadsSized (Ok read) =
       (prefixed : Prefixed) × PrefixedThere B prefixed.content prefixed.rest
       × ReadsContent prefixed (Ok read.0) × (read.1.now ≡ prefixed.rest)
-  IsSizedRoot (Err e) =
+  ReadsSized (Err e) =
       FirstBroken (prefixed_clauses B) e
       ⊎ ((prefixed : Prefixed) × PrefixedThere B prefixed.content prefixed.rest
       × ReadsContent prefixed (Err e))
+
+  -- The same; a table in the first buffer, to which the reference after its size leads, is read with
+  -- all its contents.
+  pub record IsSizedRoot (r : Result (V × Bor (List ℕ)) ErrorKind) : Type 0 where
+    pub answer : ReadsSized r
+    pub read_back :
+        (buffer rest : List ℕ) (contents : List (ℕ × Option Content)) (distance : ℕ)
+        → B ≡ buffer ++ rest → IsPrefixed buffer → TableStands buffer contents distance
+        → ReferenceStands buffer 4 distance
+        → IsOkAnd r
+        (λ read. TableHolds buffer contents (table_of read.0) × (read.1.now ≡ rest))

@@ -2,7 +2,8 @@
 use Rattle.std.specs.Prelude.{◌≡◌, ℕ, ◌≤◌, max, List, [], ◌∷◌, ◌++◌, length, Option, Result, Ok}
 use Rattle.std.specs.Prelude.{Err}
 use Rattle.std.specs.List.{AllByRecursion}
-use Rattle.std.proofs.Common.{subst, sym, arith, inl, inr}
+use Rattle.std.proofs.Common.{refl, subst, sym, ap, ◌∙◌, append_assoc, arith, inl, inr}
+use Rattle.std.proofs.lemmas.List.{append-nil}
 use Rattle.planus_read.specs.Values.{Field}
 use Rattle.planus_fields.specs.Contents.{PreparesOptional}
 use Rattle.planus_fields.specs.Fields.{reach_if}
@@ -15,8 +16,9 @@ use Rattle.planus_write.specs.Tables.{IsField, Declared, declared_of}
 use Rattle.planus_write.specs.declared.errors.BuildError.{BuildError}
 use Rattle.planus_write.specs.lemmas.Laws.{grows_on, extends_on, reached_still}
 use Rattle.planus.specs.Contents.{FieldsAre, there_of, PreparesContents}
-use Rattle.planus.specs.Preparing.{PreparesAs, PreparesBoth}
-use Rattle.planus.specs.TableFields.{field_in}
+use Rattle.planus.specs.Preparing.{PreparesAs, PreparesBoth, Fields, Turn, AreTaken, OneFails}
+use Rattle.planus.specs.Preparing.{TakeTurns}
+use Rattle.planus.specs.TableFields.{field_in, all_of}
 use Rattle.planus.specs.TableRules.{Among}
 use Rattle.planus.specs.lemmas.ContentLaws.{fields_stay, contents_both, only_field}
 use Rattle.planus.specs.lemmas.PreparingLaws.{among_both, stand_both, entries_append}
@@ -155,3 +157,108 @@ module _ {X Y A B : Type 0} {may : X → State → Type 0} {others_may : Y → S
                   far.3),
             );
       }
+
+pub all_both : (fields others : Fields) → all_of (fields ++ others) ≡ all_of fields ++ all_of others
+all_both [] others = refl
+all_both (one ∷ fields) others =
+    ap (λ rest. one ++ rest) (all_both fields others)
+    ∙ sym (append_assoc one (all_of fields) (all_of others))
+
+pub both_taken :
+    (turns more : List Turn) (old between new : State) (fields others : Fields)
+    → AreTaken turns old fields between → AreTaken more between others new
+    → AreTaken (turns ++ more) old (fields ++ others) new
+both_taken [] more old between new fields others first second =
+    subst (λ (state : State). AreTaken more state (fields ++ others) new) first.1
+    (subst (λ (some : Fields). AreTaken more between (some ++ others) new) (sym first.0) second)
+both_taken (turn ∷ turns) more old between new fields others first second = (
+  first.0,
+  first.1,
+  first.2,
+  (
+    first.3.0 ++ others,
+    ap (λ (some : Fields). some ++ others) first.3.1,
+    both_taken turns more first.1 between new first.3.0 others first.3.2 second,
+  ),
+)
+
+pub first_fails :
+    (turns more : List Turn) (old : State) (error : BuildError) (new : State)
+    → OneFails turns old error new → OneFails (turns ++ more) old error new
+first_fails [] more old error new h = absurd h
+first_fails (turn ∷ turns) more old error new (inl refused) = inl refused
+first_fails (turn ∷ turns) more old error new (inr (value, between, done, later)) =
+    inr (value, between, done, first_fails turns more between error new later)
+
+pub second_fails :
+    (turns more : List Turn) (old between : State) (fields : Fields) (error : BuildError)
+    (new : State) → AreTaken turns old fields between → OneFails more between error new
+    → OneFails (turns ++ more) old error new
+second_fails [] more old between fields error new taken h =
+    subst (λ (state : State). OneFails more state error new) taken.1 h
+second_fails (turn ∷ turns) more old between fields error new taken h =
+    inr (
+      taken.0,
+      taken.1,
+      taken.2,
+      second_fails turns more taken.1 between taken.3.0 error new taken.3.2 h,
+    )
+
+pub field_takes_turn :
+    {X Y A B : Type 0} (outcome : X → Outcome (Option A)) (of : Y → X) (value : B → Option A)
+    (slot : ℕ) (field : A → Field)
+    → TakeTurns (λ y old answer new. PreparesAs value (outcome (of y)) old answer new)
+    (λ y. record { Prepared = A; outcome = outcome (of y); slot = slot; as_field = field } ∷ [])
+    (λ prepared. field_in slot field (value prepared))
+field_takes_turn {X} {Y} {A} {B} outcome of value slot field = record {
+  prepared = λ y old b new done. (
+    field_in slot field (value b) ∷ [],
+    (value b, new, done, ([], refl, (refl, refl))),
+    append-nil (field_in slot field (value b)),
+  );
+  failed = λ y old error new refused. inl refused;
+}
+
+module _ {X Y A B : Type 0} {outcome : X → Outcome A} {others : Y → Outcome B}
+    {turns : X → List Turn} {others_turns : Y → List Turn} {there : A → List (ℕ × Field)}
+    {others_there : B → List (ℕ × Field)} (first : TakeTurns outcome turns there)
+    (second : TakeTurns others others_turns others_there) where
+  both_fail :
+      (both : X × Y) (old : State) (error : BuildError) (new : State)
+      → PreparesBoth (outcome both.0) (others both.1) old (Err error) new
+      → OneFails (turns both.0 ++ others_turns both.1) old error new
+  both_fail both old error new (inl refused) =
+      first_fails (turns both.0) (others_turns both.1) old error new
+      (first.failed both.0 old error new refused)
+  both_fail both old error new (inr (a, between, done, inl refused)) =
+      let near = first.prepared both.0 old a between done in
+      second_fails (turns both.0) (others_turns both.1) old between near.0 error new near.1
+      (second.failed both.1 between error new refused)
+  both_fail both old error new (inr (a, between, done, inr answered)) =
+      absurd (let same = answered.3.0 in cc)
+
+  pub both_take_turns
+      : TakeTurns {X = X × Y} {A = A × B}
+      (λ both old answer new. PreparesBoth (outcome both.0) (others both.1) old answer new)
+      (λ both. turns both.0 ++ others_turns both.1)
+      (λ prepared. there prepared.0 ++ others_there prepared.1)
+  both_take_turns = record {
+    prepared = λ both old prepared new done.
+        let near = first.prepared both.0 old done.0 done.1 done.2 in
+        let far = second.prepared both.1 done.1 done.3.0 done.3.1 done.3.2 in
+        let same : prepared ≡ (done.0, done.3.0) = let h = done.3.3.0 in cc in (
+          near.0 ++ far.0,
+          subst
+              (λ (state : State).
+              AreTaken (turns both.0 ++ others_turns both.1) old (near.0 ++ far.0) state)
+              (sym done.3.3.1)
+              (both_taken (turns both.0) (others_turns both.1) old done.1 done.3.1 near.0 far.0
+              near.1 far.1),
+          subst
+              (λ (p : A × B). all_of (near.0 ++ far.0) ≡ there p.0 ++ others_there p.1)
+              (sym same)
+              (all_both near.0 far.0 ∙ ap (λ fields. fields ++ all_of far.0) near.2
+              ∙ ap (λ fields. there done.0 ++ fields) far.2),
+        );
+    failed = λ both old error new refused. both_fail both old error new refused;
+  }

@@ -1,7 +1,8 @@
 //! Tables that are created of a struct of their fields.
 
-ghost use Rattle.std.specs.Prelude.{◌≡◌, ◌≤◌, List, length, IfOk, IsOkAnd, IsTrue, ⊤};
+ghost use Rattle.std.specs.Prelude.{◌≡◌, ◌≤◌, List, length, Err, IfOk, IfErr, IsOkAnd, IsTrue, ⊤};
 ghost use Rattle.planus.specs.Contents.{WritesContents};
+ghost use Rattle.planus.specs.Creating.{CreatesTable, CreatesRoot};
 ghost use Rattle.planus.specs.ReadBack.{are_apart};
 ghost use Rattle.planus_write.specs.State.{State, Grows};
 ghost use Rattle.planus.specs.FieldLines.{FieldLine, ReadsBack, contents_of};
@@ -24,11 +25,15 @@ pub trait Create<F>: TableKind {
 
     ghost may: { F → State → Type 0 } = { λ fields builder. ⊤ };
 
-    /// Writes a table with these fields. A field that equals its default is left out.
+    /// Writes a table with these fields, and what they hold that isn't written yet, in the order of
+    /// the lines. A field that equals its default is left out.
     ///
-    /// [`BuildError::TooLarge`] and [`BuildError::OutOfMemory`] as of [`Builder::create_vector`].
+    /// The error is that of the first field that fails, or else that of the table:
+    /// [`BuildError::TooLarge`] and [`BuildError::OutOfMemory`] as of [`Builder::create_vector`]. What
+    /// was written before it stays.
     fn create(builder: &mut Builder, fields: F) -> Built<Self>
         requires may { may fields builder.old }
+        ensures written { CreatesTable (lines fields) builder.old result builder.new }
         ensures kept { IfOk result (λ offset.
             WritesContents (contents_of (lines fields)) builder.old offset.distance builder.new) }
         ensures reached { IfOk result (λ offset. offset.distance ≤ length builder.new.bytes) }
@@ -39,14 +44,17 @@ pub trait Create<F>: TableKind {
     /// read never fails, and each result that a clause of a field's kind allows for its slot is
     /// what was given.
     ///
-    /// An error is that of `create`, or else of [`Builder::finish`].
+    /// An error is that of `create`, or else of [`Builder::finish`]. No clause says how the builder is
+    /// left: a program that writes on calls these, and [`read_root`](crate::read_root).
     final fn read_back<'b, 'n, V: TableView<'b, Kind = Self>>(
         builder: &'b mut Builder,
         fields: F,
     ) -> Result<Result<V, Error<'n>>, BuildError>
         requires may { may fields builder.old }
-        ensures { IfOk result (λ read. IsOkAnd read (λ view.
+        ensures read { IfOk result (λ read. IsOkAnd read (λ view.
             ReadsBack builder.old (lines fields) (V.table view))) }
+        ensures error { IfErr result (λ error. (new : State)
+            × CreatesRoot Self (lines fields) builder.old (Err error) new) }
     {
         builder.has_a_history();
         let root = Self::create(builder, fields)?;

@@ -1,10 +1,18 @@
 //! The roots of size-prefixed buffers.
 
-ghost use Rattle.planus.specs.SizedRoots.{IsSizedRoot};
+ghost use Rattle.planus.specs.SizedRoots.{IsSizedRoot, ReadsSized};
 
 use crate::tables::{TableView, read_view};
 use planus_read::errors::ErrorKind;
 use planus_read::read_size_prefixed;
+
+fn read_sized<'a, V: TableView<'a>>(bytes: &'a [u8]) -> Result<(V, &'a [u8]), ErrorKind>
+    ensures { ReadsSized V.table bytes.entry.now result }
+{
+    let (slice, rest) = read_size_prefixed(bytes)?;
+    let view = read_view(slice, 0)?;
+    Ok((view, rest))
+}
 
 /// Returns the view of the root of the first of these size-prefixed buffers, and the bytes after
 /// the buffer.
@@ -13,7 +21,5 @@ use planus_read::read_size_prefixed;
 pub fn read_sized_root<'a, V: TableView<'a>>(bytes: &'a [u8]) -> Result<(V, &'a [u8]), ErrorKind>
     ensures { IsSizedRoot V.table bytes.entry.now result }
 {
-    let (slice, rest) = read_size_prefixed(bytes)?;
-    let view = read_view(slice, 0)?;
-    Ok((view, rest))
+    read_sized(bytes)
 }

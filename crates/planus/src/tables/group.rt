@@ -1,6 +1,6 @@
 //! A group of fields as a line of a list.
-ghost use Rattle.std.specs.Prelude.{◌∷◌, ◌++◌, []};
-ghost use Rattle.planus_write.specs.Placing.{then_does};
+ghost use Rattle.std.specs.Prelude.{[]};
+ghost use Rattle.planus.specs.Preparing.{take_turns};
 
 use crate::tables::field_group::FieldGroup;
 use crate::tables::fields::Fields;
@@ -30,8 +30,7 @@ impl<G: FieldGroup> Fields for Group<G> {
     ghost last_contents = { λ group. [] };
 
     ghost in_turn = { λ group others ts ls.
-        then_does (G.Lines.outcome (G.lines_of group.value)) (λ prepared. others
-        (ts ++ G.Lines.Prepared.there prepared ∷ []) ls) };
+        take_turns (G.Lines.turns (G.lines_of group.value)) (λ more. others more ls) ts };
 
     ghost may = { λ group old. G.Lines.may (G.lines_of group.value) old };
 

@@ -6,8 +6,9 @@ ghost use Rattle.planus_write.specs.Placing.{Outcome};
 ghost use Rattle.planus_write.specs.Preparing.{IsLawful};
 ghost use Rattle.planus_write.specs.State.{State};
 ghost use Rattle.planus.specs.Contents.{PreparesContents};
-ghost use Rattle.planus.specs.Preparing.{PreparesAs, PreparesBoth};
+ghost use Rattle.planus.specs.Preparing.{PreparesAs, PreparesBoth, Turn, TakeTurns};
 ghost use Rattle.planus.specs.lemmas.GroupLaws.{field_is_lawful, field_has_contents};
+ghost use Rattle.planus.specs.lemmas.GroupLaws.{field_takes_turn, both_take_turns};
 ghost use Rattle.planus.specs.lemmas.GroupLaws.{both_are_lawful, both_have_contents};
 
 use crate::tables::field_at::FieldAt;
@@ -19,7 +20,8 @@ use std::marker::PhantomData;
 
 /// The fields of a group: one [`FieldAt`], or a pair of fields.
 ///
-/// The ghost member `may` is the precondition, `contents` what each slot holds.
+/// The ghost member `may` is the precondition, `contents` what each slot holds, and `turns` how the
+/// fields are prepared one after another.
 pub trait PrepareFields {
     /// The fields, prepared.
     type Prepared: PreparedFields + Drop;
@@ -30,6 +32,8 @@ pub trait PrepareFields {
 
     ghost contents: { Self → List (ℕ × option Content) };
 
+    ghost turns: { Self → List Turn };
+
     /// Prepares the fields in order. The first error ends it.
     fn prepare(&self, builder: &mut Builder) -> Result<Self::Prepared, BuildError>
         requires { may self.now builder.old }
@@ -38,6 +42,8 @@ pub trait PrepareFields {
     ghost is_lawful: { IsLawful may outcome Self.Prepared.reach };
 
     ghost has_contents: { PreparesContents may outcome contents Self.Prepared.there };
+
+    ghost take_turns: { TakeTurns outcome turns Self.Prepared.there };
 }
 
 impl<const SLOT: usize, P: Primitive, V: WriteAsOptional<P>> PrepareFields for FieldAt<SLOT, P, V> {
@@ -49,6 +55,13 @@ impl<const SLOT: usize, P: Primitive, V: WriteAsOptional<P>> PrepareFields for F
         PreparesAs (λ prepared. prepared.value) (V.outcome field.value) old answer new };
 
     ghost contents = { λ field. (SLOT, V.content field.value) ∷ [] };
+
+    ghost turns = { λ field. record {
+      Prepared = V.Prepared;
+      outcome = V.outcome field.value;
+      slot = SLOT;
+      as_field = V.Prepared.field;
+    } ∷ [] };
 
     #[inline(always)]
     fn prepare(
@@ -67,6 +80,9 @@ impl<const SLOT: usize, P: Primitive, V: WriteAsOptional<P>> PrepareFields for F
 
     ghost has_contents = { field_has_contents (λ field. field.value) (λ prepared. prepared.value)
         SLOT V.has_content };
+
+    ghost take_turns = { field_takes_turn V.outcome (λ field. field.value)
+        (λ prepared. prepared.value) SLOT V.Prepared.field };
 }
 
 impl<F: PrepareFields, S: PrepareFields> PrepareFields for (F, S) {
@@ -79,6 +95,8 @@ impl<F: PrepareFields, S: PrepareFields> PrepareFields for (F, S) {
 
     ghost contents = { λ fields. F.contents fields.0 ++ S.contents fields.1 };
 
+    ghost turns = { λ fields. F.turns fields.0 ++ S.turns fields.1 };
+
     #[inline(always)]
     fn prepare(&self, builder: &mut Builder) -> Result<(F::Prepared, S::Prepared), BuildError> {
         let first = self.0.prepare(builder)?;
@@ -90,4 +108,6 @@ impl<F: PrepareFields, S: PrepareFields> PrepareFields for (F, S) {
 
     ghost has_contents = { both_have_contents F.is_lawful S.is_lawful F.has_contents
         S.has_contents };
+
+    ghost take_turns = { both_take_turns F.take_turns S.take_turns };
 }

@@ -3,8 +3,8 @@ use Rattle.planus.specs.FieldLines.{KeptTablesStandIn}
 use Rattle.planus.proofs.FieldLines.{ok_also}
 use Rattle.planus.proofs.printed.finished.finish_and_read.Goals as goal
 
-pub returns : goal.returns
-returns g c = λ before contents history writes apart.
+pub returns-clause-read : goal.returns-clause-read
+returns-clause-read g c = λ before contents history writes apart.
     let B = c.in_ok-bytes.bytes.now in
     let gives = c.in_ok-bytes.ensures.bytes in
     let keeps : KeptTablesStandIn B before = λ any others distance is_history is_kept are_apart.
