@@ -6,9 +6,11 @@
 //!     depth: double; levels: [double]; }
 //! ```
 
-ghost use Rattle.std.specs.Prelude.{◌≡◌, ◌≤◌, length, codes, IfOk, Some, slice_get, ℕ};
+ghost use Rattle.std.specs.Prelude.{◌≡◌, ◌*◌, ◌≤◌, length, codes, IfOk, Some, slice_get, ℕ};
 ghost use Rattle.std.specs.Prelude.{List as list};
 ghost use Rattle.planus.specs.read.Shapes.{f32_shape, f64_shape};
+ghost use Rattle.planus.specs.view.Indexes.{GetsItem};
+ghost use Rattle.planus.specs.view.VectorView.{count_of, view_of};
 ghost use Rattle.planus.specs.write.State.{Grows};
 ghost use Rattle.planus.specs.Contents.{WritesContents};
 ghost use Rattle.planus.specs.Accessors.{IsPlainRequired, IsPlainVector};
@@ -154,8 +156,11 @@ impl<'a> SiteRef<'a> {
 
 /// Returns a point, or `None` out of bounds.
 pub fn point(track: &Vector<'_, Pos>, index: usize) -> Option<Pos>
-    ensures { (B : list ℕ) (positions : list Pos) (pos : Pos) → ArePlain B positions track.now
-        → slice_get positions index ≡ Some pos → pos_shape.fits pos → result ≡ Some pos }
+    ensures item { GetsItem (λ v. count_of v)
+        (λ v i x. pos_shape.There (view_of v).bytes (i * 12) x) track.now index result }
+    ensures read_back { (B : list ℕ) (positions : list Pos) (pos : Pos)
+        → ArePlain B positions track.now → slice_get positions index ≡ Some pos
+        → pos_shape.fits pos → result ≡ Some pos }
 {
     plain_item(track, index)
 }

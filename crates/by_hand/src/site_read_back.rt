@@ -5,7 +5,8 @@ use crate::pos::Pos;
 use crate::site::{Site, SiteFields, SiteRef};
 use planus::{BuildError, Builder, Result, read_root};
 
-/// Writes a site and reads its home, which never fails.
+/// Writes a site and reads its home. Once written and finished, the read never fails. No clause says
+/// when writing fails, or what the builder then holds.
 pub fn home_read_back(
     builder: &mut Builder,
     site: SiteFields<'_>,

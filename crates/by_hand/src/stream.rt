@@ -1,6 +1,6 @@
 //! A stream of size-prefixed buffers.
 
-ghost use Rattle.std.specs.Prelude.{IfOk};
+ghost use Rattle.std.specs.Prelude.{◌≡◌, IfOk, IfErr};
 ghost use Rattle.by_hand.specs.Streams.{IsAppended, ReadsAll};
 
 use planus::errors::ErrorKind;
@@ -16,9 +16,12 @@ pub struct Records<'a> {
     pub fault: Option<ErrorKind>,
 }
 
-/// Appends a string as a size-prefixed buffer.
+/// Appends a string as a size-prefixed buffer, written into the builder after a clear. An error
+/// leaves the stream as it was.
 pub fn append(stream: &mut Vec<u8>, builder: &mut Builder, text: &str) -> Result<(), BuildError>
-    ensures { IfOk result (λ done. IsAppended text.now stream.old.items stream.new.items) }
+    ensures appended { IfOk result
+        (λ done. IsAppended text.now stream.old.items stream.new.items) }
+    ensures unchanged { IfErr result (λ error. stream.new.items ≡ stream.old.items) }
 {
     builder.clear();
     let bytes = builder.finish_size_prefixed(text, None)?;
