@@ -1,5 +1,5 @@
 -- How events are fed one after another.
-use Rattle.std.proofs.Common.{◌≡◌, ◌≢◌, ℕ, zero, suc, ◌+◌, ◌-◌, ◌*◌, ◌<◌, ◌≤◌, List, [], ◌∷◌, ◌++◌, map, length, drop, get_or, Option, Some, None, slice_get, refl, sym, ap, ◌∙◌, subst, arith, length-append, Bool, true, false, ◌==◌, inr}
+use Rattle.std.proofs.Common.{◌≡◌, ◌≢◌, ℕ, zero, suc, ◌+◌, ◌-◌, ◌*◌, ◌<◌, ◌≤◌, List, [], ◌∷◌, ◌++◌, map, length, drop, get_or, Option, Some, None, slice_get, refl, sym, ap, ◌∙◌, subst, arith, length-append, Bool, true, false, ◌==◌, inl, inr}
 use Rattle.std.specs.Prelude.{if◌then◌else◌, slice_index}
 use Rattle.std.specs.Prelude.{Vec, String, codes, nat_lt, ⊤}
 use Rattle.std.specs.Fmt.{decimal}
@@ -19,7 +19,7 @@ use Rattle.planus_read.specs.Places.{place_bytes, place_offset, tagged_tag, tagg
 use Rattle.planus_dump.specs.declared.readings.Found.{Found}
 use Rattle.planus_dump.specs.inner.Shown.{begin, shown, event_of, Shown, by_room, added, step_at, step, feed}
 use Rattle.planus_dump.specs.Dumped.{Shows, AreShown, Begin}
-use Rattle.planus_dump.specs.Floats.{number_of}
+use Rattle.planus_dump.specs.Floats.{number_of, magnitude, infinite_magnitude, infinity_text, PrintsFloat}
 use Rattle.planus_dump.specs.Views.{cost, costs}
 use Rattle.planus_dump.specs.declared.line.Bits.{Bits}
 use Rattle.planus_dump.specs.declared.line_sink.Stop.{Stop}
@@ -270,15 +270,32 @@ walked es budget room out stop fed is =
     let whole : After [] room es budget (shown out) = subst (After [] room es budget) (sym fed) (answered es [] budget room (omega arith)) in
     subst (Answered [] room es budget (map event_of out.lines.items)) is whole
 
+abbrev some_text : Bits → List ℕ
+some_text number =
+    if nat_lt (infinite_magnitude number) (magnitude number) then codes "nan"
+    else (if magnitude number == infinite_magnitude number then infinity_text number else codes "bits " ++ decimal (number_of number))
+
+some_text_prints : (number : Bits) → PrintsFloat number (some_text number)
+some_text_prints number = by_test (nat_lt (infinite_magnitude number) (magnitude number)) refl (magnitude number == infinite_magnitude number) refl
+  where
+    by_test : (nan : Bool) → nat_lt (infinite_magnitude number) (magnitude number) ≡ nan → (infinite : Bool) → (magnitude number == infinite_magnitude number) ≡ infinite
+        → PrintsFloat number (if nan then codes "nan" else (if infinite then infinity_text number else codes "bits " ++ decimal (number_of number)))
+    by_test true e infinite f = inl (ltb-true (infinite_magnitude number) (magnitude number) e, refl)
+    by_test false e true f = inr (inl (eqb-true (magnitude number) (infinite_magnitude number) f, refl))
+    by_test false e false f =
+        let most : magnitude number ≤ infinite_magnitude number = ltb-false (infinite_magnitude number) (magnitude number) e in
+        let other : magnitude number ≢ infinite_magnitude number = eqb-false (magnitude number) (infinite_magnitude number) f in
+        inr (inr (omega (arith, most, other), inr refl))
+
 abbrev pub some_line : Event → List ℕ
 some_line (line l) = l
 some_line deep = []
-some_line (float path number) = value_line path (codes "bits " ++ decimal (number_of number))
+some_line (float path number) = value_line path (some_text number)
 
 some_line_shows : (e : Event) → e ≢ deep → Shows e (some_line e)
 some_line_shows (line l) h = refl
 some_line_shows deep h = absurd (h refl)
-some_line_shows (float path number) h = (codes "bits " ++ decimal (number_of number), refl, inr (inr refl))
+some_line_shows (float path number) h = (some_text number, refl, some_text_prints number)
 
 pub some_lines_shown : (es : List Event) → AreLines es → AreShown es (map some_line es)
 some_lines_shown [] h = tt

@@ -1,8 +1,10 @@
 //! Lines as text, floats printed.
-ghost use Rattle.std.specs.Prelude.{IfOk, map, IsTrue};
+ghost use Rattle.std.specs.Prelude.{◌≡◌, ◌↔◌, ◌++◌, IfOk, map, codes, IsTrue};
+ghost use Rattle.std.specs.Fmt.{decimal};
 ghost use Rattle.std.specs.String.{string_bytes};
 ghost use Rattle.planus_dump.specs.Dumped.{Shows, AreShown};
-ghost use Rattle.planus_dump.specs.Floats.{ReadsBackTo, IsNan, PrintsFloat};
+ghost use Rattle.planus_dump.specs.Floats.{number_of, ReadsBackTo, IsNan, IsInfinite, IsFinite};
+ghost use Rattle.planus_dump.specs.Floats.{infinity_text, PrintsFloat};
 ghost use Rattle.planus_dump.specs.inner.Shown.{event_of};
 
 use crate::line::{Bits, Line};
@@ -11,13 +13,40 @@ use std::num::{
     f32_from_bits_with_nan, f32_to_bits_with_nan, f64_from_bits_with_nan, f64_to_bits_with_nan,
 };
 
+const F32_SIGN: u32 = 0x8000_0000;
+
+const F64_SIGN: u64 = 0x8000_0000_0000_0000;
+
+const F32_INFINITE: u32 = 0x7f80_0000;
+
+const F64_INFINITE: u64 = 0x7ff0_0000_0000_0000;
+
 fn is_nan(bits: Bits) -> bool
-    ensures { IsTrue result → IsNan bits }
+    ensures { IsTrue result ↔ IsNan bits }
 {
     match bits {
-        Bits::F32(bits) => 0x7f80_0000 < bits % 0x8000_0000,
-        Bits::F64(bits) => 0x7ff0_0000_0000_0000 < bits % 0x8000_0000_0000_0000,
+        Bits::F32(bits) => F32_INFINITE < bits % F32_SIGN,
+        Bits::F64(bits) => F64_INFINITE < bits % F64_SIGN,
     }
+}
+
+fn is_infinite(bits: Bits) -> bool
+    ensures { IsTrue result ↔ IsInfinite bits }
+{
+    match bits {
+        Bits::F32(bits) => bits % F32_SIGN == F32_INFINITE,
+        Bits::F64(bits) => bits % F64_SIGN == F64_INFINITE,
+    }
+}
+
+fn infinity(bits: Bits) -> &'static str
+    ensures { result.now ≡ infinity_text bits }
+{
+    let is_positive = match bits {
+        Bits::F32(bits) => bits % F32_SIGN == bits,
+        Bits::F64(bits) => bits % F64_SIGN == bits,
+    };
+    if is_positive { "inf" } else { "-inf" }
 }
 
 fn decimal_text(alloc: Global, bits: Bits) -> Result<String, AllocError> {
@@ -49,7 +78,7 @@ fn reads_back(text: &str, bits: Bits) -> bool
 }
 
 fn bits_text(alloc: Global, bits: Bits) -> Result<String, AllocError>
-    ensures { IfOk result (λ text. PrintsFloat bits (string_bytes text)) }
+    ensures { IfOk result (λ text. string_bytes text ≡ codes "bits " ++ decimal (number_of bits)) }
 {
     match bits {
         Bits::F32(bits) => format!(in alloc; "bits {bits}"),
@@ -57,19 +86,29 @@ fn bits_text(alloc: Global, bits: Bits) -> Result<String, AllocError>
     }
 }
 
-/// The shortest decimal that reads back to the same bits, as `std` prints it, `nan`, `inf` or
-/// `-inf`.
+/// Returns a decimal that reads back to the same bits, the one that `std` prints, or the bits where
+/// that one doesn't.
+fn finite_text(alloc: Global, bits: Bits) -> Result<String, AllocError>
+    requires { IsFinite bits }
+    ensures { IfOk result (λ text. PrintsFloat bits (string_bytes text)) }
+{
+    let text = decimal_text(alloc, bits)?;
+    if reads_back(text.as_str(), bits) {
+        return Ok(text);
+    }
+    bits_text(alloc, bits)
+}
+
 fn float_text(alloc: Global, bits: Bits) -> Result<String, AllocError>
     ensures { IfOk result (λ text. PrintsFloat bits (string_bytes text)) }
 {
     if is_nan(bits) {
         return String::from_str(alloc, "nan");
     }
-    let text = decimal_text(alloc, bits)?;
-    if reads_back(text.as_str(), bits) {
-        return Ok(text);
+    if is_infinite(bits) {
+        return String::from_str(alloc, infinity(bits));
     }
-    bits_text(alloc, bits)
+    finite_text(alloc, bits)
 }
 
 fn line_text(alloc: Global, line: Line) -> Result<String, AllocError>
