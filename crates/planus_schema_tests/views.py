@@ -68,14 +68,14 @@ def shown(lines):
             for index, byte in enumerate(bytes.fromhex(text[6:])):
                 said[f"{path}[{index}]"] = str(byte)
         elif text.startswith('"'):
-            said[path] = re.sub(r"\\(x..|.)", unescaped, text[1:-1])
+            said[path] = re.sub(r"\\(x..|u....|.)", unescaped, text[1:-1])
         else:
             said[path] = text
     return said
 
 
 def unescaped(found):
-    return chr(int(found[1][1:], 16)) if len(found[1]) == 3 else found[1]
+    return chr(int(found[1][1:], 16)) if len(found[1]) > 1 else found[1]
 
 
 def is_shortest(text, width):

@@ -1,5 +1,6 @@
 -- The lines of a dump, in UTF-8.
 use Rattle.std.specs.Prelude.{ℕ, ◌/◌, ◌%◌, nat_lt, ◌==◌, List, [], ◌∷◌, ◌++◌, codes}
+use Rattle.std.specs.Int.{is_in_range}
 use Rattle.std.specs.Prelude.{Bool, true, false, ◌||◌, if◌then◌else◌}
 use Rattle.std.specs.Char.{encode_utf8, digit_char}
 use Rattle.std.specs.Fmt.{decimal, signed_decimal}
@@ -20,11 +21,23 @@ item_path path i = path ++ (codes "[" ++ (decimal i ++ codes "]"))
 abbrev pub hex_of : ℕ → List ℕ
 hex_of byte = digit_char (byte / 16) ∷ digit_char (byte % 16) ∷ []
 
--- `\` before a quote and `\`, `\x` and two digits below U+0020
+-- U+061C, U+200E, U+200F, U+202A to U+202E, U+2066 to U+2069: they turn the direction of text
+abbrev pub is_direction_mark : ℕ → Bool
+is_direction_mark c =
+    c == 0x61c || is_in_range 0x200e 0x200f c || is_in_range 0x202a 0x202e c
+    || is_in_range 0x2066 0x2069 c
+
+-- U+0080 to U+009F are control characters too
+abbrev pub is_unseen : ℕ → Bool
+is_unseen c = is_in_range 0x80 0x9f c || is_direction_mark c
+
+-- `\x` and two digits below U+0020 and for U+007F, `\u` and four for what isn't seen, `\` before a
+-- quote and `\`
 abbrev pub escaped : ℕ → List ℕ
 escaped c =
-    if nat_lt c 32 then 92 ∷ 120 ∷ hex_of c
-    else (if c == 34 || c == 92 then 92 ∷ c ∷ [] else encode_utf8 c)
+    if nat_lt c 32 || c == 127 then 92 ∷ 120 ∷ hex_of c
+    else (if is_unseen c then 92 ∷ 117 ∷ hex_of (c / 256) ++ hex_of (c % 256)
+    else (if c == 34 || c == 92 then 92 ∷ c ∷ [] else encode_utf8 c))
 
 -- a string within quotes
 abbrev pub quoted : List ℕ → List ℕ

@@ -1,6 +1,5 @@
 //! The lines so far.
-ghost use Rattle.std.specs.Prelude.{◌≡◌, ◌<◌, ◌++◌, OnOk, IfOk};
-ghost use Rattle.std.specs.List.{flat_map};
+ghost use Rattle.std.specs.Prelude.{◌≡◌, ◌≤◌, ◌++◌, OnOk, IfOk, length};
 ghost use Rattle.std.specs.String.{string_bytes};
 ghost use Rattle.planus_dump.specs.Events.{line, deep, float};
 ghost use Rattle.planus_dump.specs.Lines.{value_text};
@@ -8,9 +7,10 @@ ghost use Rattle.planus_dump.specs.Lines.{value_line, fault_line, table_line, li
 ghost use Rattle.planus_dump.specs.Lines.{union_line, unions_line, struct_line};
 ghost use Rattle.planus_dump.specs.Tests.{fault_text};
 ghost use Rattle.planus_dump.specs.inner.Shown.{shown, event_of, begin, by_room, step, IsStopped};
+ghost use Rattle.planus_dump.specs.inner.Shown.{MayMake};
 
 use crate::line::{Bits, Line};
-use crate::printed::{hex_text, quoted_text};
+use crate::printed::{bytes_size, push_bytes, push_quoted, quoted_size};
 use crate::values::Value;
 use planus::errors::ErrorKind;
 use std::alloc::{AllocError, Global};
@@ -32,17 +32,59 @@ pub struct LineSink {
     pub stop: Stop,
 }
 
-fn value_string(alloc: Global, value: Value<'_>) -> Result<String, AllocError>
-    ensures { IfOk result (λ text. string_bytes text ≡ value_text value.entry) }
+fn push_value(alloc: Global, text: &mut String, value: Value<'_>) -> Result<(), AllocError>
+    ensures { OnOk result (string_bytes text.new
+        ≡ string_bytes text.old ++ value_text value.entry) }
 {
     match value {
-        Value::Unsigned(n) => format!(in alloc; "{n}"),
-        Value::Signed(n) => format!(in alloc; "{n}"),
-        Value::Truth(true) => String::from_str(alloc, "true"),
-        Value::Truth(false) => String::from_str(alloc, "false"),
-        Value::Text(text) => quoted_text(alloc, text),
-        Value::Bytes(bytes) => hex_text(alloc, bytes),
+        Value::Unsigned(n) => text.push_str(format!(in alloc; "{n}")?.as_str()),
+        Value::Signed(n) => text.push_str(format!(in alloc; "{n}")?.as_str()),
+        Value::Truth(true) => text.push_str("true"),
+        Value::Truth(false) => text.push_str("false"),
+        Value::Text(content) => push_quoted(text, content),
+        Value::Bytes(bytes) => push_bytes(text, bytes),
     }
+}
+
+/// The number of bytes of a string or a byte vector as it is printed, at most `usize::MAX`; 0 for
+/// the others, which have few.
+fn value_size(value: Value<'_>) -> usize
+    ensures { result ≤ length (value_text value.entry) }
+{
+    match value {
+        Value::Text(text) => quoted_size(text),
+        Value::Bytes(bytes) => bytes_size(bytes),
+        _ => 0,
+    }
+}
+
+fn line_size(path: &str, value: Value<'_>, names: &str) -> usize
+    ensures { result
+        ≤ length (value_line path.now (value_text value.entry ++ names.now)) }
+{
+    path.len()
+        .saturating_add(3)
+        .saturating_add(value_size(value))
+        .saturating_add(names.len())
+}
+
+/// `size` is the room that the string begins with.
+fn value_string(
+    alloc: Global,
+    path: &str,
+    value: Value<'_>,
+    names: &str,
+    size: usize,
+) -> Result<String, AllocError>
+    ensures { IfOk result (λ text. string_bytes text
+        ≡ value_line path.now (value_text value.entry ++ names.now)) }
+{
+    let mut text = String::with_capacity(alloc, size)?;
+    text.push_str(path)?;
+    text.push_str(" = ")?;
+    push_value(alloc, &mut text, value)?;
+    text.push_str(names)?;
+    Ok(text)
 }
 
 impl LineSink {
@@ -92,6 +134,27 @@ impl LineSink {
                 self.put_in_room(line)
             }
             _ => Ok(()),
+        }
+    }
+
+    /// Whether a line of at least so many bytes would be taken, as far as they tell. If not, the walk
+    /// goes on as if it had been put.
+    fn may_make(&mut self, size: usize) -> bool
+        ensures { MayMake (shown self.old) size result (shown self.new) }
+    {
+        if self.is_stopped() {
+            return false;
+        }
+        if self.lines.len() == self.budget {
+            self.stop = Stop::TooMany;
+            return false;
+        }
+        match self.room {
+            Some(room) if room < size => {
+                self.stop = Stop::TooLong;
+                false
+            }
+            _ => true,
         }
     }
 
@@ -155,16 +218,19 @@ impl LineSink {
         ensures { OnOk result (shown self.new
             ≡ step (shown self.old) (line (value_line path.now (value_text value.entry)))) }
     {
-        let text = value_string(self.alloc, value)?;
-        self.put(format!(in self.alloc; "{path} = {text}")?)
+        self.put_named(path, value, "")
     }
 
+    /// The text is made only if it is taken, and at once in its size.
     pub fn put_named(&mut self, path: &str, value: Value<'_>, names: &str) -> Result<(), AllocError>
         ensures { OnOk result (shown self.new ≡ step (shown self.old)
             (line (value_line path.now (value_text value.entry ++ names.now)))) }
     {
-        let text = value_string(self.alloc, value)?;
-        self.put(format!(in self.alloc; "{path} = {text}{names}")?)
+        let size = line_size(path, value, names);
+        if !self.may_make(size) {
+            return Ok(());
+        }
+        self.put(value_string(self.alloc, path, value, names, size)?)
     }
 
     pub fn put_fault(&mut self, path: &str, kind: ErrorKind) -> Result<(), AllocError>

@@ -1,10 +1,13 @@
 //! Hexadecimal digits, and strings in quotes.
-ghost use Rattle.std.specs.Prelude.{◌≡◌, ◌<◌, ◌++◌, OnOk, IfOk};
+ghost use Rattle.std.specs.Prelude.{◌≡◌, ◌<◌, ◌*◌, ◌+◌, ◌++◌, OnOk, length, min};
 ghost use Rattle.std.specs.Char.{digit_char};
+ghost use Rattle.std.specs.List.{flat_map};
+ghost use Rattle.std.specs.Str.{chars};
 ghost use Rattle.std.specs.String.{string_bytes};
-ghost use Rattle.planus_dump.specs.Lines.{hex_of, escaped, quoted, bytes_text};
+ghost use Rattle.planus_dump.specs.Lines.{hex_of, is_unseen as is_unseen_lem, escaped, quoted};
+ghost use Rattle.planus_dump.specs.Lines.{bytes_text};
 
-use std::alloc::{AllocError, Global};
+use std::alloc::AllocError;
 
 fn hex_digit(value: u8) -> char
     requires { value < 16 }
@@ -26,25 +29,57 @@ pub fn push_hex(text: &mut String, byte: u8) -> Result<(), AllocError>
     Ok(())
 }
 
-pub(crate) fn hex_text(alloc: Global, bytes: &[u8]) -> Result<String, AllocError>
-    ensures { IfOk result (λ text. string_bytes text ≡ bytes_text bytes.now) }
+fn push_digits(text: &mut String, bytes: &[u8]) -> Result<(), AllocError>
+    ensures { OnOk result (string_bytes text.new
+        ≡ string_bytes text.old ++ flat_map hex_of bytes.now) }
+{
+    for byte in bytes {
+        push_hex(text, *byte)?;
+    }
+    Ok(())
+}
+
+pub(crate) fn push_bytes(text: &mut String, bytes: &[u8]) -> Result<(), AllocError>
+    ensures { OnOk result (string_bytes text.new ≡ string_bytes text.old ++ bytes_text bytes.now) }
 {
     if bytes.is_empty() {
-        return String::from_str(alloc, "bytes");
+        return text.push_str("bytes");
     }
-    let mut text = String::from_str(alloc, "bytes ")?;
-    for byte in bytes {
-        push_hex(&mut text, *byte)?;
+    text.push_str("bytes ")?;
+    push_digits(text, bytes)
+}
+
+pub(crate) fn bytes_size(bytes: &[u8]) -> usize
+    ensures { result ≡ min (length (bytes_text bytes.now)) usize.MAX }
+{
+    if bytes.is_empty() {
+        return 5;
     }
-    Ok(text)
+    bytes.len().saturating_mul(2).saturating_add(6)
+}
+
+fn is_unseen(c: char) -> bool
+    ensures { result ≡ is_unseen_lem c }
+{
+    matches!(
+        c,
+        '\u{80}'..='\u{9f}' | '\u{61c}' | '\u{200e}'..='\u{200f}' | '\u{202a}'..='\u{202e}'
+            | '\u{2066}'..='\u{2069}'
+    )
 }
 
 fn push_escaped(text: &mut String, c: char) -> Result<(), AllocError>
     ensures { OnOk result (string_bytes text.new ≡ string_bytes text.old ++ escaped c) }
 {
-    if (c as u32) < 32 {
+    let code = c as u32;
+    if code < 32 || code == 127 {
         text.push_str("\\x")?;
-        return push_hex(text, c as u32 as u8);
+        return push_hex(text, code as u8);
+    }
+    if is_unseen(c) {
+        text.push_str("\\u")?;
+        push_hex(text, (code / 256) as u8)?;
+        return push_hex(text, (code % 256) as u8);
     }
     if c == '"' || c == '\\' {
         text.push('\\')?;
@@ -52,13 +87,48 @@ fn push_escaped(text: &mut String, c: char) -> Result<(), AllocError>
     text.push(c)
 }
 
-pub(crate) fn quoted_text(alloc: Global, text: &str) -> Result<String, AllocError>
-    ensures { IfOk result (λ quotation. string_bytes quotation ≡ quoted text.now) }
+fn escaped_size(c: char) -> usize
+    ensures { result ≡ length (escaped c) }
 {
-    let mut quotation = String::from_str(alloc, "\"")?;
-    for c in text.chars() {
-        push_escaped(&mut quotation, c)?;
+    let code = c as u32;
+    if code < 32 || code == 127 {
+        return 4;
     }
-    quotation.push('"')?;
-    Ok(quotation)
+    if is_unseen(c) {
+        return 6;
+    }
+    if c == '"' || c == '\\' {
+        2
+    } else {
+        c.len_utf8()
+    }
+}
+
+fn push_all_escaped(quotation: &mut String, text: &str) -> Result<(), AllocError>
+    ensures { OnOk result (string_bytes quotation.new
+        ≡ string_bytes quotation.old ++ flat_map escaped (chars text.now)) }
+{
+    for c in text.chars() {
+        push_escaped(quotation, c)?;
+    }
+    Ok(())
+}
+
+pub(crate) fn push_quoted(quotation: &mut String, text: &str) -> Result<(), AllocError>
+    ensures { OnOk result (string_bytes quotation.new
+        ≡ string_bytes quotation.old ++ quoted text.now) }
+{
+    quotation.push_str("\"")?;
+    push_all_escaped(quotation, text)?;
+    quotation.push_str("\"")
+}
+
+pub(crate) fn quoted_size(text: &str) -> usize
+    ensures { result ≡ min (length (quoted text.now)) usize.MAX }
+{
+    let mut size = 2usize;
+    for c in text.chars() {
+        size = size.saturating_add(escaped_size(c));
+    }
+    size
 }

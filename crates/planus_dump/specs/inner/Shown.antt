@@ -1,5 +1,5 @@
 -- How events add to the lines so far.
-use Rattle.std.specs.Prelude.{◌≡◌, ◌≢◌, ℕ, ◌-◌, nat_lt, Option, Some, None, List, [], ◌∷◌, ◌++◌}
+use Rattle.std.specs.Prelude.{◌≡◌, ◌≢◌, ℕ, ◌-◌, ◌≤◌, nat_lt, Option, Some, None, List, [], ◌∷◌, ◌++◌}
 use Rattle.std.specs.Prelude.{length, map}
 use Rattle.std.specs.Prelude.{Bool, true, false, if◌then◌else◌, ◌==◌}
 use Rattle.std.specs.String.{string_bytes}
@@ -65,3 +65,8 @@ feed s (e ∷ es) = feed (step s e) es
 abbrev pub IsStopped : LineSink → Bool → Type 0
 IsStopped out true = out.stop ≢ Going
 IsStopped out false = out.stop ≡ Going
+
+-- A line of at least so many bytes may be made, or it is given up: the walk is as after it.
+abbrev pub MayMake : Shown → ℕ → Bool → Shown → Type 0
+MayMake s size true after = after ≡ s
+MayMake s size false after = (l : List ℕ) → size ≤ length l → after ≡ step s (line l)

@@ -1,14 +1,13 @@
-use Rattle.std.proofs.Common.{◌≡◌, ◌++◌, ◌∷◌, [], chars, sym, ap, ◌∙◌, map-id, lit<}
+use Rattle.std.proofs.Common.{◌≡◌, ◌++◌, chars, sym, ap, ◌∙◌, map-id}
 use Rattle.std.specs.List.{flat_map}
 use Rattle.std.specs.String.{string_bytes}
 use Rattle.std.proofs.lemmas.Iterator.{YieldsList-from_chars}
 use Rattle.std.proofs.lemmas.Iterator.Consumers.{YieldsList-end}
 use Rattle.planus_dump.specs.Lines.{escaped}
-use Rattle.planus_dump.proofs.printed.quoted_text.Goals as goal
+use Rattle.planus_dump.proofs.printed.push_all_escaped.Goals as goal
 
 pub returns : goal.returns
 returns c =
     let end = YieldsList-end (YieldsList-from_chars c.args.text.now c.utf8.text cc) c.loop-c.yielded _ c.loop-c.yielded_by _ _ c.in-None.is c.next.ensures.steps in
     let all : c.loop-c.yielded ≡ chars c.args.text.now = sym (map-id c.loop-c.yielded) ∙ end.0 in
-    c.in_ok-push.ensures.bytes ∙ ap (λ xs. string_bytes c.loop-c.quotation ++ xs) (c.push.ensures.ascii (lit< tt))
-    ∙ ap (λ xs. xs ++ 34 ∷ []) (c.loop-c.invariant ∙ ap (λ cs. 34 ∷ flat_map escaped cs) all)
+    c.loop-c.invariant ∙ ap (λ cs. string_bytes c.args.quotation.now ++ flat_map escaped cs) all

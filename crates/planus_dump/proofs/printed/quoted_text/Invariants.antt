@@ -1,8 +1,0 @@
-use Rattle.std.proofs.Common.{◌≡◌, ◌∷◌}
-use Rattle.std.specs.List.{flat_map}
-use Rattle.std.specs.String.{string_bytes}
-use Rattle.planus_dump.specs.Lines.{escaped}
-use Rattle.planus_dump.proofs.printed.quoted_text.Given as goal
-
-abbrev pub invariant-loop-c : goal.invariant-loop-c
-invariant-loop-c l = string_bytes l.quotation ≡ 34 ∷ flat_map escaped l.yielded
