@@ -6,8 +6,8 @@ use Rattle.std.proofs.lemmas.Bool.{eqb-true}
 use Rattle.planus_syntax.specs.Tokens.{Piece, word, number, text, doc, mark}
 use Rattle.planus_syntax.specs.Values.{Name, PathV, KindV, single, vector, LiteralV, numeral, named, quote, nothing, LabelV, AttributeV, FieldV, RecordV, VariantV, EnumerationV, MemberV, UnionV, MethodV, ServiceV, ItemV, include, namespace, attribute, table, struct, enumeration, union, service, root, identifier, extension, DeclarationV, Before, each_before, doc_before, docs_before, dotted_before, path_before, kind_before, literal_before, after_before, number_before, label_before, attribute_before, next_before, attributes_before, field_before, record_before, variant_before, list_before, comma_before, enumeration_before, member_before, union_before, method_before, service_before, quoted_before, rooted_before, declared_before, namespace_before, item_before, declaration_before, schema_pieces}
 use Rattle.planus_syntax.specs.declared.parse_fault.ParseFault.TheVariants as fault
-use Rattle.planus_syntax.specs.Reading.{Looped, Fault, Reads, optional_at, begins_mark, begins_doc, begins_next, is_some, inside, mark_at, word_at, doc_at, number_at, text_at, label_at, list_at, with_items, docs_at, dotted_at, path_at, kind_at, brackets_at, name_at, literal_at, attribute_at, next_attribute_at, attributes_at, field_at, record_at, comma_at, variant_at, next_variant_at, variants_at, enumeration_at, member_at, next_member_at, members_at, union_at, method_at, service_at, quoted_at, rooted_at, namespace_at, declared_at, as_item, statement_at, item_at, declaration_at, schema_at}
-use Rattle.planus_syntax.proofs.Many.{Takes, bind_ok, ok_is, ok, list_takes}
+use Rattle.planus_syntax.specs.Reading.{Looped, Takes, Fault, Reads, optional_at, begins_mark, begins_doc, begins_next, is_some, inside, mark_at, word_at, doc_at, number_at, text_at, label_at, list_at, with_items, docs_at, dotted_at, path_at, kind_at, brackets_at, name_at, literal_at, attribute_at, next_attribute_at, attributes_at, field_at, record_at, comma_at, variant_at, next_variant_at, variants_at, enumeration_at, member_at, next_member_at, members_at, union_at, method_at, service_at, quoted_at, rooted_at, namespace_at, declared_at, as_item, statement_at, item_at, declaration_at, schema_at}
+use Rattle.planus_syntax.proofs.Many.{bind_ok, ok_is, ok, list_takes}
 
 guard : {A : Type 0} (b : Bool) (x y : A) (e : Fault) → cond b (ok x) (Err e) ≡ Ok y → (b ≡ true) × (x ≡ y)
 guard true x y e h = (refl, cc)
@@ -21,7 +21,7 @@ pub chosen : {A : Type 0} (b : Bool) (r s : Result A Fault) (P : Type 0) (y : A)
 chosen true r s P y e f g = f refl e
 chosen false r s P y e f g = g e
 
-mark_takes : (m : ℕ) (ps rest : List Piece) → mark_at m ps ≡ Ok rest → ps ≡ mark m ∷ rest
+pub mark_takes : (m : ℕ) (ps rest : List Piece) → mark_at m ps ≡ Ok rest → ps ≡ mark m ∷ rest
 mark_takes m [] rest e = absurd cc
 mark_takes m (word w ∷ ps) rest e = absurd cc
 mark_takes m (number w ∷ ps) rest e = absurd cc
@@ -31,7 +31,7 @@ mark_takes m (mark b ∷ ps) rest e =
     let g = guard (b == m) ps rest (fault.Mark m, length (mark b ∷ ps)) e in
     ap (λ x. mark x ∷ ps) (eqb-true b m g.0) ∙ ap (λ r. mark m ∷ r) g.1
 
-word_takes : Takes word_at (λ w rest. word w ∷ rest)
+pub word_takes : Takes word_at (λ w rest. word w ∷ rest)
 word_takes [] x e = absurd cc
 word_takes (word w ∷ ps) x e = subst (λ y. word w ∷ ps ≡ word y.0 ∷ y.1) (ok_is (w, ps) x e) refl
 word_takes (number w ∷ ps) x e = absurd cc
@@ -39,7 +39,7 @@ word_takes (text w ∷ ps) x e = absurd cc
 word_takes (doc w ∷ ps) x e = absurd cc
 word_takes (mark b ∷ ps) x e = absurd cc
 
-doc_takes : Takes doc_at doc_before
+pub doc_takes : Takes doc_at doc_before
 doc_takes [] x e = absurd cc
 doc_takes (word w ∷ ps) x e = absurd cc
 doc_takes (number w ∷ ps) x e = absurd cc
@@ -47,7 +47,7 @@ doc_takes (text w ∷ ps) x e = absurd cc
 doc_takes (doc w ∷ ps) x e = subst (λ y. doc w ∷ ps ≡ doc y.0 ∷ y.1) (ok_is (w, ps) x e) refl
 doc_takes (mark b ∷ ps) x e = absurd cc
 
-number_takes : Takes number_at number_before
+pub number_takes : Takes number_at number_before
 number_takes [] x e = absurd cc
 number_takes (word w ∷ ps) x e = absurd cc
 number_takes (number w ∷ ps) x e = subst (λ y. number w ∷ ps ≡ number y.0 ∷ y.1) (ok_is (w, ps) x e) refl
@@ -55,7 +55,7 @@ number_takes (text w ∷ ps) x e = absurd cc
 number_takes (doc w ∷ ps) x e = absurd cc
 number_takes (mark b ∷ ps) x e = absurd cc
 
-text_takes : Takes text_at (λ w rest. text w ∷ rest)
+pub text_takes : Takes text_at (λ w rest. text w ∷ rest)
 text_takes [] x e = absurd cc
 text_takes (word w ∷ ps) x e = absurd cc
 text_takes (number w ∷ ps) x e = absurd cc
@@ -63,7 +63,7 @@ text_takes (text w ∷ ps) x e = subst (λ y. text w ∷ ps ≡ text y.0 ∷ y.1
 text_takes (doc w ∷ ps) x e = absurd cc
 text_takes (mark b ∷ ps) x e = absurd cc
 
-label_takes : Takes label_at label_before
+pub label_takes : Takes label_at label_before
 label_takes [] x e = absurd cc
 label_takes (word w ∷ ps) x e = subst (λ y. word w ∷ ps ≡ label_before y.0 y.1) (ok_is (record { quoted = false; name = w }, ps) x e) refl
 label_takes (number w ∷ ps) x e = absurd cc
@@ -74,7 +74,7 @@ label_takes (mark b ∷ ps) x e = absurd cc
 shrunk : (ps : List Piece) (p : Piece) (rest after : List Piece) → ps ≡ p ∷ rest → length after ≤ length rest → length after < length ps
 shrunk ps p rest after e h = omega (arith, ap length e)
 
-dotted_takes : Takes dotted_at dotted_before
+pub dotted_takes : Takes dotted_at dotted_before
 unfolding dotted_at
 dotted_takes ps x e =
     let a = bind_ok (mark_at 46 ps) word_at x e in
@@ -86,10 +86,10 @@ dotted_looped = record { none = refl; shrinks = λ ps x e. shrunk ps _ _ x.1 (do
 pub docs_looped : Looped begins_doc doc_at
 docs_looped = record { none = refl; shrinks = λ ps x e. shrunk ps _ _ x.1 (doc_takes ps x e) (omega arith) }
 
-docs_take : Takes docs_at docs_before
+pub docs_take : Takes docs_at docs_before
 docs_take ps x e = (list_takes begins_doc doc_at doc_before docs_looped doc_takes ps x e).0
 
-path_takes : Takes path_at path_before
+pub path_takes : Takes path_at path_before
 unfolding path_at
 path_takes ps x e =
     let y0 = bind_ok _ _ x e in
@@ -98,7 +98,7 @@ path_takes ps x e =
     ((word_takes ps y0.0 y0.1) ∙ ap (λ (r : List Piece). word y0.0.0 ∷ r) (
     (list_takes (begins_mark 46) dotted_at dotted_before dotted_looped dotted_takes y0.0.1 y1.0 y1.1).0))
 
-kind_takes : Takes kind_at kind_before
+pub kind_takes : Takes kind_at kind_before
 unfolding kind_at
 kind_takes ps x e = either (begins_mark 91 ps) _ _ (ps ≡ kind_before x.0 x.1) x e
     (λ h.
@@ -114,7 +114,7 @@ kind_takes ps x e = either (begins_mark 91 ps) _ _ (ps ≡ kind_before x.0 x.1) 
     subst (λ (y : KindV × List Piece). ps ≡ kind_before y.0 y.1) (ok_is _ x y0.2)
     (path_takes ps y0.0 y0.1))
 
-brackets_takes : Takes brackets_at literal_before
+pub brackets_takes : Takes brackets_at literal_before
 unfolding brackets_at
 brackets_takes ps x e =
     let y0 = bind_ok _ _ x e in
@@ -123,14 +123,14 @@ brackets_takes ps x e =
     ((mark_takes 91 ps y0.0 y0.1) ∙ ap (λ (r : List Piece). mark 91 ∷ r) (
     mark_takes 93 y0.0 y1.0 y1.1))
 
-name_takes : Takes name_at literal_before
+pub name_takes : Takes name_at literal_before
 unfolding name_at
 name_takes ps x e =
     let y0 = bind_ok _ _ x e in
     subst (λ (y : LiteralV × List Piece). ps ≡ literal_before y.0 y.1) (ok_is _ x y0.2)
     (path_takes ps y0.0 y0.1)
 
-literal_takes : Takes literal_at literal_before
+pub literal_takes : Takes literal_at literal_before
 literal_takes [] x e = absurd cc
 literal_takes (word w ∷ ps) x e = name_takes (word w ∷ ps) x e
 literal_takes (number w ∷ ps) x e = subst (λ y. number w ∷ ps ≡ literal_before y.0 y.1) (ok_is (numeral w, ps) x e) refl
@@ -138,7 +138,7 @@ literal_takes (text w ∷ ps) x e = subst (λ y. text w ∷ ps ≡ literal_befor
 literal_takes (doc w ∷ ps) x e = absurd cc
 literal_takes (mark b ∷ ps) x e = either (b == 91) _ _ (mark b ∷ ps ≡ literal_before x.0 x.1) x e (λ h. brackets_takes (mark b ∷ ps) x h) (λ h. absurd cc)
 
-optional_takes : {A : Type 0} (m : ℕ) (item : List Piece → Reads A) (before : Before A) → Takes item before → Takes (optional_at m item) (after_before m before)
+pub optional_takes : {A : Type 0} (m : ℕ) (item : List Piece → Reads A) (before : Before A) → Takes item before → Takes (optional_at m item) (after_before m before)
 unfolding optional_at
 optional_takes {A} m item before takes ps x e = either (begins_mark m ps) _ _ (ps ≡ after_before m before x.0 x.1) x e
     (λ h.
@@ -150,7 +150,7 @@ optional_takes {A} m item before takes ps x e = either (begins_mark m ps) _ _ (p
     (λ h.
     subst (λ (y : Option A × List Piece). ps ≡ after_before m before y.0 y.1) (ok_is (None, ps) x h) refl)
 
-attribute_takes : Takes attribute_at attribute_before
+pub attribute_takes : Takes attribute_at attribute_before
 unfolding attribute_at
 attribute_takes ps x e =
     let y0 = bind_ok _ _ x e in
@@ -159,7 +159,7 @@ attribute_takes ps x e =
     ((label_takes ps y0.0 y0.1) ∙ ap (λ (r : List Piece). label_before y0.0.0 r) (
     optional_takes 58 literal_at literal_before literal_takes y0.0.1 y1.0 y1.1))
 
-next_attribute_takes : Takes next_attribute_at (next_before attribute_before)
+pub next_attribute_takes : Takes next_attribute_at (next_before attribute_before)
 unfolding next_attribute_at
 next_attribute_takes ps x e =
     let a = bind_ok _ _ x e in
@@ -207,7 +207,7 @@ with_first : {A : Type 0} (first : A) (read : Reads (List A)) (x : List A × Lis
 with_first first (Ok y) x e = (y, refl, cc, cc)
 with_first first (Err f) x e = absurd cc
 
-firsts : {A : Type 0} (f : Before A) (goes : List Piece → Bool) (item : List Piece → Reads A) (ps : List Piece) (a : A × List Piece) (x : List A × List Piece) → Looped goes item → Takes item (next_before f) → ps ≡ f a.0 a.1
+pub firsts : {A : Type 0} (f : Before A) (goes : List Piece → Bool) (item : List Piece → Reads A) (ps : List Piece) (a : A × List Piece) (x : List A × List Piece) → Looped goes item → Takes item (next_before f) → ps ≡ f a.0 a.1
     → with_items (a.0 ∷ []) (list_at goes item a.1) ≡ Ok x → ps ≡ list_before f x.0 x.1
 firsts f goes item ps a x l takes h e =
     let w = with_first a.0 (list_at goes item a.1) x e in
@@ -217,7 +217,7 @@ firsts f goes item ps a x l takes h e =
 bracketed : (xs : List AttributeV) (a : AttributeV) (more : List AttributeV) (rest : List Piece) → xs ≡ a ∷ more → mark 40 ∷ list_before attribute_before xs (mark 41 ∷ rest) ≡ attributes_before xs rest
 bracketed xs a more rest e = subst (λ (ys : List AttributeV). mark 40 ∷ list_before attribute_before ys (mark 41 ∷ rest) ≡ attributes_before ys rest) (sym e) refl
 
-attributes_takes : Takes attributes_at attributes_before
+pub attributes_takes : Takes attributes_at attributes_before
 unfolding attributes_at
 attributes_takes ps x e = either (begins_mark 40 ps) _ _ (ps ≡ attributes_before x.0 x.1) x e
     (λ h.
@@ -234,7 +234,7 @@ attributes_takes ps x e = either (begins_mark 40 ps) _ _ (ps ≡ attributes_befo
     (λ h.
     subst (λ (y : List AttributeV × List Piece). ps ≡ attributes_before y.0 y.1) (ok_is ([], ps) x h) refl)
 
-field_takes : Takes field_at field_before
+pub field_takes : Takes field_at field_before
 unfolding field_at
 field_takes ps x e =
     let y0 = bind_ok _ _ x e in
@@ -274,7 +274,7 @@ field_rest_longer f rest =
 pub fields_looped : Looped inside field_at
 fields_looped = record { none = refl; shrinks = λ ps x e. docs_shrunk ps x.0.docs _ _ x.1 (field_takes ps x e) (field_rest_longer x.0 x.1) }
 
-record_takes : Takes record_at record_before
+pub record_takes : Takes record_at record_before
 unfolding record_at
 record_takes ps x e =
     let y0 = bind_ok _ _ x e in
@@ -289,7 +289,7 @@ record_takes ps x e =
     ((list_takes inside field_at field_before fields_looped field_takes y2.0 y3.0 y3.1).0) ∙ ap (λ (r : List Piece). each_before field_before y3.0.0 r) (
     mark_takes 125 y3.0.1 y4.0 y4.1)))))
 
-comma_takes : Takes comma_at comma_before
+pub comma_takes : Takes comma_at comma_before
 unfolding comma_at
 comma_takes ps x e = either (begins_mark 44 ps) _ _ (ps ≡ comma_before x.0 x.1) x e
     (λ h.
@@ -299,7 +299,7 @@ comma_takes ps x e = either (begins_mark 44 ps) _ _ (ps ≡ comma_before x.0 x.1
     (λ h.
     subst (λ (y : Bool × List Piece). ps ≡ comma_before y.0 y.1) (ok_is (false, ps) x h) refl)
 
-variant_takes : Takes variant_at variant_before
+pub variant_takes : Takes variant_at variant_before
 unfolding variant_at
 variant_takes ps x e =
     let y0 = bind_ok _ _ x e in
@@ -310,7 +310,7 @@ variant_takes ps x e =
     (word_takes y0.0.1 y1.0 y1.1) ∙ ap (λ (r : List Piece). word y1.0.0 ∷ r) (
     optional_takes 61 number_at number_before number_takes y1.0.1 y2.0 y2.1)))
 
-next_variant_takes : Takes next_variant_at (next_before variant_before)
+pub next_variant_takes : Takes next_variant_at (next_before variant_before)
 unfolding next_variant_at
 next_variant_takes ps x e =
     let a = bind_ok _ _ x e in
@@ -322,13 +322,13 @@ variant_longer v rest = omega (arith, docs_longer v.docs (word v.name ∷ after_
 pub variants_looped : Looped begins_next next_variant_at
 variants_looped = record { none = refl; shrinks = λ ps x e. shrunk ps _ _ x.1 (next_variant_takes ps x e) (variant_longer x.0 x.1) }
 
-variants_take : Takes variants_at (list_before variant_before)
+pub variants_take : Takes variants_at (list_before variant_before)
 unfolding variants_at
 variants_take ps x e =
     let a = bind_ok _ _ x e in
     firsts variant_before begins_next next_variant_at ps a.0 x variants_looped next_variant_takes (variant_takes ps a.0 a.1) a.2
 
-enumeration_takes : Takes enumeration_at enumeration_before
+pub enumeration_takes : Takes enumeration_at enumeration_before
 unfolding enumeration_at
 enumeration_takes ps x e =
     let y0 = bind_ok _ _ x e in
@@ -349,7 +349,7 @@ enumeration_takes ps x e =
     (comma_takes y5.0.1 y6.0 y6.1) ∙ ap (λ (r : List Piece). comma_before y6.0.0 r) (
     mark_takes 125 y6.0.1 y7.0 y7.1))))))))
 
-member_takes : Takes member_at member_before
+pub member_takes : Takes member_at member_before
 unfolding member_at
 member_takes ps x e =
     let y0 = bind_ok _ _ x e in
@@ -362,7 +362,7 @@ member_takes ps x e =
     (optional_takes 58 path_at path_before path_takes y1.0.1 y2.0 y2.1) ∙ ap (λ (r : List Piece). after_before 58 path_before y2.0.0 r) (
     optional_takes 61 number_at number_before number_takes y2.0.1 y3.0 y3.1))))
 
-next_member_takes : Takes next_member_at (next_before member_before)
+pub next_member_takes : Takes next_member_at (next_before member_before)
 unfolding next_member_at
 next_member_takes ps x e =
     let a = bind_ok _ _ x e in
@@ -377,13 +377,13 @@ member_longer m rest =
 pub members_looped : Looped begins_next next_member_at
 members_looped = record { none = refl; shrinks = λ ps x e. shrunk ps _ _ x.1 (next_member_takes ps x e) (member_longer x.0 x.1) }
 
-members_take : Takes members_at (list_before member_before)
+pub members_take : Takes members_at (list_before member_before)
 unfolding members_at
 members_take ps x e =
     let a = bind_ok _ _ x e in
     firsts member_before begins_next next_member_at ps a.0 x members_looped next_member_takes (member_takes ps a.0 a.1) a.2
 
-union_takes : Takes union_at union_before
+pub union_takes : Takes union_at union_before
 unfolding union_at
 union_takes ps x e =
     let y0 = bind_ok _ _ x e in
@@ -400,7 +400,7 @@ union_takes ps x e =
     (comma_takes y3.0.1 y4.0 y4.1) ∙ ap (λ (r : List Piece). comma_before y4.0.0 r) (
     mark_takes 125 y4.0.1 y5.0 y5.1))))))
 
-method_takes : Takes method_at method_before
+pub method_takes : Takes method_at method_before
 unfolding method_at
 method_takes ps x e =
     let y0 = bind_ok _ _ x e in
@@ -431,7 +431,7 @@ method_rest_longer m rest =
 pub methods_looped : Looped inside method_at
 methods_looped = record { none = refl; shrinks = λ ps x e. docs_shrunk ps x.0.docs _ _ x.1 (method_takes ps x e) (method_rest_longer x.0 x.1) }
 
-service_takes : Takes service_at service_before
+pub service_takes : Takes service_at service_before
 unfolding service_at
 service_takes ps x e =
     let y0 = bind_ok _ _ x e in
@@ -444,7 +444,7 @@ service_takes ps x e =
     ((list_takes inside method_at method_before methods_looped method_takes y1.0 y2.0 y2.1).0) ∙ ap (λ (r : List Piece). each_before method_before y2.0.0 r) (
     mark_takes 125 y2.0.1 y3.0 y3.1))))
 
-quoted_takes : Takes quoted_at quoted_before
+pub quoted_takes : Takes quoted_at quoted_before
 unfolding quoted_at
 quoted_takes ps x e =
     let y0 = bind_ok _ _ x e in
@@ -453,7 +453,7 @@ quoted_takes ps x e =
     ((text_takes ps y0.0 y0.1) ∙ ap (λ (r : List Piece). text y0.0.0 ∷ r) (
     mark_takes 59 y0.0.1 y1.0 y1.1))
 
-rooted_takes : Takes rooted_at rooted_before
+pub rooted_takes : Takes rooted_at rooted_before
 unfolding rooted_at
 rooted_takes ps x e =
     let y0 = bind_ok _ _ x e in
@@ -462,7 +462,7 @@ rooted_takes ps x e =
     ((path_takes ps y0.0 y0.1) ∙ ap (λ (r : List Piece). path_before y0.0.0 r) (
     mark_takes 59 y0.0.1 y1.0 y1.1))
 
-namespace_takes : Takes namespace_at namespace_before
+pub namespace_takes : Takes namespace_at namespace_before
 unfolding namespace_at
 namespace_takes ps x e = either (begins_mark 59 ps) _ _ (ps ≡ namespace_before x.0 x.1) x e
     (λ h.
@@ -474,7 +474,7 @@ namespace_takes ps x e = either (begins_mark 59 ps) _ _ (ps ≡ namespace_before
     subst (λ (y : Option PathV × List Piece). ps ≡ namespace_before y.0 y.1) (ok_is _ x y0.2)
     (rooted_takes ps y0.0 y0.1))
 
-declared_takes : Takes declared_at declared_before
+pub declared_takes : Takes declared_at declared_before
 unfolding declared_at
 declared_takes ps x e =
     let y0 = bind_ok _ _ x e in
@@ -495,7 +495,7 @@ bytes_same (x ∷ xs) (y ∷ ys) h =
     let both_hold = both (x == y) (bytes_eq xs ys) h in
     ap (λ z. z ∷ xs) (eqb-true x y both_hold.0) ∙ ap (λ z. y ∷ z) (bytes_same xs ys both_hold.1)
 
-keyed : {A : Type 0} (make : A → ItemV) (read : List Piece → Reads A) (print : Before A) (kw key : Name) (ps : List Piece) (x : ItemV × List Piece) → Takes read print
+pub keyed : {A : Type 0} (make : A → ItemV) (read : List Piece → Reads A) (print : Before A) (kw key : Name) (ps : List Piece) (x : ItemV × List Piece) → Takes read print
     → ((a : A) (rest : List Piece) → word kw ∷ print a rest ≡ item_before (make a) rest)
     → bytes_eq key kw ≡ true → as_item make (read ps) ≡ Ok x → word key ∷ ps ≡ item_before x.0 x.1
 keyed make read print kw key ps x takes is k e =
@@ -514,7 +514,7 @@ statement_takes key left ps x e0 =
     chosen (bytes_eq key (codes "file_extension")) _ _ (word key ∷ ps ≡ item_before x.0 x.1) x e5 (keyed extension quoted_at quoted_before (codes "file_extension") key ps x quoted_takes (λ a rest. refl)) (λ e6.
     absurd cc))))))
 
-item_takes : (key : Name) (left : ℕ) (ps : List Piece) (x : ItemV × List Piece) → item_at key left ps ≡ Ok x → word key ∷ ps ≡ item_before x.0 x.1
+pub item_takes : (key : Name) (left : ℕ) (ps : List Piece) (x : ItemV × List Piece) → item_at key left ps ≡ Ok x → word key ∷ ps ≡ item_before x.0 x.1
 unfolding item_at
 item_takes key left ps x e0 =
     chosen (bytes_eq key (codes "table")) _ _ (word key ∷ ps ≡ item_before x.0 x.1) x e0 (keyed table record_at record_before (codes "table") key ps x record_takes (λ a rest. refl)) (λ e1.

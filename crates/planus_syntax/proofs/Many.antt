@@ -1,12 +1,13 @@
 -- Lists of items.
-use Rattle.std.proofs.Common.{◌≡◌, ℕ, zero, suc, ◌≤◌, Bool, true, false, cond, List, [], ◌∷◌, ◌++◌, length, Result, Ok, Err, refl, sym, ap, subst, ◌∙◌, append_assoc, arith}
+use Rattle.std.proofs.Common.{◌≡◌, ℕ, zero, suc, ◌≤◌, Bool, true, false, cond, List, [], ◌∷◌, ◌++◌, length, map, Result, Ok, Err, refl, sym, ap, subst, ◌∙◌, append_assoc, arith}
 use Rattle.std.specs.List.{AllByRecursion}
 use Rattle.std.proofs.lemmas.List.{append-nil}
 use Rattle.planus_syntax.specs.Values.{Before, each_before}
 use Rattle.planus_syntax.specs.declared.read_error.ReadError.{ReadError}
 use Rattle.planus_syntax.specs.declared.read_error.ReadError.TheVariants as errors
 use Rattle.planus_syntax.specs.Tokens.{Piece}
-use Rattle.planus_syntax.specs.Reading.{Fault, Reads, ◌>>=◌, Fails, Looped, many, list_at, with_items}
+use Rattle.planus_syntax.specs.Counting.{EachCounted}
+use Rattle.planus_syntax.specs.Reading.{Fault, Reads, ◌>>=◌, Fails, Looped, Takes, many, list_at, with_items}
 
 pub bind_ok : {A B : Type 0} (r : Result A Fault) (f : A → Result B Fault) (y : B) → (r >>= f) ≡ Ok y → (x : A) × (r ≡ Ok x) × (f x ≡ Ok y)
 bind_ok (Ok x) f y e = (x, refl, e)
@@ -71,9 +72,6 @@ is_done goes item l front ps total g so_far =
     let one : list_at goes item ps ≡ Ok ([], ps) = unroll goes item l ps ∙ ap (λ b. joined b (item ps) (list_at goes item) ps) g in
     sym so_far ∙ ap (with_items front) one ∙ ap (λ ys. Ok (ys, ps)) (append-nil front)
 
-abbrev pub Takes : {A : Type 0} → (List Piece → Reads A) → Before A → Type 0
-Takes {A} item print = (ps : List Piece) (x : A × List Piece) → item ps ≡ Ok x → ps ≡ print x.0 x.1
-
 abbrev pub ListTakes : {A : Type 0} → (List Piece → Bool) → Before A → List Piece → List A × List Piece → Type 0
 ListTakes goes print ps x = (ps ≡ each_before print x.0 x.1) × (goes x.1 ≡ false)
 
@@ -125,3 +123,15 @@ always a = true
 pub all_always : {A : Type 0} (xs : List A) → AllByRecursion (λ (a : A). always a ≡ true) xs
 all_always [] = tt
 all_always (x ∷ xs) = (refl, all_always xs)
+
+-- the tokens of the items so far, before one more
+one_more : {X V : Type 0} (view : X → V) (before : Before V) (xs : List X) (x : X) (rest after : List Piece) → rest ≡ before (view x) after
+    → each_before before (map view xs) rest ≡ each_before before (map view (xs ++ x ∷ [])) after
+one_more view before [] x rest after e = e
+one_more view before (y ∷ ys) x rest after e = ap (before (view y)) (one_more view before ys x rest after e)
+
+pub push_counted : {X V : Type 0} (counted : X → List Piece → Type 0) (view : X → V) (before : Before V) (xs : List X) (x : X) (rest after : List Piece)
+    → EachCounted counted view before xs rest → rest ≡ before (view x) after → counted x after → EachCounted counted view before (xs ++ x ∷ []) after
+push_counted counted view before [] x rest after h e k = (k, tt)
+push_counted counted view before (y ∷ ys) x rest after h e k =
+    (subst (counted y) (one_more view before ys x rest after e) h.0, push_counted counted view before ys x rest after h.1 e k)

@@ -6,4 +6,5 @@ pub mod Lexing
 pub mod Cutting
 pub mod Placing
 pub mod Reading
+pub mod Counting
 pub mod Parsed

@@ -15,7 +15,7 @@ use Rattle.planus_syntax.specs.Values.{quote, nothing, LabelV, AttributeV, Field
 use Rattle.planus_syntax.specs.Values.{VariantV, EnumerationV, MemberV, UnionV, MethodV, ServiceV}
 use Rattle.planus_syntax.specs.Values.{ItemV, include, namespace, attribute, table, struct}
 use Rattle.planus_syntax.specs.Values.{enumeration, union, service, root, identifier, extension}
-use Rattle.planus_syntax.specs.Values.{DeclarationV}
+use Rattle.planus_syntax.specs.Values.{DeclarationV, Before}
 
 abbrev pub Fault : Type 0
 Fault = ParseFault × ℕ
@@ -119,6 +119,14 @@ pub record Looped {A : Type 0} (goes : List Piece → Bool) (item : List Piece �
   where
     pub none : goes [] ≡ false
     pub shrinks : (ps : List Piece) (x : A × List Piece) → item ps ≡ Ok x → length x.1 < length ps
+
+-- An item's tokens are those that were read.
+abbrev pub Takes : {A : Type 0} → (List Piece → Reads A) → Before A → Type 0
+Takes {A} item before = (ps : List Piece) (x : A × List Piece) → item ps ≡ Ok x
+    → ps ≡ before x.0 x.1
+
+abbrev pub Listed : {A : Type 0} → (List Piece → Bool) → (List Piece → Reads A) → Before A → Type 0
+Listed goes item before = Looped goes item × Takes item before
 
 -- items while the test holds, at most n
 abbrev pub many : {A : Type 0} → (List Piece → Bool) → (List Piece → Reads A) → ℕ → List Piece

@@ -5,7 +5,9 @@ ghost use Rattle.planus_syntax.specs.Values.{DeclarationV, AreWhole, schema_piec
 ghost use Rattle.planus_syntax.specs.Values.{declaration_of, schema_of};
 ghost use Rattle.planus_syntax.specs.Parsed.{ParsesTo, AnswersParse};
 ghost use Rattle.planus_syntax.specs.Tokens.{pieces_of};
-ghost use Rattle.planus_syntax.specs.Reading.{Gives, list_at, is_some as is_some_lem};
+ghost use Rattle.planus_syntax.specs.Reading.{list_at, is_some as is_some_lem};
+ghost use Rattle.planus_syntax.specs.Counting.{AreCounted, DeclarationCounted, GivesCounted};
+ghost use Rattle.planus_syntax.specs.Values.{declaration_before};
 ghost use Rattle.planus_syntax.specs.Reading.{declaration_at as declaration_at_lem};
 ghost use Rattle.planus_syntax.specs.Reading.{schema_at as schema_at_lem};
 
@@ -53,6 +55,10 @@ impl Items for Declarations {
 
     ghost value_of = { declaration_of };
 
+    ghost before = { declaration_before };
+
+    ghost Counted = { DeclarationCounted };
+
     type Item = Declaration;
 
     fn goes_on(tokens: &[Token]) -> bool {
@@ -75,7 +81,7 @@ impl Items for Declarations {
 }
 
 fn schema_at(alloc: Global, tokens: &[Token]) -> Result<Vec<Declaration>, ReadError>
-    ensures { Gives (λ v. (schema_of v.items, [])) result
+    ensures { GivesCounted (λ v. AreCounted v.items) (λ v. (schema_of v.items, [])) result
         (list_at is_some_lem declaration_at_lem (pieces_of tokens.now)) }
 {
     let (items, _rest) = or_return!(list_of::<Declarations>(alloc, tokens));
@@ -92,6 +98,7 @@ pub(crate) enum ParseError {
 pub(crate) fn parse(alloc: Global, tokens: &[Token]) -> Result<Vec<Declaration>, ParseError>
     ensures found { IfOk result (λ v. pieces_of tokens.now ≡ schema_pieces (schema_of v.items)) }
     ensures whole { IfOk result (λ v. AreWhole (schema_of v.items)) }
+    ensures counted { IfOk result (λ v. AreCounted v.items) }
     ensures only { (ds : List DeclarationV) → AreWhole ds
         → pieces_of tokens.now ≡ schema_pieces ds → ParsesTo ds result }
     ensures exact { AnswersParse (length tokens.now) result

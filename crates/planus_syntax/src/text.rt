@@ -7,6 +7,7 @@ ghost use Rattle.planus_syntax.specs.Lexing.{lex_of};
 ghost use Rattle.planus_syntax.specs.declared.text.SchemaError.TheVariants.{OutOfMemory};
 ghost use Rattle.planus_syntax.specs.Values.{AreWhole, DeclarationV, IsSchema, schema_of};
 ghost use Rattle.planus_syntax.specs.Values.{schema_pieces, text_of};
+ghost use Rattle.planus_syntax.specs.Counting.{AreCounted};
 ghost use Rattle.planus_syntax.specs.Parsed.{IsFaultOf, LiesIn, Spells};
 ghost use Rattle.planus_syntax.specs.Parsed.{TextFormatsTo, TextParsesTo, TextReadsTo};
 
@@ -41,6 +42,7 @@ fn read(alloc: Global, text: &[u8]) -> Result<(Vec<Token>, Vec<Declaration>), Sc
     ensures tokens { IfOk result (λ x. pieces_of x.0.items
         ≡ schema_pieces (schema_of x.1.items)) }
     ensures whole { IfOk result (λ x. AreWhole (schema_of x.1.items)) }
+    ensures counted { IfOk result (λ x. AreCounted x.1.items) }
     ensures only { (schema : List DeclarationV) → AreWhole schema
         → lex_of text.now ≡ Ok (schema_pieces schema) → TextReadsTo schema result }
     ensures exact { IfErr result (λ error. IsFaultOf text.now error) }
@@ -68,6 +70,8 @@ pub fn parse_text(alloc: Global, text: &[u8]) -> Result<Vec<Declaration>, Schema
     ensures found { IfOk result (λ v. Spells text.now (schema_of v.items)) }
     // It has no empty enum or union.
     ensures whole { IfOk result (λ v. AreWhole (schema_of v.items)) }
+    // Each `left` is the number of tokens from its word to the text's end, the word included.
+    ensures counted { IfOk result (λ v. AreCounted v.items) }
     // A text that spells a schema is read as that schema, unless memory is refused.
     ensures only { (schema : List DeclarationV) → AreWhole schema → Spells text.now schema
         → TextParsesTo schema result }

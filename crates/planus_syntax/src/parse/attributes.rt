@@ -12,6 +12,9 @@ ghost use Rattle.planus_syntax.specs.Reading.{number_at as number_at_lem, path_a
 ghost use Rattle.planus_syntax.specs.Reading.{attribute_at as attribute_at_lem};
 ghost use Rattle.planus_syntax.specs.Reading.{next_attribute_at as next_attribute_at_lem};
 ghost use Rattle.planus_syntax.specs.Reading.{attributes_at as attributes_at_lem};
+ghost use Rattle.planus_syntax.specs.Counting.{AttributeCounted, AttributesCounted, GivesCounted};
+ghost use Rattle.planus_syntax.specs.Counting.{IfAny, PathCounted};
+ghost use Rattle.planus_syntax.specs.Values.{attribute_before, doc_before, next_before};
 
 use crate::parse::lists::{Items, list_after, list_of};
 use crate::parse::literals::literal_after;
@@ -43,7 +46,8 @@ pub(crate) fn target_at(
     alloc: Global,
     tokens: &[Token],
 ) -> Result<(Option<Path>, &[Token]), ReadError>
-    ensures { Gives (λ x. (option_map path_of x.0, pieces_of x.1.now)) result
+    ensures { GivesCounted (λ x. IfAny PathCounted x.0 (pieces_of x.1.now))
+        (λ x. (option_map path_of x.0, pieces_of x.1.now)) result
         (optional_at 58 path_at_lem (pieces_of tokens.now)) }
 {
     match after_mark(tokens, b':') {
@@ -56,7 +60,8 @@ pub(crate) fn target_at(
 }
 
 fn attribute_at(alloc: Global, tokens: &[Token]) -> Result<(Attribute, &[Token]), ReadError>
-    ensures { Gives (λ x. (attribute_of x.0, pieces_of x.1.now)) result
+    ensures { GivesCounted (λ x. AttributeCounted x.0 (pieces_of x.1.now))
+        (λ x. (attribute_of x.0, pieces_of x.1.now)) result
         (attribute_at_lem (pieces_of tokens.now)) }
 {
     let (label, rest) = or_return!(label_at(alloc, tokens));
@@ -76,6 +81,10 @@ impl Items for MoreAttributes {
 
     ghost value_of = { attribute_of };
 
+    ghost before = { next_before attribute_before };
+
+    ghost Counted = { AttributeCounted };
+
     type Item = Attribute;
 
     fn goes_on(tokens: &[Token]) -> bool {
@@ -93,7 +102,8 @@ pub(crate) fn attributes_at(
     alloc: Global,
     tokens: &[Token],
 ) -> Result<(Vec<Attribute>, &[Token]), ReadError>
-    ensures { Gives (λ x. (map attribute_of x.0.items, pieces_of x.1.now)) result
+    ensures { GivesCounted (λ x. AttributesCounted x.0.items (pieces_of x.1.now))
+        (λ x. (map attribute_of x.0.items, pieces_of x.1.now)) result
         (attributes_at_lem (pieces_of tokens.now)) }
 {
     match after_mark(tokens, b'(') {
@@ -118,6 +128,10 @@ impl Items for Docs {
     ghost item_at = { doc_at_lem };
 
     ghost value_of = { λ line. line.items };
+
+    ghost before = { doc_before };
+
+    ghost Counted = { λ _ _. Unit {0} };
 
     type Item = Vec<u8>;
 

@@ -11,6 +11,8 @@ ghost use Rattle.planus_syntax.specs.Reading.{variant_at as variant_at_lem};
 ghost use Rattle.planus_syntax.specs.Reading.{next_variant_at as next_variant_at_lem};
 ghost use Rattle.planus_syntax.specs.Reading.{variants_at as variants_at_lem};
 ghost use Rattle.planus_syntax.specs.Reading.{enumeration_at as enumeration_at_lem};
+ghost use Rattle.planus_syntax.specs.Counting.{EachCounted, GivesCounted, ItemCounted, VariantCounted};
+ghost use Rattle.planus_syntax.specs.Values.{next_before, variant_before};
 
 use crate::parse::attributes::{attributes_at, docs_at, value_at};
 use crate::parse::lists::{Items, list_after};
@@ -31,7 +33,8 @@ pub(crate) fn comma_at(tokens: &[Token]) -> Result<(bool, &[Token]), ReadError>
 }
 
 fn variant_at(alloc: Global, tokens: &[Token]) -> Result<(Variant, &[Token]), ReadError>
-    ensures { Gives (λ x. (variant_of x.0, pieces_of x.1.now)) result
+    ensures { GivesCounted (λ x. VariantCounted x.0 (pieces_of x.1.now))
+        (λ x. (variant_of x.0, pieces_of x.1.now)) result
         (variant_at_lem (pieces_of tokens.now)) }
 {
     let (docs, start) = or_return!(docs_at(alloc, tokens));
@@ -60,6 +63,10 @@ impl Items for MoreVariants {
 
     ghost value_of = { variant_of };
 
+    ghost before = { next_before variant_before };
+
+    ghost Counted = { VariantCounted };
+
     type Item = Variant;
 
     fn goes_on(tokens: &[Token]) -> bool {
@@ -73,7 +80,8 @@ impl Items for MoreVariants {
 }
 
 fn variants_at(alloc: Global, tokens: &[Token]) -> Result<(Vec<Variant>, &[Token]), ReadError>
-    ensures { Gives (λ x. (map variant_of x.0.items, pieces_of x.1.now)) result
+    ensures { GivesCounted (λ x. EachCounted VariantCounted variant_of (next_before variant_before) x.0.items
+        (pieces_of x.1.now)) (λ x. (map variant_of x.0.items, pieces_of x.1.now)) result
         (variants_at_lem (pieces_of tokens.now)) }
 {
     let (first, rest) = or_return!(variant_at(alloc, tokens));
@@ -81,7 +89,8 @@ fn variants_at(alloc: Global, tokens: &[Token]) -> Result<(Vec<Variant>, &[Token
 }
 
 pub(crate) fn enumeration_at(alloc: Global, tokens: &[Token]) -> Result<(Item, &[Token]), ReadError>
-    ensures { Gives (λ x. (item_of x.0, pieces_of x.1.now)) result
+    ensures { GivesCounted (λ x. ItemCounted x.0 (pieces_of x.1.now))
+        (λ x. (item_of x.0, pieces_of x.1.now)) result
         (as_item enumeration_item (enumeration_at_lem (pieces_of tokens.now))) }
 {
     let (name, rest) = or_return!(word_at(alloc, tokens));

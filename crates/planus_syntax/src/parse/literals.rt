@@ -6,6 +6,7 @@ ghost use Rattle.planus_syntax.specs.Values.{literal_of};
 ghost use Rattle.planus_syntax.specs.Reading.{Gives, optional_at, brackets_at as brackets_at_lem};
 ghost use Rattle.planus_syntax.specs.Reading.{name_at as name_at_lem};
 ghost use Rattle.planus_syntax.specs.Reading.{literal_at as literal_at_lem};
+ghost use Rattle.planus_syntax.specs.Counting.{GivesCounted, IfAny, LiteralCounted};
 
 use crate::parse::paths::path_at;
 use crate::parse::tokens::{after_mark, mark_at};
@@ -16,7 +17,8 @@ use crate::value::Literal;
 use std::alloc::Global;
 
 fn brackets_at(tokens: &[Token]) -> Result<(Literal, &[Token]), ReadError>
-    ensures { Gives (λ x. (literal_of x.0, pieces_of x.1.now)) result
+    ensures { GivesCounted (λ x. LiteralCounted x.0 (pieces_of x.1.now))
+        (λ x. (literal_of x.0, pieces_of x.1.now)) result
         (brackets_at_lem (pieces_of tokens.now)) }
 {
     let rest = or_return!(mark_at(tokens, b'['));
@@ -25,7 +27,8 @@ fn brackets_at(tokens: &[Token]) -> Result<(Literal, &[Token]), ReadError>
 }
 
 fn name_at(alloc: Global, tokens: &[Token]) -> Result<(Literal, &[Token]), ReadError>
-    ensures { Gives (λ x. (literal_of x.0, pieces_of x.1.now)) result
+    ensures { GivesCounted (λ x. LiteralCounted x.0 (pieces_of x.1.now))
+        (λ x. (literal_of x.0, pieces_of x.1.now)) result
         (name_at_lem (pieces_of tokens.now)) }
 {
     let (path, rest) = or_return!(path_at(alloc, tokens));
@@ -33,7 +36,8 @@ fn name_at(alloc: Global, tokens: &[Token]) -> Result<(Literal, &[Token]), ReadE
 }
 
 fn literal_at(alloc: Global, tokens: &[Token]) -> Result<(Literal, &[Token]), ReadError>
-    ensures { Gives (λ x. (literal_of x.0, pieces_of x.1.now)) result
+    ensures { GivesCounted (λ x. LiteralCounted x.0 (pieces_of x.1.now))
+        (λ x. (literal_of x.0, pieces_of x.1.now)) result
         (literal_at_lem (pieces_of tokens.now)) }
 {
     match tokens.split_first() {
@@ -57,7 +61,8 @@ pub(crate) fn literal_after(
     mark: u8,
     tokens: &[Token],
 ) -> Result<(Option<Literal>, &[Token]), ReadError>
-    ensures { Gives (λ x. (option_map literal_of x.0, pieces_of x.1.now)) result
+    ensures { GivesCounted (λ x. IfAny LiteralCounted x.0 (pieces_of x.1.now))
+        (λ x. (option_map literal_of x.0, pieces_of x.1.now)) result
         (optional_at mark literal_at_lem (pieces_of tokens.now)) }
 {
     match after_mark(tokens, mark) {

@@ -5,6 +5,8 @@ ghost use Rattle.planus_syntax.specs.Values.{Name, path_of, kind_of};
 ghost use Rattle.planus_syntax.specs.Reading.{Gives, begins_mark as begins_mark_lem};
 ghost use Rattle.planus_syntax.specs.Reading.{dotted_at as dotted_at_lem, path_at as path_at_lem};
 ghost use Rattle.planus_syntax.specs.Reading.{kind_at as kind_at_lem};
+ghost use Rattle.planus_syntax.specs.Counting.{GivesCounted, KindCounted, PathCounted};
+ghost use Rattle.planus_syntax.specs.Values.{dotted_before};
 
 use crate::parse::lists::{Items, list_of};
 use crate::parse::tokens::{after_mark, begins_mark, mark_at, word_at};
@@ -25,6 +27,10 @@ impl Items for MoreWords {
 
     ghost value_of = { λ word. word.items };
 
+    ghost before = { dotted_before };
+
+    ghost Counted = { λ _ _. Unit {0} };
+
     type Item = Vec<u8>;
 
     fn goes_on(tokens: &[Token]) -> bool {
@@ -38,7 +44,8 @@ impl Items for MoreWords {
 }
 
 pub(crate) fn path_at(alloc: Global, tokens: &[Token]) -> Result<(Path, &[Token]), ReadError>
-    ensures { Gives (λ x. (path_of x.0, pieces_of x.1.now)) result
+    ensures { GivesCounted (λ x. PathCounted x.0 (pieces_of x.1.now))
+        (λ x. (path_of x.0, pieces_of x.1.now)) result
         (path_at_lem (pieces_of tokens.now)) }
 {
     let (first, rest) = or_return!(word_at(alloc, tokens));
@@ -54,7 +61,8 @@ pub(crate) fn path_at(alloc: Global, tokens: &[Token]) -> Result<(Path, &[Token]
 }
 
 pub(crate) fn kind_at(alloc: Global, tokens: &[Token]) -> Result<(Kind, &[Token]), ReadError>
-    ensures { Gives (λ x. (kind_of x.0, pieces_of x.1.now)) result
+    ensures { GivesCounted (λ x. KindCounted x.0 (pieces_of x.1.now))
+        (λ x. (kind_of x.0, pieces_of x.1.now)) result
         (kind_at_lem (pieces_of tokens.now)) }
 {
     match after_mark(tokens, b'[') {

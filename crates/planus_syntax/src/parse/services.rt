@@ -5,6 +5,8 @@ ghost use Rattle.planus_syntax.specs.Values.{MethodV, method_of, item_of, servic
 ghost use Rattle.planus_syntax.specs.Reading.{Gives, as_item, inside as inside_lem};
 ghost use Rattle.planus_syntax.specs.Reading.{method_at as method_at_lem};
 ghost use Rattle.planus_syntax.specs.Reading.{service_at as service_at_lem};
+ghost use Rattle.planus_syntax.specs.Counting.{GivesCounted, ItemCounted, MethodCounted};
+ghost use Rattle.planus_syntax.specs.Values.{method_before};
 
 use crate::parse::attributes::{attributes_at, docs_at};
 use crate::parse::lists::{Items, list_of};
@@ -26,6 +28,10 @@ impl Items for Methods {
     ghost item_at = { method_at_lem };
 
     ghost value_of = { method_of };
+
+    ghost before = { method_before };
+
+    ghost Counted = { MethodCounted };
 
     type Item = Method;
 
@@ -58,7 +64,8 @@ impl Items for Methods {
 }
 
 pub(crate) fn service_at(alloc: Global, tokens: &[Token]) -> Result<(Item, &[Token]), ReadError>
-    ensures { Gives (λ x. (item_of x.0, pieces_of x.1.now)) result
+    ensures { GivesCounted (λ x. ItemCounted x.0 (pieces_of x.1.now))
+        (λ x. (item_of x.0, pieces_of x.1.now)) result
         (as_item service_item (service_at_lem (pieces_of tokens.now))) }
 {
     let (name, rest) = or_return!(word_at(alloc, tokens));

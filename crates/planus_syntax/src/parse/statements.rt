@@ -11,6 +11,9 @@ ghost use Rattle.planus_syntax.specs.Reading.{namespace_at as namespace_at_lem};
 ghost use Rattle.planus_syntax.specs.Reading.{declared_at as declared_at_lem};
 ghost use Rattle.planus_syntax.specs.Reading.{statement_at as statement_at_lem};
 ghost use Rattle.planus_syntax.specs.Reading.{item_at as item_at_lem};
+ghost use Rattle.planus_syntax.specs.Counting.{GivesCounted, ItemCounted, PathCounted};
+ghost use Rattle.std.specs.Prelude.{◌∷◌};
+ghost use Rattle.planus_syntax.specs.Tokens.{mark};
 
 use crate::parse::enums::enumeration_at;
 use crate::parse::paths::path_at;
@@ -34,7 +37,8 @@ fn quoted_at(alloc: Global, tokens: &[Token]) -> Result<(Vec<u8>, &[Token]), Rea
 }
 
 fn rooted_at(alloc: Global, tokens: &[Token]) -> Result<(Path, &[Token]), ReadError>
-    ensures { Gives (λ x. (path_of x.0, pieces_of x.1.now)) result
+    ensures { GivesCounted (λ x. PathCounted x.0 (mark 59 ∷ pieces_of x.1.now))
+        (λ x. (path_of x.0, pieces_of x.1.now)) result
         (rooted_at_lem (pieces_of tokens.now)) }
 {
     let (path, rest) = or_return!(path_at(alloc, tokens));
@@ -43,7 +47,8 @@ fn rooted_at(alloc: Global, tokens: &[Token]) -> Result<(Path, &[Token]), ReadEr
 }
 
 fn namespace_at(alloc: Global, tokens: &[Token]) -> Result<(Item, &[Token]), ReadError>
-    ensures { Gives (λ x. (item_of x.0, pieces_of x.1.now)) result
+    ensures { GivesCounted (λ x. ItemCounted x.0 (pieces_of x.1.now))
+        (λ x. (item_of x.0, pieces_of x.1.now)) result
         (as_item namespace_item (namespace_at_lem (pieces_of tokens.now))) }
 {
     match after_mark(tokens, b';') {
@@ -56,7 +61,8 @@ fn namespace_at(alloc: Global, tokens: &[Token]) -> Result<(Item, &[Token]), Rea
 }
 
 fn declared_at(alloc: Global, tokens: &[Token]) -> Result<(Item, &[Token]), ReadError>
-    ensures { Gives (λ x. (item_of x.0, pieces_of x.1.now)) result
+    ensures { GivesCounted (λ x. ItemCounted x.0 (pieces_of x.1.now))
+        (λ x. (item_of x.0, pieces_of x.1.now)) result
         (as_item attribute_item (declared_at_lem (pieces_of tokens.now))) }
 {
     let (label, rest) = or_return!(label_at(alloc, tokens));
@@ -77,7 +83,8 @@ fn statement_at<'a>(
     left: usize,
     tokens: &'a [Token],
 ) -> Result<(Item, &'a [Token]), ReadError>
-    ensures { Gives (λ x. (item_of x.0, pieces_of x.1.now)) result
+    ensures { GivesCounted (λ x. ItemCounted x.0 (pieces_of x.1.now))
+        (λ x. (item_of x.0, pieces_of x.1.now)) result
         (statement_at_lem key.now left (pieces_of tokens.now)) }
 {
     if is_word(key, b"include") {
@@ -110,7 +117,8 @@ pub(crate) fn item_at<'a>(
     left: usize,
     tokens: &'a [Token],
 ) -> Result<(Item, &'a [Token]), ReadError>
-    ensures { Gives (λ x. (item_of x.0, pieces_of x.1.now)) result
+    ensures { GivesCounted (λ x. ItemCounted x.0 (pieces_of x.1.now))
+        (λ x. (item_of x.0, pieces_of x.1.now)) result
         (item_at_lem key.now left (pieces_of tokens.now)) }
 {
     if is_word(key, b"table") {

@@ -5,6 +5,8 @@ ghost use Rattle.planus_syntax.specs.Values.{FieldV, field_of, record_of};
 ghost use Rattle.planus_syntax.specs.Reading.{Gives, inside as inside_lem};
 ghost use Rattle.planus_syntax.specs.Reading.{field_at as field_at_lem};
 ghost use Rattle.planus_syntax.specs.Reading.{record_at as record_at_lem};
+ghost use Rattle.planus_syntax.specs.Counting.{FieldCounted, GivesCounted, RecordCounted};
+ghost use Rattle.planus_syntax.specs.Values.{field_before};
 
 use crate::parse::attributes::{attributes_at, docs_at};
 use crate::parse::lists::{Items, list_of};
@@ -27,6 +29,10 @@ impl Items for Fields {
     ghost item_at = { field_at_lem };
 
     ghost value_of = { field_of };
+
+    ghost before = { field_before };
+
+    ghost Counted = { FieldCounted };
 
     type Item = Field;
 
@@ -57,7 +63,8 @@ impl Items for Fields {
 }
 
 pub(crate) fn record_at(alloc: Global, tokens: &[Token]) -> Result<(Record, &[Token]), ReadError>
-    ensures { Gives (λ x. (record_of x.0, pieces_of x.1.now)) result
+    ensures { GivesCounted (λ x. RecordCounted x.0 (pieces_of x.1.now))
+        (λ x. (record_of x.0, pieces_of x.1.now)) result
         (record_at_lem (pieces_of tokens.now)) }
 {
     let (name, rest) = or_return!(word_at(alloc, tokens));

@@ -9,6 +9,7 @@ ghost use Rattle.planus_syntax.specs.Reading.{inside as inside_lem};
 ghost use Rattle.planus_syntax.specs.Reading.{mark_at as mark_at_lem, word_at as word_at_lem};
 ghost use Rattle.planus_syntax.specs.Reading.{number_at as number_at_lem};
 ghost use Rattle.planus_syntax.specs.Reading.{text_at as text_at_lem, label_at as label_at_lem};
+ghost use Rattle.planus_syntax.specs.Counting.{GivesCounted, LabelCounted};
 
 use crate::parse_fault::ParseFault;
 use crate::read_error::ReadError;
@@ -104,7 +105,8 @@ pub(crate) fn text_at(alloc: Global, tokens: &[Token]) -> Result<(Vec<u8>, &[Tok
 }
 
 pub(crate) fn label_at(alloc: Global, tokens: &[Token]) -> Result<(Label, &[Token]), ReadError>
-    ensures { Gives (λ x. (label_of x.0, pieces_of x.1.now)) result
+    ensures { GivesCounted (λ x. LabelCounted x.0 (pieces_of x.1.now))
+        (λ x. (label_of x.0, pieces_of x.1.now)) result
         (label_at_lem (pieces_of tokens.now)) }
 {
     match tokens.split_first() {

@@ -9,6 +9,8 @@ ghost use Rattle.planus_syntax.specs.Reading.{member_at as member_at_lem};
 ghost use Rattle.planus_syntax.specs.Reading.{next_member_at as next_member_at_lem};
 ghost use Rattle.planus_syntax.specs.Reading.{members_at as members_at_lem};
 ghost use Rattle.planus_syntax.specs.Reading.{union_at as union_at_lem};
+ghost use Rattle.planus_syntax.specs.Counting.{EachCounted, GivesCounted, ItemCounted, MemberCounted};
+ghost use Rattle.planus_syntax.specs.Values.{member_before, next_before};
 
 use crate::parse::attributes::{attributes_at, docs_at, target_at, value_at};
 use crate::parse::enums::comma_at;
@@ -21,7 +23,8 @@ use crate::value::{Item, Member, UnionBody};
 use std::alloc::Global;
 
 fn member_at(alloc: Global, tokens: &[Token]) -> Result<(Member, &[Token]), ReadError>
-    ensures { Gives (λ x. (member_of x.0, pieces_of x.1.now)) result
+    ensures { GivesCounted (λ x. MemberCounted x.0 (pieces_of x.1.now))
+        (λ x. (member_of x.0, pieces_of x.1.now)) result
         (member_at_lem (pieces_of tokens.now)) }
 {
     let (docs, rest) = or_return!(docs_at(alloc, tokens));
@@ -51,6 +54,10 @@ impl Items for MoreMembers {
 
     ghost value_of = { member_of };
 
+    ghost before = { next_before member_before };
+
+    ghost Counted = { MemberCounted };
+
     type Item = Member;
 
     fn goes_on(tokens: &[Token]) -> bool {
@@ -64,7 +71,8 @@ impl Items for MoreMembers {
 }
 
 fn members_at(alloc: Global, tokens: &[Token]) -> Result<(Vec<Member>, &[Token]), ReadError>
-    ensures { Gives (λ x. (map member_of x.0.items, pieces_of x.1.now)) result
+    ensures { GivesCounted (λ x. EachCounted MemberCounted member_of (next_before member_before) x.0.items
+        (pieces_of x.1.now)) (λ x. (map member_of x.0.items, pieces_of x.1.now)) result
         (members_at_lem (pieces_of tokens.now)) }
 {
     let (first, rest) = or_return!(member_at(alloc, tokens));
@@ -72,7 +80,8 @@ fn members_at(alloc: Global, tokens: &[Token]) -> Result<(Vec<Member>, &[Token])
 }
 
 pub(crate) fn union_at(alloc: Global, tokens: &[Token]) -> Result<(Item, &[Token]), ReadError>
-    ensures { Gives (λ x. (item_of x.0, pieces_of x.1.now)) result
+    ensures { GivesCounted (λ x. ItemCounted x.0 (pieces_of x.1.now))
+        (λ x. (item_of x.0, pieces_of x.1.now)) result
         (as_item union_item (union_at_lem (pieces_of tokens.now))) }
 {
     let (name, rest) = or_return!(word_at(alloc, tokens));

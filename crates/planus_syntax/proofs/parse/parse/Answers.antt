@@ -9,20 +9,20 @@ pub returns-in-Ok-clause-found : goal.returns-in-Ok-clause-found
 unfolding schema_at
 returns-in-Ok-clause-found c =
     is_found (length c.args.tokens.now) (pieces_of c.args.tokens.now) c.in-Ok.declarations
-    c.in-Ok.ensures
+    c.in-Ok.ensures.0
 
 pub returns-in-Ok-clause-whole : goal.returns-in-Ok-clause-whole
 unfolding schema_at
-returns-in-Ok-clause-whole c = schema_whole (pieces_of c.args.tokens.now) _ _ c.in-Ok.ensures
+returns-in-Ok-clause-whole c = schema_whole (pieces_of c.args.tokens.now) _ _ c.in-Ok.ensures.0
 
 pub returns-in-Ok-clause-only : goal.returns-in-Ok-clause-only
 unfolding schema_at
 returns-in-Ok-clause-only c =
-    is_only (pieces_of c.args.tokens.now) c.in-Ok.declarations c.in-Ok.ensures
+    is_only (pieces_of c.args.tokens.now) c.in-Ok.declarations c.in-Ok.ensures.0
 
 pub returns-in-Ok-clause-exact : goal.returns-in-Ok-clause-exact
 unfolding schema_at
-returns-in-Ok-clause-exact c = c.in-Ok.ensures
+returns-in-Ok-clause-exact c = c.in-Ok.ensures.0
 
 pub returns-in-Err-Fault-clause-only : goal.returns-in-Err-Fault-clause-only
 unfolding schema_at
@@ -37,3 +37,6 @@ returns-in-Err-Fault-clause-exact c = (
   rw c.in-Err-Fault.field-0-is at c.in-Err-Fault.ensures,
   c.saturating_sub-index.ensures,
 )
+
+pub returns-in-Ok-clause-counted : goal.returns-in-Ok-clause-counted
+returns-in-Ok-clause-counted c = c.in-Ok.ensures.1

@@ -9,8 +9,14 @@ returns-in-Err c = fails_first _ _ _ _ c.in-Some.ensures.0 (fails_later _ _ _ _ 
 
 pub returns-in-Ok : goal.returns-in-Ok
 unfolding optional_at
-returns-in-Ok c = first_way _ _ _ c.in-Some.ensures.0 ∙ reads_on _ _ _ _ c.in-Some.ensures.1 (reads_on _ _ _ _ c.in-Ok.ensures refl)
+returns-in-Ok c = (
+  first_way _ _ _ c.in-Some.ensures.0 ∙ reads_on _ _ _ _ c.in-Some.ensures.1 (reads_on _ _ _ _ c.in-Ok.ensures.0 refl),
+  c.in-Ok.ensures.1,
+)
 
 pub returns-in-None : goal.returns-in-None
 unfolding optional_at
-returns-in-None c = other_way _ _ _ c.in-None.ensures
+returns-in-None c = (
+  other_way _ _ _ c.in-None.ensures,
+  tt,
+)

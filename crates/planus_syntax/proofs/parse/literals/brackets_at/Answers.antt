@@ -13,4 +13,7 @@ returns-in-Err-mark_at c = fails_later _ _ _ _ c.in-Ok.ensures (fails_here _ _ _
 
 pub returns : goal.returns
 unfolding brackets_at
-returns c = reads_on _ _ _ _ c.in-Ok.ensures (reads_on _ _ _ _ c.in-Ok-mark_at.ensures refl)
+returns c = (
+  reads_on _ _ _ _ c.in-Ok.ensures (reads_on _ _ _ _ c.in-Ok-mark_at.ensures refl),
+  tt,
+)

@@ -9,4 +9,7 @@ returns-in-Err c = fails_here _ _ _ c.in-Err.ensures
 
 pub returns : goal.returns
 unfolding name_at
-returns c = reads_on _ _ _ _ c.in-Ok.ensures refl
+returns c = (
+  reads_on _ _ _ _ c.in-Ok.ensures.0 refl,
+  c.in-Ok.ensures.1,
+)

@@ -1,3 +1,6 @@
+use Rattle.std.proofs.Common.{subst}
+use Rattle.planus_syntax.specs.Counting.{PathCounted}
+use Rattle.planus_syntax.proofs.Loops.{mark_takes}
 use Rattle.std.proofs.Common.{refl, ◌∙◌}
 use Rattle.planus_syntax.specs.Reading.{kind_at}
 use Rattle.planus_syntax.proofs.Steps.{fails_here, fails_later, reads_on, first_way, other_way, fails_first, fails_other}
@@ -9,11 +12,14 @@ returns-in-Err c = fails_first _ _ _ _ c.in-Some.ensures.0 (fails_later _ _ _ _ 
 
 pub returns-in-Err-mark_at : goal.returns-in-Err-mark_at
 unfolding kind_at
-returns-in-Err-mark_at c = fails_first _ _ _ _ c.in-Some.ensures.0 (fails_later _ _ _ _ c.in-Some.ensures.1 (fails_later _ _ _ _ c.in-Ok.ensures (fails_here _ _ _ c.in-Err-mark_at.ensures)))
+returns-in-Err-mark_at c = fails_first _ _ _ _ c.in-Some.ensures.0 (fails_later _ _ _ _ c.in-Some.ensures.1 (fails_later _ _ _ _ c.in-Ok.ensures.0 (fails_here _ _ _ c.in-Err-mark_at.ensures)))
 
 pub returns-in-Ok-mark_at : goal.returns-in-Ok-mark_at
 unfolding kind_at
-returns-in-Ok-mark_at c = first_way _ _ _ c.in-Some.ensures.0 ∙ reads_on _ _ _ _ c.in-Some.ensures.1 (reads_on _ _ _ _ c.in-Ok.ensures (reads_on _ _ _ _ c.in-Ok-mark_at.ensures refl))
+returns-in-Ok-mark_at c = (
+  first_way _ _ _ c.in-Some.ensures.0 ∙ reads_on _ _ _ _ c.in-Some.ensures.1 (reads_on _ _ _ _ c.in-Ok.ensures.0 (reads_on _ _ _ _ c.in-Ok-mark_at.ensures refl)),
+  subst (PathCounted c.in-Ok.value.0) (mark_takes 93 _ _ c.in-Ok-mark_at.ensures) c.in-Ok.ensures.1,
+)
 
 pub returns-in-Err-path_at : goal.returns-in-Err-path_at
 unfolding kind_at
@@ -21,4 +27,7 @@ returns-in-Err-path_at c = fails_other _ _ _ _ c.in-None.ensures (fails_here _ _
 
 pub returns-in-Ok-path_at : goal.returns-in-Ok-path_at
 unfolding kind_at
-returns-in-Ok-path_at c = other_way _ _ _ c.in-None.ensures ∙ reads_on _ _ _ _ c.in-Ok-path_at.ensures refl
+returns-in-Ok-path_at c = (
+  other_way _ _ _ c.in-None.ensures ∙ reads_on _ _ _ _ c.in-Ok-path_at.ensures.0 refl,
+  c.in-Ok-path_at.ensures.1,
+)

@@ -1,3 +1,6 @@
+use Rattle.std.proofs.Common.{subst}
+use Rattle.planus_syntax.specs.Counting.{PathCounted}
+use Rattle.planus_syntax.proofs.Loops.{mark_takes}
 use Rattle.std.proofs.Common.{refl}
 use Rattle.planus_syntax.specs.Reading.{rooted_at}
 use Rattle.planus_syntax.proofs.Steps.{fails_here, fails_later, reads_on}
@@ -9,8 +12,11 @@ returns-in-Err c = fails_here _ _ _ c.in-Err.ensures
 
 pub returns-in-Err-mark_at : goal.returns-in-Err-mark_at
 unfolding rooted_at
-returns-in-Err-mark_at c = fails_later _ _ _ _ c.in-Ok.ensures (fails_here _ _ _ c.in-Err-mark_at.ensures)
+returns-in-Err-mark_at c = fails_later _ _ _ _ c.in-Ok.ensures.0 (fails_here _ _ _ c.in-Err-mark_at.ensures)
 
 pub returns : goal.returns
 unfolding rooted_at
-returns c = reads_on _ _ _ _ c.in-Ok.ensures (reads_on _ _ _ _ c.in-Ok-mark_at.ensures refl)
+returns c = (
+  reads_on _ _ _ _ c.in-Ok.ensures.0 (reads_on _ _ _ _ c.in-Ok-mark_at.ensures refl),
+  subst (PathCounted c.in-Ok.value.0) (mark_takes 59 _ _ c.in-Ok-mark_at.ensures) c.in-Ok.ensures.1,
+)

@@ -8,4 +8,4 @@ returns-in-Err c = fails_here _ _ _ c.in-Err.ensures
 
 pub returns : goal.returns
 unfolding next_attribute_at
-returns c = gives_later _ _ _ _ _ c.in-Ok.ensures c.attribute_at.ensures
+returns c = gives_later _ _ _ _ _ _ c.in-Ok.ensures c.attribute_at.ensures
