@@ -1,35 +1,112 @@
 -- Where tokens are in a text.
-use Rattle.std.specs.Prelude.{◌==◌}
-use Rattle.std.proofs.Common.{true, ◌≡◌, ℕ, zero, suc, ◌+◌, ◌-◌, ◌<◌, ◌≤◌, List, [], ◌∷◌, ◌++◌, length, drop, refl, sym, ap, subst, ◌∙◌, append_assoc, arith, Ok, Err}
+use Rattle.std.specs.Prelude.{◌==◌, not, None}
+use Rattle.std.specs.List.{list_all}
+use Rattle.std.proofs.Common.{true, false, ◌≡◌, ℕ, ◌+◌, ◌-◌, ◌<◌, ◌≤◌, List, [], ◌∷◌, ◌++◌, length, drop, refl, sym, ap, subst, ◌∙◌, append_assoc, arith, Ok, Err}
 use Rattle.std.proofs.lemmas.Bool.{eqb-true}
-use Rattle.std.proofs.lemmas.List.{length-append, append-nil, drop-drop}
+use Rattle.std.proofs.lemmas.List.{length-append, append-nil, length-drop, drop-drop}
 use Rattle.planus_syntax.specs.declared.lexer.LexFault.{LexFault}
-use Rattle.planus_syntax.specs.Tokens.{Piece, bytes_of}
+use Rattle.planus_syntax.specs.Tokens.{Piece, word, number, doc, mark, bytes_of, begins, is_word_byte, is_number_start, is_number_byte, is_number, is_string_byte, is_line_byte, is_blank, is_mark}
+use Rattle.planus_syntax.specs.Tokens as pieces
 use Rattle.planus_syntax.specs.Lexing.{Read, with_front, lex_of}
-use Rattle.planus_syntax.specs.Cutting.{Ends}
-use Rattle.planus_syntax.specs.Placing.{StandsFirst, StandsAt}
-use Rattle.planus_syntax.proofs.Scanning.{no_front}
+use Rattle.planus_syntax.specs.Cutting.{Splits, Leads, Starts, Closes}
+use Rattle.planus_syntax.specs.Spelled.{Part, token, blank, comment, block, part_bytes, goes_on, spelled, tokens_in, AreParts, closes, stays_open}
+use Rattle.planus_syntax.specs.Placing.{TokenFirst, StandsAt}
+use Rattle.planus_syntax.proofs.Scanning.{no_front, started}
+use Rattle.planus_syntax.proofs.Marks.{never}
+use Rattle.planus_syntax.proofs.Spelling.{all_two, all_three, all_and, not_begins, closes_earlier, spelling_read, spelling_found}
 
-pub string_whole : (bytes w rest after : List ℕ) → bytes ≡ w ++ rest → rest ≡ 34 ∷ after → 34 ∷ bytes ≡ (34 ∷ (w ++ 34 ∷ [])) ++ after
-string_whole bytes w rest after e f = ap (λ r. 34 ∷ r) (e ∙ ap (λ r. w ++ r) f ∙ sym (append_assoc w (34 ∷ []) after))
+pub word_leads : (bytes w rest : List ℕ) → Splits is_word_byte bytes w rest → begins is_word_byte bytes ≡ true → begins is_number_start bytes ≡ false → Leads bytes (token (word w)) rest
+word_leads bytes [] rest split h m = absurd (let f : begins is_word_byte rest ≡ true = sym (ap (begins is_word_byte) split.whole) ∙ h in let g = split.stops in cc)
+word_leads bytes (c ∷ w) rest split h m = record {
+  whole = split.whole;
+  lawful = all_three true (list_all is_word_byte (c ∷ w)) (begins is_number_start (c ∷ w)) refl split.each (sym (ap (begins is_number_start) split.whole) ∙ m);
+  stops = split.stops;
+}
 
-pub doc_whole : (bytes rest w after : List ℕ) → bytes ≡ 47 ∷ rest → rest ≡ w ++ after → 47 ∷ 47 ∷ bytes ≡ (47 ∷ 47 ∷ 47 ∷ w) ++ after
-doc_whole bytes rest w after e f = ap (λ r. 47 ∷ 47 ∷ r) (e ∙ ap (λ r. 47 ∷ r) f)
+pub number_leads : (bytes w rest : List ℕ) → Splits is_number_byte bytes w rest → begins is_number_start bytes ≡ true → is_number w ≡ true → Leads bytes (token (number w)) rest
+number_leads bytes [] rest split h d = absurd (let f : begins is_number_byte rest ≡ true = sym (ap (begins is_number_byte) split.whole) ∙ started bytes h in let g = split.stops in cc)
+number_leads bytes (c ∷ w) rest split h d = record {
+  whole = split.whole;
+  lawful = all_and (begins is_number_start (c ∷ w)) (list_all is_number_byte (c ∷ w)) (is_number (c ∷ w)) (sym (ap (begins is_number_start) split.whole) ∙ h) split.each d;
+  stops = split.stops;
+}
 
-pub comment_ends : (bytes w after : List ℕ) → bytes ≡ w ++ after → Ends (47 ∷ 47 ∷ bytes) after
-comment_ends bytes w after e = (47 ∷ 47 ∷ w, ap (λ r. 47 ∷ 47 ∷ r) e)
+pub string_leads : (bytes w rest after : List ℕ) → Splits is_string_byte bytes w rest → rest ≡ 34 ∷ after → Leads (34 ∷ bytes) (token (pieces.text w)) after
+string_leads bytes w rest after split e = record {
+  whole = ap (λ r. 34 ∷ r) (split.whole ∙ ap (λ r. w ++ r) e ∙ sym (append_assoc w (34 ∷ []) after));
+  lawful = split.each;
+  stops = never after;
+}
 
-pub ends_on : (bytes front rest after : List ℕ) → bytes ≡ front ++ rest → Ends rest after → Ends bytes after
-ends_on bytes front rest after e f = (front ++ f.0, e ∙ ap (λ r. front ++ r) f.1 ∙ sym (append_assoc front f.0 after))
+pub doc_leads : (bytes rest w after : List ℕ) → bytes ≡ 47 ∷ rest → Splits is_line_byte rest w after → Leads (47 ∷ 47 ∷ bytes) (token (doc w)) after
+doc_leads bytes rest w after e split = record {
+  whole = ap (λ r. 47 ∷ 47 ∷ r) (e ∙ ap (λ r. 47 ∷ r) split.whole);
+  lawful = split.each;
+  stops = split.stops;
+}
 
-pub ends_in : (bytes rest after : List ℕ) → Ends bytes rest → Ends rest after → Ends bytes after
-ends_in bytes rest after e f = ends_on bytes e.0 rest after e.1 f
+pub comment_leads : (bytes w after : List ℕ) → begins (λ b. b == 47) bytes ≡ false → Splits is_line_byte bytes w after → Starts (47 ∷ 47 ∷ bytes) None after
+comment_leads bytes w after n split = (
+  comment w,
+  refl,
+  record {
+    whole = ap (λ r. 47 ∷ 47 ∷ r) split.whole;
+    lawful = all_two (list_all is_line_byte w) (not (begins (λ b. b == 47) w)) split.each (not_begins w after (sym (ap (begins (λ b. b == 47)) split.whole) ∙ n));
+    stops = split.stops;
+  },
+)
 
-pub ends_self : (bytes : List ℕ) → Ends bytes bytes
-ends_self bytes = ([], refl)
+pub block_leads : (bytes rest after : List ℕ) → bytes ≡ 42 ∷ rest → Closes rest after → Starts (47 ∷ bytes) None after
+block_leads bytes rest after e c = (
+  block c.0,
+  refl,
+  record {
+    whole = ap (λ r. 47 ∷ r) (e ∙ ap (λ r. 42 ∷ r) (c.1 ∙ sym (append_assoc c.0 (42 ∷ 47 ∷ []) after)));
+    lawful = c.2;
+    stops = never after;
+  },
+)
 
-pub ends_length : (bytes rest : List ℕ) (e : Ends bytes rest) → length bytes - length rest ≡ length e.0
-ends_length bytes rest e = omega (arith, ap length e.1, length-append e.0 rest)
+pub blank_leads : (bytes : List ℕ) (b : ℕ) (rest : List ℕ) → bytes ≡ b ∷ rest → is_blank b ≡ true → Starts bytes None rest
+blank_leads bytes b rest e h = (blank b, refl, record { whole = e; lawful = h; stops = never rest })
+
+pub mark_leads : (bytes : List ℕ) (b : ℕ) (rest : List ℕ) → bytes ≡ b ∷ rest → is_mark b ≡ true → Leads bytes (token (mark b)) rest
+mark_leads bytes b rest e h = record { whole = e; lawful = h; stops = never rest }
+
+pub closes_later : (bytes : List ℕ) (b : ℕ) (rest after : List ℕ) → bytes ≡ b ∷ rest → closes bytes ≡ false → Closes rest after → Closes bytes after
+closes_later bytes b rest after e n c = (
+  b ∷ c.0,
+  e ∙ ap (λ r. b ∷ r) c.1,
+  all_two (not (closes (b ∷ c.0))) (stays_open c.0) (closes_earlier b c.0 after (sym (ap closes (e ∙ ap (λ r. b ∷ r) c.1)) ∙ n)) c.2,
+)
+
+-- The bytes before `rest` are parts with this many tokens, whatever parts follow.
+abbrev pub Reaches : List ℕ → List ℕ → ℕ → Type 0
+Reaches text rest count = (before : List Part) × (text ≡ spelled before ++ rest) × (count ≡ length (tokens_in before))
+    × ((after : List Part) → AreParts after → rest ≡ spelled after → AreParts (before ++ after))
+
+spelled_append : (xs ys : List Part) → spelled (xs ++ ys) ≡ spelled xs ++ spelled ys
+spelled_append [] ys = refl
+spelled_append (x ∷ xs) ys = ap (λ r. part_bytes x ++ r) (spelled_append xs ys) ∙ sym (append_assoc (part_bytes x) (spelled xs) (spelled ys))
+
+tokens_append : (xs ys : List Part) → tokens_in (xs ++ ys) ≡ tokens_in xs ++ tokens_in ys
+tokens_append [] ys = refl
+tokens_append (token p ∷ xs) ys = ap (λ r. p ∷ r) (tokens_append xs ys)
+tokens_append (blank b ∷ xs) ys = tokens_append xs ys
+tokens_append (comment w ∷ xs) ys = tokens_append xs ys
+tokens_append (block w ∷ xs) ys = tokens_append xs ys
+
+pub reaches_self : (text : List ℕ) → Reaches text text 0
+reaches_self text = ([], refl, refl, λ after a e. a)
+
+pub reaches_on : (text rest after : List ℕ) (count n : ℕ) (p : Part) → Reaches text rest count → Leads rest p after → n ≡ count + length (tokens_in (p ∷ [])) → Reaches text after n
+reaches_on text rest after count n p r l e =
+    let b = r.0 in (
+      b ++ p ∷ [],
+      r.1 ∙ ap (λ x. spelled b ++ x) (l.whole ∙ ap (λ x. x ++ after) (sym (append-nil (part_bytes p)))) ∙ sym (append_assoc (spelled b) (spelled (p ∷ [])) after) ∙ ap (λ x. x ++ after) (sym (spelled_append b (p ∷ []))),
+      omega (arith, r.2, ap length (tokens_append b (p ∷ [])), length-append (tokens_in b) (tokens_in (p ∷ []))),
+      λ qs a f. subst AreParts (sym (append_assoc b (p ∷ []) qs)) (r.3 (p ∷ qs) (l.lawful, subst (λ x. begins (goes_on p) x ≡ false) f l.stops, a) (l.whole ∙ ap (λ x. part_bytes p ++ x) f)),
+    )
 
 abbrev ok : List Piece → Read
 ok ps = Ok ps
@@ -68,37 +145,35 @@ counted p text rest after index left h k l so_far ps o i =
     let e : (index - left) + 1 ≡ index - (left - 1) = omega arith in
     f.1 ∙ ap ok (drop_next (index - left) ps p f.0 f.2 ∙ ap (λ n. drop n ps) e)
 
-pub found_at : (p : Piece) (text rest after : List ℕ) (index left : ℕ) (e : Ends text rest) → left ≡ 0 → lex_of rest ≡ with_front (p ∷ []) (lex_of after) → rest ≡ bytes_of p ++ after
+stands : (text rest : List ℕ) (index count : ℕ) (ps : List Piece) → Reaches text rest count → index ≡ count → lex_of text ≡ Ok ps → (after : List Part) → AreParts after → rest ≡ spelled after → TokenFirst after
+    → StandsAt text ps index (length text - length rest)
+stands text rest index count ps r i o after a e f =
+    let b = r.0 in
+    let parts = r.3 after a e in
+    let spells : text ≡ spelled (b ++ after) = r.1 ∙ ap (λ x. spelled b ++ x) e ∙ sym (spelled_append b after) in
+    (b, after, parts, spells, ok_is ps (tokens_in (b ++ after)) (sym o ∙ ap lex_of spells ∙ spelling_read (b ++ after) parts), i ∙ r.2, omega (arith, ap length r.1, length-append (spelled b) rest), f)
+
+pub found_at : (p : Piece) (text rest after : List ℕ) (index left : ℕ) → Reaches text rest (index - left) → left ≡ 0 → lex_of rest ≡ with_front (p ∷ []) (lex_of after) → Leads rest (token p) after
     → ((ps : List Piece) → lex_of text ≡ Ok ps → index ≤ length ps → lex_of rest ≡ Ok (drop (index - left) ps))
     → (ps : List Piece) → lex_of text ≡ Ok ps → index ≤ length ps → StandsAt text ps index (length text - length rest)
-found_at p text rest after index left e z l w so_far ps o i =
-    let n : index - left ≡ index = omega arith in
-    let tokens : lex_of rest ≡ Ok (drop index ps) = so_far ps o i ∙ ap (λ k. ok (drop k ps)) n in
-    let f = one_off p rest after (drop index ps) l tokens in
-    (e.0, rest, e.1, ends_length text rest e, tokens, subst (λ qs. StandsFirst qs rest) f.2 (after, w))
+found_at p text rest after index left r z l w so_far ps o i =
+    let f = one_off p rest after (drop (index - left) ps) l (so_far ps o i) in
+    let g = spelling_found after f.0 f.1 in
+    stands text rest index (index - left) ps r (omega arith) o (token p ∷ g.0) (w.lawful, subst (λ x. begins (goes_on (token p)) x ≡ false) g.2 w.stops, g.1) (w.whole ∙ ap (λ x. bytes_of p ++ x) g.2) tt
 
 abbrev nothing : List Piece
 nothing = []
 
-drop_nil : (n : ℕ) → drop n nothing ≡ nothing
-drop_nil zero = refl
-drop_nil (suc n) = refl
-
-no_more : (ps : List Piece) → lex_of [] ≡ Ok ps → ps ≡ []
+no_more : (ps : List Piece) → lex_of [] ≡ Ok ps → ps ≡ nothing
 no_more ps o = cc
 
-drop_on : (ps : List Piece) (n index : ℕ) → drop n ps ≡ [] → n ≤ index → drop index ps ≡ []
-drop_on ps n index e h =
-    let k : n + (index - n) ≡ index = omega arith in
-    ap (λ m. drop m ps) (sym k) ∙ sym (drop-drop (index - n) n ps) ∙ ap (drop (index - n)) e ∙ drop_nil (index - n)
-
-pub ends_at : (text rest : List ℕ) (index left : ℕ) → rest ≡ [] → left ≤ index
+pub ends_at : (text rest : List ℕ) (index left : ℕ) → rest ≡ [] → left ≤ index → Reaches text rest (index - left)
     → ((ps : List Piece) → lex_of text ≡ Ok ps → index ≤ length ps → lex_of rest ≡ Ok (drop (index - left) ps))
     → (ps : List Piece) → lex_of text ≡ Ok ps → index ≤ length ps → StandsAt text ps index (length text)
-ends_at text rest index left z h so_far ps o i =
+ends_at text rest index left z h r so_far ps o i =
     let none : drop (index - left) ps ≡ [] = no_more (drop (index - left) ps) (sym (ap lex_of z) ∙ so_far ps o i) in
-    let all : drop index ps ≡ [] = drop_on ps (index - left) index none (omega arith) in
-    (text, [], sym (append-nil text), refl, sym (ap ok all), subst (λ qs. StandsFirst qs []) (sym all) refl)
+    let same : index ≡ index - left = omega (arith, ap length none, length-drop (index - left) ps) in
+    subst (λ at. StandsAt text ps index at) (omega (arith, ap length z)) (stands text rest index (index - left) ps r same o [] tt z tt)
 
 more_front : (xs : List Piece) (p : Piece) (r : Read) → with_front (xs ++ p ∷ []) r ≡ with_front xs (with_front (p ∷ []) r)
 more_front xs p (Ok qs) = ap ok (append_assoc xs (p ∷ []) qs)

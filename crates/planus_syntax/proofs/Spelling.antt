@@ -97,7 +97,7 @@ front_ok p (Err f) ps e = absurd cc
 shorter : (bytes front rest : List ℕ) → bytes ≡ front ++ rest → 0 < length front → (n : ℕ) → length bytes ≤ suc n → length rest ≤ n
 shorter bytes front rest e h n le = omega (arith, length-append front rest, ap length e)
 
-token_found : (p : Piece) (bytes rest : List ℕ) (ps : List Piece) → is_lawful p ≡ true → begins (goes_on (token p)) rest ≡ false → bytes ≡ bytes_of p ++ rest → lex_of bytes ≡ with_front (p ∷ []) (lex_of rest) → lex_of bytes ≡ Ok ps
+pub token_found : (p : Piece) (bytes rest : List ℕ) (ps : List Piece) → is_lawful p ≡ true → begins (goes_on (token p)) rest ≡ false → bytes ≡ bytes_of p ++ rest → lex_of bytes ≡ with_front (p ∷ []) (lex_of rest) → lex_of bytes ≡ Ok ps
     → ((qs : List Piece) → lex_of rest ≡ Ok qs → Found rest qs) → Found bytes ps
 token_found p bytes rest ps h s e l o again =
     let f = front_ok p (lex_of rest) ps (sym l ∙ o) in
@@ -115,13 +115,13 @@ differ (Err x) f ps e o = cc
 err_not_ok : (bytes : List ℕ) (f : LexFault × ℕ) (ps : List Piece) → lex_of bytes ≡ Err f → lex_of bytes ≡ Ok ps → ⊥
 err_not_ok bytes f ps e o = differ (lex_of bytes) f ps e o
 
-all_three : (a b c : Bool) → a ≡ true → b ≡ true → c ≡ false → (a && (b && not c)) ≡ true
+pub all_three : (a b c : Bool) → a ≡ true → b ≡ true → c ≡ false → (a && (b && not c)) ≡ true
 all_three a b c e f g = rw (e, f, g) refl
 
-all_and : (a b c : Bool) → a ≡ true → b ≡ true → c ≡ true → (a && (b && c)) ≡ true
+pub all_and : (a b c : Bool) → a ≡ true → b ≡ true → c ≡ true → (a && (b && c)) ≡ true
 all_and a b c e f g = rw (e, f, g) refl
 
-all_two : (a b : Bool) → a ≡ true → b ≡ true → (a && b) ≡ true
+pub all_two : (a b : Bool) → a ≡ true → b ≡ true → (a && b) ≡ true
 all_two a b e f = rw (e, f) refl
 
 abbrev Below : ℕ → Type 0
@@ -155,7 +155,7 @@ string_found n bs w rest ps true e split le o below =
     (λ qs q. below f.0 qs (omega (arith, ap length split2.whole, length-append w (34 ∷ f.0))) q)
 string_found n bs w rest ps false e split le o below = absurd (err_not_ok (34 ∷ bs) _ ps (no_front (lex_from (quoted []) bs) ∙ no_string bs w rest split e) o)
 
-not_begins : (w after : List ℕ) → begins (λ b. b == 47) (w ++ after) ≡ false → not (begins (λ b. b == 47) w) ≡ true
+pub not_begins : (w after : List ℕ) → begins (λ b. b == 47) (w ++ after) ≡ false → not (begins (λ b. b == 47) w) ≡ true
 not_begins [] after h = refl
 not_begins (c ∷ w) after h = rw h refl
 
@@ -189,7 +189,7 @@ not_and : (a : Bool) → not (a && false) ≡ true
 not_and true = refl
 not_and false = refl
 
-closes_earlier : (b : ℕ) (w rest : List ℕ) → closes (b ∷ (w ++ 42 ∷ 47 ∷ rest)) ≡ false → not (closes (b ∷ w)) ≡ true
+pub closes_earlier : (b : ℕ) (w rest : List ℕ) → closes (b ∷ (w ++ 42 ∷ 47 ∷ rest)) ≡ false → not (closes (b ∷ w)) ≡ true
 closes_earlier b [] rest h = not_and (b == 42)
 closes_earlier b (c ∷ w) rest h = rw h refl
 
@@ -220,7 +220,7 @@ slash_found n bs ps false true e f le o below =
     subst (λ r. Found (47 ∷ r) ps) (sym g.1) (star_found n g.0 ps (omega (arith, ap length g.1)) (sym (ap (λ r. lex_of (47 ∷ r)) g.1) ∙ o) below)
 slash_found n bs ps false false e f le o below = absurd (err_not_ok (47 ∷ bs) _ ps (one_slash bs e f) o)
 
-class_found : (n b : ℕ) (bs : List ℕ) (ps : List Piece) (u v w x y z : Bool) → is_number_start b ≡ u → is_word_byte b ≡ v → is_blank b ≡ w → is_mark b ≡ x → (b == 34) ≡ y → (b == 47) ≡ z → length bs ≤ n → lex_of (b ∷ bs) ≡ Ok ps → Below n → Found (b ∷ bs) ps
+pub class_found : (n b : ℕ) (bs : List ℕ) (ps : List Piece) (u v w x y z : Bool) → is_number_start b ≡ u → is_word_byte b ≡ v → is_blank b ≡ w → is_mark b ≡ x → (b == 34) ≡ y → (b == 47) ≡ z → length bs ≤ n → lex_of (b ∷ bs) ≡ Ok ps → Below n → Found (b ∷ bs) ps
 class_found n b bs ps true v w x y z eu ev ew ex ey ez le o below =
     number_found n (b ∷ bs) _ _ ps _ refl (splits is_number_byte (b ∷ bs)) eu (omega arith) o below
 class_found n b bs ps false true w x y z eu ev ew ex ey ez le o below =

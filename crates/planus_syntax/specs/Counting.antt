@@ -1,6 +1,6 @@
 -- The place of each word: how many tokens there are from it to the end, it included.
 -- `XCounted x rest`: so is each `left` in `x`, if the tokens `rest` follow those of `x`.
-use Rattle.std.specs.Prelude.{◌≡◌, ℕ, List, [], ◌∷◌, map, length, Option, Some, None, Result, Ok}
+use Rattle.std.specs.Prelude.{◌≡◌, List, [], ◌∷◌, map, length, Option, Some, None, Result, Ok}
 use Rattle.std.specs.Prelude.{Err}
 use Rattle.std.specs.Option.{option_map}
 use Rattle.planus_syntax.specs.declared.value.Path.{Path}

@@ -10,7 +10,9 @@ use Rattle.planus_syntax.specs.declared.token.Lexeme.{Lexeme}
 use Rattle.planus_syntax.specs.declared.token.Lexeme.TheVariants as token
 use Rattle.planus_syntax.specs.declared.run.Run.{Run}
 use Rattle.planus_syntax.specs.declared.run.Run.TheVariants as run
-use Rattle.planus_syntax.specs.Tokens.{Piece, word, number, text, doc, mark, begins, bytes_of}
+use Rattle.planus_syntax.specs.Tokens.{Piece, word, number, text, doc, mark, begins}
+use Rattle.planus_syntax.specs.Spelled.{Part, token, part_bytes, is_part, goes_on, tokens_in}
+use Rattle.planus_syntax.specs.Spelled.{stays_open}
 use Rattle.planus_syntax.specs.Tokens.{is_word_byte, is_number_byte, is_string_byte, is_line_byte}
 use Rattle.planus_syntax.specs.Lexing.{Read, with_front, lex_of, string_fault}
 
@@ -33,13 +35,20 @@ pub record Splits (p : ℕ → Bool) (bytes front rest : List ℕ) : Type 0 wher
   pub each : list_all p front ≡ true
   pub stops : begins p rest ≡ false
 
-abbrev pub Ends : List ℕ → List ℕ → Type 0
-Ends bytes rest = (front : List ℕ) × (bytes ≡ front ++ rest)
+-- a part at the front, which the rest does not lengthen
+pub record Leads (bytes : List ℕ) (p : Part) (rest : List ℕ) : Type 0 where
+  pub whole : bytes ≡ part_bytes p ++ rest
+  pub lawful : is_part p ≡ true
+  pub stops : begins (goes_on p) rest ≡ false
 
--- The rest follows this token at the front, or ends the bytes where there is none.
+-- this token, or a part that is none, before the rest
 abbrev pub Starts : List ℕ → Option Lexeme → List ℕ → Type 0
-Starts bytes None rest = Ends bytes rest
-Starts bytes (Some t) rest = bytes ≡ bytes_of (cut_piece t) ++ rest
+Starts bytes None rest = (p : Part) × (tokens_in (p ∷ []) ≡ []) × Leads bytes p rest
+Starts bytes (Some t) rest = Leads bytes (token (cut_piece t)) rest
+
+-- the rest follows the `*/` that ends a comment
+abbrev pub Closes : List ℕ → List ℕ → Type 0
+Closes bytes rest = (w : List ℕ) × (bytes ≡ w ++ 42 ∷ 47 ∷ rest) × (stays_open w ≡ true)
 
 abbrev pub pieces_in : Option Lexeme → List Piece
 pieces_in None = []

@@ -11,7 +11,7 @@ ghost use Rattle.planus_syntax.specs.Tokens.{is_number_byte as is_number_byte_le
 ghost use Rattle.planus_syntax.specs.Tokens.{is_blank as is_blank_lem};
 ghost use Rattle.planus_syntax.specs.Lexing.{Answers, block, lex_from, lex_of, slashes, with_front};
 ghost use Rattle.planus_syntax.specs.Cutting.{cut_piece, pieces_in, Cuts, Skips, Splits};
-ghost use Rattle.planus_syntax.specs.Cutting.{Ends, Starts, in_run};
+ghost use Rattle.planus_syntax.specs.Cutting.{Closes, Starts, in_run};
 ghost use Rattle.planus_syntax.specs.Placing.{StandsAt};
 ghost use Rattle.planus_syntax.specs.Tokens.{Piece};
 ghost use Rattle.planus_syntax.specs.Cutting.{string_stop};
@@ -203,7 +203,7 @@ fn after_end(bytes: &[u8]) -> Option<&[u8]>
 
 fn block_at(bytes: &[u8]) -> Result<&[u8], Stop>
     ensures skips { Skips (lex_from block bytes.now) result }
-    ensures ends { IfOk result (λ rest. Ends bytes.now rest.now) }
+    ensures closes { IfOk result (λ rest. Closes bytes.now rest.now) }
     ensures shorter { IfOk result (λ rest. length rest.now < length bytes.now) }
     ensures within { IfErr result (λ stop. stop.left ≤ length bytes.now) }
 {
@@ -325,7 +325,7 @@ pub(crate) fn lex(alloc: Global, text: &[u8]) -> Result<Vec<Token>, LexError>
     Ok(tokens)
 }
 
-/// Returns where the token of this index begins, or where the text ends.
+/// Returns where the token of this index begins, or where the text ends if it has no more tokens.
 pub(crate) fn place_of(text: &[u8], index: usize) -> usize
     ensures within { result ≤ length text.now }
     ensures stands { (ps : List Piece) → lex_of text.now ≡ Ok ps → index ≤ length ps

@@ -116,16 +116,18 @@ pub fn format_text(alloc: Global, text: &[u8]) -> Result<Vec<u8>, SchemaError>
 }
 
 /// Returns where a word begins, in bytes from the text's start; `left` counts the tokens from the
-/// word to the text's end.
+/// word to the text's end. That is the text's end where `left` is 0, so also in a text that has no
+/// tokens, and the first token where `left` is more than the tokens.
 ///
-/// Fails as [`parse_text`] does where the text has no tokens.
+/// Fails as [`parse_text`] does if a token's text has an error.
 pub fn place_from_end(alloc: Global, text: &[u8], left: usize) -> Result<usize, SchemaError>
     ensures within { IfOk result (λ at. at ≤ length text.now) }
     ensures stands { (ps : List Piece) → lex_of text.now ≡ Ok ps
         → IfOk result (λ at. StandsAt text.now ps (length ps - left) at) }
-    // A text that has tokens has the place, unless memory is refused.
+    // A text whose tokens can be read has the place, unless memory is refused.
     ensures only { (ps : List Piece) → lex_of text.now ≡ Ok ps
         → IfErr result (λ error. error ≡ OutOfMemory) }
+    ensures exact { IfErr result (λ error. IsFaultOf text.now error) }
 {
     match lex(alloc, text) {
         Ok(tokens) => Ok(place_of(text, tokens.len().saturating_sub(left))),

@@ -1,4 +1,4 @@
-use Rattle.planus_syntax.proofs.Placed.{doc_whole, comment_ends}
+use Rattle.planus_syntax.proofs.Placed.{doc_leads, comment_leads}
 use Rattle.planus_syntax.proofs.Scanning.{third_slash, two_slashes}
 use Rattle.planus_syntax.proofs.lexer.line_at.Goals as goal
 
@@ -14,10 +14,10 @@ returns-in-None-clause-cuts c =
 
 pub returns-in-Some-clause-starts : goal.returns-in-Some-clause-starts
 returns-in-Some-clause-starts c =
-    doc_whole c.args.bytes.now c.in-Some.rest.now c.split.result.0.now
-    c.split.result.1.now c.in-Some.ensures c.split.ensures.whole
+    doc_leads c.args.bytes.now c.in-Some.rest.now c.split.result.0.now
+    c.split.result.1.now c.in-Some.ensures c.split.ensures
 
 pub returns-in-None-clause-starts : goal.returns-in-None-clause-starts
 returns-in-None-clause-starts c =
-    comment_ends c.args.bytes.now c.split-in-None.result.0.now
-    c.split-in-None.result.1.now c.split-in-None.ensures.whole
+    comment_leads c.args.bytes.now c.split-in-None.result.0.now
+    c.split-in-None.result.1.now c.in-None.ensures c.split-in-None.ensures

@@ -1,4 +1,4 @@
-use Rattle.planus_syntax.proofs.Placed.{string_whole}
+use Rattle.planus_syntax.proofs.Placed.{string_leads}
 use Rattle.std.proofs.Common.{[], Err, length, sym, ap, subst, ◌∙◌}
 use Rattle.planus_syntax.specs.declared.lexer.LexFault.{LexFault}
 use Rattle.planus_syntax.specs.Tokens.{is_string_byte}
@@ -24,5 +24,5 @@ returns-in-None-clause-cuts c =
 
 pub returns-in-Some-clause-starts : goal.returns-in-Some-clause-starts
 returns-in-Some-clause-starts c =
-    string_whole c.args.bytes.now c.split.result.0.now c.split.result.1.now
-    c.in-Some.rest.now c.split.ensures.whole c.in-Some.ensures
+    string_leads c.args.bytes.now c.split.result.0.now c.split.result.1.now
+    c.in-Some.rest.now c.split.ensures c.in-Some.ensures
