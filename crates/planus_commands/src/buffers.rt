@@ -11,7 +11,7 @@ ghost use Rattle.planus_commands.specs.Viewing.{SplitsSized, EndsEarly};
 
 use crate::arguments::{Words, number_of};
 use crate::said::{CLEAN, FAILED, FAULTY};
-use crate::sources::{schema_of, text_of};
+use crate::sources::{bytes_of, schema_of};
 use crate::streams::{RunError, say, write_out};
 use crate::viewing::{Limits, view_buffer};
 use planus_inspect::dump_schema;
@@ -211,7 +211,7 @@ fn view_by<W: Write, X: Write>(
         say_no_root(words.root, errors)?;
         return Ok(FAILED);
     };
-    let Some(bytes) = text_of(rt, name, errors)? else {
+    let Some(bytes) = bytes_of(rt, name, errors)? else {
         return Ok(FAILED);
     };
     let how = Viewing {

@@ -9,7 +9,7 @@ use crate::placed::placed_report;
 use crate::said::{CLEAN, FAILED, FAULTY};
 use crate::streams::{GREATEST_TEXT, RunError, read_all, say, write_out};
 use planus_schema::{Schema, file_index};
-use planus_syntax::{Declaration, Item};
+use planus_syntax::{Declaration, Item, after_order_mark};
 use std::alloc::{AllocError, Global};
 use std::fs;
 use std::io::{Input, Write};
@@ -51,7 +51,7 @@ impl Sources {
 }
 
 /// Returns the bytes of a file, or of standard input for `-`.
-fn read_text(rt: &HostRuntime, name: &str) -> Result<Vec<u8>, RunError> {
+fn read_bytes(rt: &HostRuntime, name: &str) -> Result<Vec<u8>, RunError> {
     if name == "-" {
         return read_all(rt.alloc(), &mut rt.reader());
     }
@@ -61,13 +61,13 @@ fn read_text(rt: &HostRuntime, name: &str) -> Result<Vec<u8>, RunError> {
     }
 }
 
-/// Returns the text of a file, or reports why it can't be read.
-pub fn text_of<X: Write>(
+/// Returns the bytes of a file, or reports why it can't be read.
+pub fn bytes_of<X: Write>(
     rt: &HostRuntime,
     name: &str,
     errors: &mut X,
 ) -> Result<Option<Vec<u8>>, RunError> {
-    match read_text(rt, name) {
+    match read_bytes(rt, name) {
         Ok(text) if text.len() <= GREATEST_TEXT => Ok(Some(text)),
         Ok(_) => {
             say(errors, "", name, " is longer than 16777216 bytes")?;
@@ -79,6 +79,23 @@ pub fn text_of<X: Write>(
             Ok(None)
         }
     }
+}
+
+/// Returns the text of a schema, a file's bytes after a byte order mark, or reports why it can't be
+/// read.
+pub fn text_of<X: Write>(
+    rt: &HostRuntime,
+    name: &str,
+    errors: &mut X,
+) -> Result<Option<Vec<u8>>, RunError> {
+    let Some(bytes) = bytes_of(rt, name, errors)? else {
+        return Ok(None);
+    };
+    let text = after_order_mark(&bytes);
+    if text.len() == bytes.len() {
+        return Ok(Some(bytes));
+    }
+    Ok(Some(Vec::from_slice(rt.alloc(), text)?))
 }
 
 fn is_there(rt: &HostRuntime, name: &str) -> bool {

@@ -1,9 +1,16 @@
 -- Which texts spell which tokens.
 use Rattle.std.specs.Prelude.{◌≡◌, ℕ, Bool, true, false, ◌==◌, ◌&&◌, not, List, [], ◌∷◌, ◌++◌}
+use Rattle.std.specs.Prelude.{if◌then◌else◌, take, drop}
+use Rattle.std.specs.Str.{bytes_eq}
 use Rattle.std.specs.List.{list_all}
 use Rattle.planus_syntax.specs.Tokens.{Piece, word, number, text, doc, mark, begins, bytes_of}
 use Rattle.planus_syntax.specs.Tokens.{is_lawful, is_word_byte, is_number_byte, is_blank}
 use Rattle.planus_syntax.specs.Tokens.{is_line_byte}
+
+-- a text without the byte order mark that it may begin with
+abbrev pub after_order_mark : List ℕ → List ℕ
+after_order_mark bytes =
+    if bytes_eq (take 3 bytes) (239 ∷ 187 ∷ 191 ∷ []) then drop 3 bytes else bytes
 
 -- a token, a blank, a comment to the end of its line, or one to `*/`
 pub data Part : Type 0 where

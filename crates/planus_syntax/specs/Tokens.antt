@@ -2,14 +2,15 @@
 use Rattle.std.specs.Prelude.{ℕ, Bool, true, false, ◌==◌, ◌&&◌, ◌||◌, not, List, [], ◌∷◌, ◌++◌, map}
 use Rattle.std.specs.Prelude.{codes, if◌then◌else◌, fold}
 use Rattle.std.specs.List.{list_all, list_any}
-use Rattle.std.specs.Str.{bytes_eq}
+use Rattle.std.specs.Str.{str_eq_ignore_ascii_case}
 use Rattle.std.specs.Char.{is_ascii_digit, is_ascii_alphabetic, is_ascii_hexdigit}
 use Rattle.planus_syntax.specs.declared.number.NumberState.{NumberState}
 use Rattle.planus_syntax.specs.declared.number.NumberState.TheVariants.{Start, Sign, Zero, Digits}
-use Rattle.planus_syntax.specs.declared.number.NumberState.TheVariants.{Fraction, Exponent}
+use Rattle.planus_syntax.specs.declared.number.NumberState.TheVariants.{Point, Fraction, Exponent}
 use Rattle.planus_syntax.specs.declared.number.NumberState.TheVariants.{ExponentSign}
 use Rattle.planus_syntax.specs.declared.number.NumberState.TheVariants.{ExponentDigits, HexMark}
-use Rattle.planus_syntax.specs.declared.number.NumberState.TheVariants.{HexDigits, Wrong}
+use Rattle.planus_syntax.specs.declared.number.NumberState.TheVariants.{HexDigits, HexPoint}
+use Rattle.planus_syntax.specs.declared.number.NumberState.TheVariants.{HexFraction, Wrong}
 use Rattle.planus_syntax.specs.declared.token.Token.{Token}
 use Rattle.planus_syntax.specs.declared.token.Token.TheVariants as token
 
@@ -70,23 +71,36 @@ digits_after state b =
     else Wrong
 
 abbrev pub first_digit : ℕ → NumberState
-first_digit b = if b == 48 then Zero else if is_ascii_digit b then Digits else Wrong
+first_digit b =
+    if b == 48 then Zero
+    else if is_ascii_digit b then Digits
+    else if b == 46 then Point
+    else Wrong
 
--- A number: a sign or none; then `0x` and hexadecimal digits, or digits, a point and digits or
--- none, and an exponent or none.
+-- after a hexadecimal digit: another, or `p` before the exponent, which is decimal
+abbrev pub hex_after : NumberState → ℕ → NumberState
+hex_after state b =
+    if is_ascii_hexdigit b then state else if b == 112 || b == 80 then Exponent else Wrong
+
+-- A number: a sign or none, and digits with or without a point among them, with an exponent or
+-- none. After `0x` the digits are hexadecimal, the exponent follows a `p`, and a point wants one.
 abbrev pub number_step : NumberState → ℕ → NumberState
 number_step Start b = if b == 43 || b == 45 then Sign else first_digit b
 number_step Sign b = first_digit b
 number_step Zero b = if b == 120 || b == 88 then HexMark else digits_after Digits b
 number_step Digits b = digits_after Digits b
+number_step Point b = if is_ascii_digit b then Fraction else Wrong
 number_step Fraction b =
     if is_ascii_digit b then Fraction else if b == 101 || b == 69 then Exponent else Wrong
 number_step Exponent b =
     if b == 43 || b == 45 then ExponentSign else if is_ascii_digit b then ExponentDigits else Wrong
 number_step ExponentSign b = if is_ascii_digit b then ExponentDigits else Wrong
 number_step ExponentDigits b = if is_ascii_digit b then ExponentDigits else Wrong
-number_step HexMark b = if is_ascii_hexdigit b then HexDigits else Wrong
-number_step HexDigits b = if is_ascii_hexdigit b then HexDigits else Wrong
+number_step HexMark b =
+    if is_ascii_hexdigit b then HexDigits else if b == 46 then HexPoint else Wrong
+number_step HexDigits b = if b == 46 then HexFraction else hex_after HexDigits b
+number_step HexPoint b = if is_ascii_hexdigit b then HexFraction else Wrong
+number_step HexFraction b = hex_after HexFraction b
 number_step Wrong b = Wrong
 
 abbrev pub is_end : NumberState → Bool
@@ -94,18 +108,26 @@ is_end Start = false
 is_end Sign = false
 is_end Zero = true
 is_end Digits = true
+is_end Point = false
 is_end Fraction = true
 is_end Exponent = false
 is_end ExponentSign = false
 is_end ExponentDigits = true
 is_end HexMark = false
 is_end HexDigits = true
+is_end HexPoint = false
+is_end HexFraction = false
 is_end Wrong = false
 
+-- in lower or upper case
+abbrev pub is_float_name : List ℕ → Bool
+is_float_name w =
+    str_eq_ignore_ascii_case w (codes "inf") || (str_eq_ignore_ascii_case w (codes "infinity")
+    || str_eq_ignore_ascii_case w (codes "nan"))
+
 abbrev pub is_signed_name : List ℕ → Bool
-is_signed_name w =
-    bytes_eq w (codes "-inf") || (bytes_eq w (codes "+inf")
-    || (bytes_eq w (codes "-nan") || bytes_eq w (codes "+nan")))
+is_signed_name [] = false
+is_signed_name (b ∷ w) = (b == 43 || b == 45) && is_float_name w
 
 abbrev pub is_number : List ℕ → Bool
 is_number w = is_end (fold number_step Start w) || is_signed_name w

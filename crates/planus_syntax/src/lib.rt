@@ -18,7 +18,7 @@ mod value;
 pub use laws::{declarations_again, layout_spells, one_schema, spelling_found, spelling_read};
 pub use lexer::LexFault;
 pub use parse_fault::ParseFault;
-pub use text::{SchemaError, format_text, parse_text, place_from_end};
+pub use text::{SchemaError, after_order_mark, format_text, parse_text, place_from_end};
 pub use value::{
     Attribute, Declaration, Enumeration, Field, Item, Kind, Label, Literal, Member, Method, Path,
     Record, Service, UnionBody, Variant,

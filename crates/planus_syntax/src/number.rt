@@ -3,6 +3,8 @@
 ghost use Rattle.std.specs.Prelude.{◌≡◌, if◌then◌else◌};
 ghost use Rattle.planus_syntax.specs.Tokens.{is_number as is_number_lem};
 ghost use Rattle.planus_syntax.specs.Tokens.{is_signed_name as is_signed_name_lem};
+ghost use Rattle.planus_syntax.specs.Tokens.{is_float_name as is_float_name_lem};
+ghost use Rattle.planus_syntax.specs.Tokens.{hex_after as hex_after_lem};
 ghost use Rattle.planus_syntax.specs.Tokens.{digits_after as digits_after_lem};
 ghost use Rattle.planus_syntax.specs.Tokens.{first_digit as first_digit_lem};
 ghost use Rattle.planus_syntax.specs.Tokens.{number_step as number_step_lem, is_end as is_end_lem};
@@ -14,13 +16,19 @@ pub(crate) enum NumberState {
     Sign,
     Zero,
     Digits,
-    /// A point after digits, and digits after it or none.
+    /// A point with no digit before it.
+    Point,
+    /// A point, and digits after it; none if there are some before it.
     Fraction,
     Exponent,
     ExponentSign,
     ExponentDigits,
     HexMark,
     HexDigits,
+    /// A point with no digit between it and `0x`.
+    HexPoint,
+    /// A point in a hexadecimal number, where an exponent has to follow.
+    HexFraction,
     Wrong,
 }
 
@@ -45,8 +53,44 @@ fn first_digit(b: u8) -> NumberState
         NumberState::Zero
     } else if b.is_ascii_digit() {
         NumberState::Digits
+    } else if b == b'.' {
+        NumberState::Point
     } else {
         NumberState::Wrong
+    }
+}
+
+fn hex_after(state: NumberState, b: u8) -> NumberState
+    ensures { result ≡ hex_after_lem state b }
+{
+    if b.is_ascii_hexdigit() {
+        state
+    } else if b == b'p' || b == b'P' {
+        NumberState::Exponent
+    } else {
+        NumberState::Wrong
+    }
+}
+
+fn hex_first(b: u8) -> NumberState
+    ensures { result ≡ number_step_lem NumberState.HexMark b }
+{
+    if b.is_ascii_hexdigit() {
+        NumberState::HexDigits
+    } else if b == b'.' {
+        NumberState::HexPoint
+    } else {
+        NumberState::Wrong
+    }
+}
+
+fn hex_next(b: u8) -> NumberState
+    ensures { result ≡ number_step_lem NumberState.HexDigits b }
+{
+    if b == b'.' {
+        NumberState::HexFraction
+    } else {
+        hex_after(NumberState::HexDigits, b)
     }
 }
 
@@ -98,14 +142,16 @@ fn number_step(state: NumberState, b: u8) -> NumberState
             }
         }
         NumberState::Digits => digits_after(NumberState::Digits, b),
+        NumberState::Point => digit_or_wrong(NumberState::Fraction, b.is_ascii_digit()),
         NumberState::Fraction => fraction(b),
         NumberState::Exponent => exponent(b),
         NumberState::ExponentSign | NumberState::ExponentDigits => {
             digit_or_wrong(NumberState::ExponentDigits, b.is_ascii_digit())
         }
-        NumberState::HexMark | NumberState::HexDigits => {
-            digit_or_wrong(NumberState::HexDigits, b.is_ascii_hexdigit())
-        }
+        NumberState::HexMark => hex_first(b),
+        NumberState::HexDigits => hex_next(b),
+        NumberState::HexPoint => { digit_or_wrong(NumberState::HexFraction, b.is_ascii_hexdigit()) }
+        NumberState::HexFraction => hex_after(NumberState::HexFraction, b),
         NumberState::Wrong => NumberState::Wrong,
     }
 }
@@ -123,17 +169,25 @@ fn is_end(state: NumberState) -> bool
     }
 }
 
+fn is_float_name(word: &[u8]) -> bool
+    ensures { result ≡ is_float_name_lem word.now }
+{
+    word.eq_ignore_ascii_case(b"inf")
+        || word.eq_ignore_ascii_case(b"infinity")
+        || word.eq_ignore_ascii_case(b"nan")
+}
+
 fn is_signed_name(bytes: &[u8]) -> bool
     ensures { result ≡ is_signed_name_lem bytes.now }
 {
-    bytes == b"-inf".as_slice()
-        || bytes == b"+inf".as_slice()
-        || bytes == b"-nan".as_slice()
-        || bytes == b"+nan".as_slice()
+    match bytes.split_first() {
+        Some((sign, name)) => (*sign == b'+' || *sign == b'-') && is_float_name(name),
+        None => false,
+    }
 }
 
-/// Returns whether the bytes are an integer, a hexadecimal integer, a float, or `inf` or `nan` with
-/// a sign.
+/// Returns whether the bytes are an integer, a float, each decimal or hexadecimal, or `inf`,
+/// `infinity` or `nan` with a sign.
 pub(crate) fn is_number(bytes: &[u8]) -> bool
     ensures { result ≡ is_number_lem bytes.now }
 {

@@ -7,6 +7,7 @@ ghost use Rattle.planus_syntax.specs.Lexing.{lex_of};
 ghost use Rattle.planus_syntax.specs.declared.text.SchemaError.TheVariants.{OutOfMemory};
 ghost use Rattle.planus_syntax.specs.Values.{AreWhole, DeclarationV, IsSchema, schema_of};
 ghost use Rattle.planus_syntax.specs.Values.{schema_pieces, text_of};
+ghost use Rattle.planus_syntax.specs.Spelled.{after_order_mark as after_order_mark_lem};
 ghost use Rattle.planus_syntax.specs.Counting.{AreCounted};
 ghost use Rattle.planus_syntax.specs.Parsed.{IsFaultOf, LiesIn, Spells};
 ghost use Rattle.planus_syntax.specs.Parsed.{TextFormatsTo, TextParsesTo, TextReadsTo};
@@ -35,6 +36,17 @@ pub enum SchemaError {
         index: usize,
         at: usize,
     },
+}
+
+/// Returns a text without the byte order mark that it may begin with. The other functions take what
+/// follows the mark.
+pub fn after_order_mark(text: &[u8]) -> &[u8]
+    ensures { result.now ≡ after_order_mark_lem text.now }
+{
+    match text.split_at_checked(3) {
+        Some((mark, rest)) if mark == b"\xEF\xBB\xBF".as_slice() => rest,
+        _ => text,
+    }
 }
 
 fn read(alloc: Global, text: &[u8]) -> Result<(Vec<Token>, Vec<Declaration>), SchemaError>
