@@ -126,10 +126,10 @@ pub refusal_told : (found : List Fault) (r : Refusal) → IsToldOf found r → I
 refusal_told found refusal.OutOfMemory h = tt
 refusal_told found (refusal.Faults v) h = h.1
 
-pub all_found : (files : List (Vec Declaration)) (hs : List Head) (start x y z : List Fault) → start ≡ [] → map head_of hs ≡ heads_of (map (λ f. schema_of f.items) files) → map placed_of hs ≡ placed_from 0 files → Adds (name_faults (map head_of hs) 0 (map placed_of hs)) start x → Adds (body_faults (map head_of hs) [] (map placed_of hs)) x y → Adds (file_faults (map head_of hs) (known_attributes files) 0 files) y z → z ≡ faults_found files
+pub all_found : (files : List (Vec Declaration)) (hs : List Head) (start x y z : List Fault) → start ≡ [] → map head_of hs ≡ heads_of (map (λ f. schema_of f.items) files) → map placed_of hs ≡ placed_from 0 files → Adds (name_faults (map head_of hs) 0 (map placed_of hs)) start x → Adds (body_faults (map head_of hs) [] (map placed_of hs)) x y → Adds (file_faults (map head_of hs) (known_attributes files) 0 0 files) y z → z ≡ faults_found files
 all_found files hs start x y z s h p a b c =
     let names = name_faults (map head_of hs) 0 (map placed_of hs) in
     let first = subst (λ xs. Adds names xs x) s a in
-    adds_thrice names (body_faults (map head_of hs) [] (map placed_of hs)) (file_faults (map head_of hs) (known_attributes files) 0 files) x y z first b c
-    ∙ ap (λ gs. first_twenty (name_faults gs 0 (map placed_of hs) ++ (body_faults gs [] (map placed_of hs) ++ file_faults gs (known_attributes files) 0 files))) h
-    ∙ ap (λ ps. first_twenty (name_faults (heads_of (map (λ f. schema_of f.items) files)) 0 ps ++ (body_faults (heads_of (map (λ f. schema_of f.items) files)) [] ps ++ file_faults (heads_of (map (λ f. schema_of f.items) files)) (known_attributes files) 0 files))) p
+    adds_thrice names (body_faults (map head_of hs) [] (map placed_of hs)) (file_faults (map head_of hs) (known_attributes files) 0 0 files) x y z first b c
+    ∙ ap (λ gs. first_twenty (name_faults gs 0 (map placed_of hs) ++ (body_faults gs [] (map placed_of hs) ++ file_faults gs (known_attributes files) 0 0 files))) h
+    ∙ ap (λ ps. first_twenty (name_faults (heads_of (map (λ f. schema_of f.items) files)) 0 ps ++ (body_faults (heads_of (map (λ f. schema_of f.items) files)) [] ps ++ file_faults (heads_of (map (λ f. schema_of f.items) files)) (known_attributes files) 0 0 files))) p

@@ -4,7 +4,7 @@ use Rattle.std.specs.Prelude.{◌==◌, position, nat_lt, not, Option, Some, Non
 use Rattle.std.specs.List.{prefix_len}
 use Rattle.std.proofs.Math.ListN.{length-map}
 use Rattle.planus_syntax.specs.Values.{Name}
-use Rattle.planus_schema.specs.Names.{HeadV, cut_words, with_word, dotted, index_of, found_from}
+use Rattle.planus_schema.specs.Names.{HeadV, cut_words, with_word, named_if, found_from}
 
 prefix_len-map : {A B : Type 0} (p : B → Bool) (f : A → B) (xs : List A) → prefix_len p (map f xs) ≡ prefix_len (λ x. p (f x)) xs
 prefix_len-map p f [] = refl
@@ -21,10 +21,10 @@ pub words_taken : (out : List ℕ) (first : Name) (more : List Name) (n : ℕ) �
 words_taken out first more zero h = absurd (omega arith)
 words_taken out first more (suc n) h = rw sub-one refl
 
-pub further_out : (hs : List HeadV) (space words : List Name) (n : ℕ) (r : Option ℕ) → 0 < n → r ≡ None → r ≡ index_of hs (dotted (take n space ++ words)) → found_from hs space words (n - 1) ≡ found_from hs space words n
-further_out hs space words zero r h e i = absurd (omega arith)
-further_out hs space words (suc n) r h e i =
-    let k : index_of hs (dotted (take (suc n) space ++ words)) ≡ None = sym i ∙ e in
+pub further_out : (hs : List HeadV) (test : ℕ → Bool) (space words : List Name) (n : ℕ) (r : Option ℕ) → 0 < n → r ≡ None → r ≡ named_if hs test (take n space ++ words) → found_from hs test space words (n - 1) ≡ found_from hs test space words n
+further_out hs test space words zero r h e i = absurd (omega arith)
+further_out hs test space words (suc n) r h e i =
+    let k : named_if hs test (take (suc n) space ++ words) ≡ None = sym i ∙ e in
     rw (sub-one, k) refl
 
 pub word_cut : (front : List Name) (word : List ℕ) (b : ℕ) (text rest : List ℕ) (all : List Name) → text ≡ b ∷ rest → b ≡ 32 → front ++ cut_words word text ≡ all → (front ++ word ∷ []) ++ cut_words [] rest ≡ all

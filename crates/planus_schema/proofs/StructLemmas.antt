@@ -16,7 +16,7 @@ use Rattle.planus_layout.specs.declared.schema.Base.{Base}
 use Rattle.planus_schema.specs.declared.fault.Problem.TheVariants as problem
 use Rattle.planus_schema.specs.declared.fault.Stop.{Stop}
 use Rattle.planus_schema.specs.declared.fault.Stop.TheVariants as stop
-use Rattle.planus_schema.specs.Names.{HeadV, type_named, is_set, has}
+use Rattle.planus_schema.specs.Names.{HeadV, SpaceV, type_named, is_set, has}
 use Rattle.planus_schema.specs.Wrong.{Broken, broken, when, first, Stops, wrong_kind}
 use Rattle.planus_schema.specs.WrongStructs.{is_empty, is_vector, wrong_plain, wrong_measure, wrong_type, measure_among, measure_in_type, wrong_struct_field, wrong_struct_fields, end_of, end_after, greatest_after, alignment_in, field_measure}
 use Rattle.planus_schema.proofs.FaultLemmas.{skip, passes, stops_first, stops_next, stops_now}
@@ -52,31 +52,31 @@ drop_next xs i x h e = rw add-one (drop-cons xs i x h ∙ ap (λ y. y ∷ drop (
 pub map_rest : {A B : Type 0} (f : A → B) (xs : List A) (i : ℕ) (x : A) → i < length xs → x ≡ get_or xs i x → map f (drop i xs) ≡ f x ∷ map f (drop (i + 1) xs)
 map_rest f xs i x h e = ap (map f) (drop_next xs i x h e)
 
-pub struct_field_stops : (hs : List HeadV) (space : List Name) (ms : List (Option Measure)) (at : ℕ) (names : List Name) (fs : List Field) (d : Field) (ds : List Field) (all : Option Broken) (s : Stop) → fs ≡ d ∷ ds → wrong_struct_fields hs space ms at names fs ≡ all → Stops (wrong_struct_field hs space ms at d) s → Stops all s
+pub struct_field_stops : (hs : List HeadV) (space : SpaceV) (ms : List (Option Measure)) (at : ℕ) (names : List Name) (fs : List Field) (d : Field) (ds : List Field) (all : Option Broken) (s : Stop) → fs ≡ d ∷ ds → wrong_struct_fields hs space ms at names fs ≡ all → Stops (wrong_struct_field hs space ms at d) s → Stops all s
 struct_field_stops hs space ms at names fs d ds all s here same h =
     subst (λ o. Stops o s) (ap (wrong_struct_fields hs space ms at names) (sym here) ∙ same) (stops_first _ _ s h)
 
-pub struct_name_stops : (hs : List HeadV) (space : List Name) (ms : List (Option Measure)) (at : ℕ) (names : List Name) (fs : List Field) (d : Field) (ds : List Field) (all : Option Broken) → fs ≡ d ∷ ds → wrong_struct_fields hs space ms at names fs ≡ all → wrong_struct_field hs space ms at d ≡ None → is_in names d.name.items ≡ true → Stops all (stop.Wrong problem.FieldNameTaken d.left)
+pub struct_name_stops : (hs : List HeadV) (space : SpaceV) (ms : List (Option Measure)) (at : ℕ) (names : List Name) (fs : List Field) (d : Field) (ds : List Field) (all : Option Broken) → fs ≡ d ∷ ds → wrong_struct_fields hs space ms at names fs ≡ all → wrong_struct_field hs space ms at d ≡ None → is_in names d.name.items ≡ true → Stops all (stop.Wrong problem.FieldNameTaken d.left)
 struct_name_stops hs space ms at names fs d ds all here same field used =
     subst (λ o. Stops o (stop.Wrong problem.FieldNameTaken d.left)) (ap (wrong_struct_fields hs space ms at names) (sym here) ∙ same)
     (stops_next _ _ (stop.Wrong problem.FieldNameTaken d.left) field (stops_now _ problem.FieldNameTaken d.left _ used))
 
-pub struct_fields_next : (hs : List HeadV) (space : List Name) (ms : List (Option Measure)) (at : ℕ) (names : List Name) (fs : List Field) (d : Field) (ds : List Field) (all : Option Broken) (at' : ℕ) (names' : List Name) → fs ≡ d ∷ ds → wrong_struct_fields hs space ms at names fs ≡ all → wrong_struct_field hs space ms at d ≡ None → is_in names d.name.items ≡ false → at' ≡ end_of at (field_measure hs space ms d) → names' ≡ names ++ d.name.items ∷ [] → wrong_struct_fields hs space ms at' names' ds ≡ all
+pub struct_fields_next : (hs : List HeadV) (space : SpaceV) (ms : List (Option Measure)) (at : ℕ) (names : List Name) (fs : List Field) (d : Field) (ds : List Field) (all : Option Broken) (at' : ℕ) (names' : List Name) → fs ≡ d ∷ ds → wrong_struct_fields hs space ms at names fs ≡ all → wrong_struct_field hs space ms at d ≡ None → is_in names d.name.items ≡ false → at' ≡ end_of at (field_measure hs space ms d) → names' ≡ names ++ d.name.items ∷ [] → wrong_struct_fields hs space ms at' names' ds ≡ all
 struct_fields_next hs space ms at names fs d ds all at' names' here same field new end named =
     rw (end, named) (sym (skip (when (is_in names d.name.items) problem.FieldNameTaken d.left) _ (passes _ problem.FieldNameTaken d.left new))
     ∙ sym (skip (wrong_struct_field hs space ms at d) _ field)
     ∙ ap (wrong_struct_fields hs space ms at names) (sym here) ∙ same)
 
-pub end_next : (hs : List HeadV) (space : List Name) (ms : List (Option Measure)) (at : ℕ) (fs : List Field) (d : Field) (ds : List Field) (all at' : ℕ) → fs ≡ d ∷ ds → end_after hs space ms at fs ≡ all → at' ≡ end_of at (field_measure hs space ms d) → end_after hs space ms at' ds ≡ all
+pub end_next : (hs : List HeadV) (space : SpaceV) (ms : List (Option Measure)) (at : ℕ) (fs : List Field) (d : Field) (ds : List Field) (all at' : ℕ) → fs ≡ d ∷ ds → end_after hs space ms at fs ≡ all → at' ≡ end_of at (field_measure hs space ms d) → end_after hs space ms at' ds ≡ all
 end_next hs space ms at fs d ds all at' here same end = rw end (ap (end_after hs space ms at) (sym here) ∙ same)
 
-pub greatest_next : (hs : List HeadV) (space : List Name) (ms : List (Option Measure)) (n : ℕ) (fs : List Field) (d : Field) (ds : List Field) (all m n' : ℕ) → fs ≡ d ∷ ds → greatest_after hs space ms n fs ≡ all → n' ≡ max n m → m ≡ alignment_in (field_measure hs space ms d) → greatest_after hs space ms n' ds ≡ all
+pub greatest_next : (hs : List HeadV) (space : SpaceV) (ms : List (Option Measure)) (n : ℕ) (fs : List Field) (d : Field) (ds : List Field) (all m n' : ℕ) → fs ≡ d ∷ ds → greatest_after hs space ms n fs ≡ all → n' ≡ max n m → m ≡ alignment_in (field_measure hs space ms d) → greatest_after hs space ms n' ds ≡ all
 greatest_next hs space ms n fs d ds all m n' here same e is = rw (e, is) (ap (greatest_after hs space ms n) (sym here) ∙ same)
 
-pub field_known : (hs : List HeadV) (space : List Name) (ms : List (Option Measure)) (at : ℕ) (f : Field) (b : Base) → wrong_plain hs space f ≡ None → type_named hs space (kind_of f.kind) ≡ Some (record { vector = false; base = b }) → wrong_struct_field hs space ms at f ≡ first (wrong_measure b f.left (measure_among ms b)) (when (not (nat_le (end_of at (measure_among ms b)) 65535)) problem.StructTooLarge f.left)
+pub field_known : (hs : List HeadV) (space : SpaceV) (ms : List (Option Measure)) (at : ℕ) (f : Field) (b : Base) → wrong_plain hs space f ≡ None → type_named hs space (kind_of f.kind) ≡ Some (record { vector = false; base = b }) → wrong_struct_field hs space ms at f ≡ first (wrong_measure b f.left (measure_among ms b)) (when (not (nat_le (end_of at (measure_among ms b)) 65535)) problem.StructTooLarge f.left)
 field_known hs space ms at f b p t = skip (wrong_plain hs space f) _ p ∙ ap (wrong_type ms at f.left) t
 
-pub measure_known : (hs : List HeadV) (space : List Name) (ms : List (Option Measure)) (f : Field) (b : Base) (m : Measure) → type_named hs space (kind_of f.kind) ≡ Some (record { vector = false; base = b }) → measure_among ms b ≡ Some m → field_measure hs space ms f ≡ Some m
+pub measure_known : (hs : List HeadV) (space : SpaceV) (ms : List (Option Measure)) (f : Field) (b : Base) (m : Measure) → type_named hs space (kind_of f.kind) ≡ Some (record { vector = false; base = b }) → measure_among ms b ≡ Some m → field_measure hs space ms f ≡ Some m
 measure_known hs space ms f b m t a = ap (measure_in_type ms) t ∙ a
 
 pub ends_within : (at end left : ℕ) (o : Option Measure) (m : Measure) → o ≡ Some m → end ≡ end_of at (Some m) → end ≤ 65535 → when (not (nat_le (end_of at o) 65535)) problem.StructTooLarge left ≡ None
@@ -99,7 +99,7 @@ set_is : {A : Type 0} (o : Option A) → is_some o ≡ is_set o
 set_is None = refl
 set_is (Some x) = refl
 
-pub plain_left : (hs : List HeadV) (space : List Name) (f : Field) (d r p : Bool) → d ≡ is_some f.default → r ≡ has (codes "required") (map attribute_of f.attributes.items) → p ≡ has (codes "deprecated") (map attribute_of f.attributes.items) → d ≡ false → r ≡ false → p ≡ false → wrong_plain hs space f ≡ first (wrong_kind hs space f.kind) (when (is_vector (type_named hs space (kind_of f.kind))) problem.NoStructField f.left)
+pub plain_left : (hs : List HeadV) (space : SpaceV) (f : Field) (d r p : Bool) → d ≡ is_some f.default → r ≡ has (codes "required") (map attribute_of f.attributes.items) → p ≡ has (codes "deprecated") (map attribute_of f.attributes.items) → d ≡ false → r ≡ false → p ≡ false → wrong_plain hs space f ≡ first (wrong_kind hs space f.kind) (when (is_vector (type_named hs space (kind_of f.kind))) problem.NoStructField f.left)
 plain_left hs space f d r p d' r' p' dn rn pn =
     let a : is_set f.default ≡ false = sym (set_is f.default) ∙ sym d' ∙ dn in
     let b : has (codes "required") (map attribute_of f.attributes.items) ≡ false = sym r' ∙ rn in

@@ -6,7 +6,7 @@ use Rattle.planus_syntax.specs.Values.{Name, field_of, kind_of, attribute_of}
 use Rattle.planus_syntax.specs.declared.value.Attribute.{Attribute}
 use Rattle.planus_syntax.specs.declared.value.Field.{Field}
 use Rattle.planus_schema.specs.declared.fault.Problem.TheVariants as problem
-use Rattle.planus_schema.specs.Names.{HeadV, has, type_named, attribute_named}
+use Rattle.planus_schema.specs.Names.{HeadV, SpaceV, has, type_named, attribute_named}
 use Rattle.planus_schema.specs.Wrong.{Broken, when, first, Stops, wrong_kind}
 use Rattle.planus_schema.specs.declared.fault.Stop.{Stop}
 use Rattle.planus_schema.specs.declared.fault.Stop.TheVariants as stop
@@ -38,7 +38,7 @@ slots_push : (fs : List TableField) (f : TableField) → slots_taken (fs ++ f �
 slots_push [] f = append-nil (slots_of f)
 slots_push (g ∷ fs) f = ap (λ ns. slots_of g ++ ns) (slots_push fs f) ∙ sym (append_assoc (slots_of g) (slots_taken fs) (slots_of f))
 
-pub slots_next : (hs : List HeadV) (space : List Name) (ids : Bool) (next : ℕ) (fs : List TableField) (f : TableField) (d : Field) (rest ds : List Field) (all : List ℕ) → rest ≡ d ∷ ds → f.kind ≡ field_type hs space d → f.slot ≡ field_slot f.kind ids next d → slots_taken fs ++ slots_from hs space ids next rest ≡ all → slots_taken (fs ++ f ∷ []) ++ slots_from hs space ids (next + width f.kind) ds ≡ all
+pub slots_next : (hs : List HeadV) (space : SpaceV) (ids : Bool) (next : ℕ) (fs : List TableField) (f : TableField) (d : Field) (rest ds : List Field) (all : List ℕ) → rest ≡ d ∷ ds → f.kind ≡ field_type hs space d → f.slot ≡ field_slot f.kind ids next d → slots_taken fs ++ slots_from hs space ids next rest ≡ all → slots_taken (fs ++ f ∷ []) ++ slots_from hs space ids (next + width f.kind) ds ≡ all
 slots_next hs space ids next fs f d rest ds all r k s h =
     let t = field_type hs space d in
     let here : slots_of f ≡ slots_at t (field_slot t ids next d) = ap (slots_at f.kind) s ∙ ap (λ u. slots_at u (field_slot u ids next d)) k in
@@ -49,20 +49,20 @@ slots_next hs space ids next fs f d rest ds all r k s h =
     ∙ ap (λ fs'. slots_taken fs ++ slots_from hs space ids next fs') (sym r) ∙ h
 
 -- the fields after those before, in a table
-pub record Left (hs : List HeadV) (space : List Name) (ids : Bool) (next : ℕ) (key : Bool) (names : List Name) (fs : List Field) (d : Field) (ds : List Field) (all : Option Broken) : Type 0 where
+pub record Left (hs : List HeadV) (space : SpaceV) (ids : Bool) (next : ℕ) (key : Bool) (names : List Name) (fs : List Field) (d : Field) (ds : List Field) (all : Option Broken) : Type 0 where
   pub here : fs ≡ d ∷ ds
   pub low : nat_le next 65535 ≡ true
   pub field : wrong_field hs space ids next d ≡ None
   pub same : wrong_fields hs space ids next key names fs ≡ all
 
 -- the fault after this field, which takes these names
-abbrev pub after_field : List HeadV → List Name → Bool → ℕ → Bool → List Name → TableField → Field → List Field → Option Broken
+abbrev pub after_field : List HeadV → SpaceV → Bool → ℕ → Bool → List Name → TableField → Field → List Field → Option Broken
 after_field hs space ids next key names f d ds =
     first (when (are_among names (names_taken f)) problem.FieldNameTaken d.left)
     (first (when (f.key && key) problem.SecondKey d.left)
     (wrong_fields hs space ids (next + width f.kind) (key || f.key) (names ++ names_taken f) ds))
 
-pub after_is : (hs : List HeadV) (space : List Name) (ids : Bool) (next : ℕ) (key : Bool) (names : List Name) (fs : List Field) (d : Field) (ds : List Field) (all : Option Broken) (f : TableField) → Left hs space ids next key names fs d ds all → f.kind ≡ field_type hs space d → f.key ≡ has (codes "key") (field_of d).attributes → names_taken f ≡ names_in (field_type hs space d) d → after_field hs space ids next key names f d ds ≡ all
+pub after_is : (hs : List HeadV) (space : SpaceV) (ids : Bool) (next : ℕ) (key : Bool) (names : List Name) (fs : List Field) (d : Field) (ds : List Field) (all : Option Broken) (f : TableField) → Left hs space ids next key names fs d ds all → f.kind ≡ field_type hs space d → f.key ≡ has (codes "key") (field_of d).attributes → names_taken f ≡ names_in (field_type hs space d) d → after_field hs space ids next key names f d ds ≡ all
 after_is hs space ids next key names fs d ds all f l k is n =
     let low : not (nat_le next 65535) ≡ false = ap not l.low in
     ap (λ ns. first (when (are_among names ns) problem.FieldNameTaken d.left) (first (when (f.key && key) problem.SecondKey d.left) (wrong_fields hs space ids (next + width f.kind) (key || f.key) (names ++ ns) ds))) n
@@ -71,12 +71,12 @@ after_is hs space ids next key names fs d ds all f l k is n =
     ∙ sym (skip (wrong_field hs space ids next d) _ l.field) ∙ sym (skip (when (not (nat_le next 65535)) problem.TooManySlots d.left) _ (passes _ problem.TooManySlots d.left low))
     ∙ ap (wrong_fields hs space ids next key names) (sym l.here) ∙ l.same
 
-pub slot_stops : (hs : List HeadV) (space : List Name) (ids : Bool) (next : ℕ) (key : Bool) (names : List Name) (fs : List Field) (d : Field) (ds : List Field) (all : Option Broken) → fs ≡ d ∷ ds → nat_le next 65535 ≡ false → wrong_fields hs space ids next key names fs ≡ all → Stops all (stop.Wrong problem.TooManySlots d.left)
+pub slot_stops : (hs : List HeadV) (space : SpaceV) (ids : Bool) (next : ℕ) (key : Bool) (names : List Name) (fs : List Field) (d : Field) (ds : List Field) (all : Option Broken) → fs ≡ d ∷ ds → nat_le next 65535 ≡ false → wrong_fields hs space ids next key names fs ≡ all → Stops all (stop.Wrong problem.TooManySlots d.left)
 slot_stops hs space ids next key names fs d ds all here high same =
     subst (λ o. Stops o (stop.Wrong problem.TooManySlots d.left)) (ap (wrong_fields hs space ids next key names) (sym here) ∙ same)
     (stops_now _ problem.TooManySlots d.left _ (ap not high))
 
-pub field_stops : (hs : List HeadV) (space : List Name) (ids : Bool) (next : ℕ) (key : Bool) (names : List Name) (fs : List Field) (d : Field) (ds : List Field) (all : Option Broken) (s : Stop) → fs ≡ d ∷ ds → nat_le next 65535 ≡ true → wrong_fields hs space ids next key names fs ≡ all → Stops (wrong_field hs space ids next d) s → Stops all s
+pub field_stops : (hs : List HeadV) (space : SpaceV) (ids : Bool) (next : ℕ) (key : Bool) (names : List Name) (fs : List Field) (d : Field) (ds : List Field) (all : Option Broken) (s : Stop) → fs ≡ d ∷ ds → nat_le next 65535 ≡ true → wrong_fields hs space ids next key names fs ≡ all → Stops (wrong_field hs space ids next d) s → Stops all s
 field_stops hs space ids next key names fs d ds all s here low same h =
     subst (λ o. Stops o s) (ap (wrong_fields hs space ids next key names) (sym here) ∙ same)
     (stops_next _ _ s (passes _ problem.TooManySlots d.left (ap not low)) (stops_first _ _ s h))
@@ -85,14 +85,14 @@ one_by_one : (a b c : Option Broken) → first a (first b c) ≡ first (first a 
 one_by_one None b c = refl
 one_by_one (Some x) b c = refl
 
-pub names_stop : (hs : List HeadV) (space : List Name) (ids : Bool) (next : ℕ) (key : Bool) (names : List Name) (f : TableField) (d : Field) (ds : List Field) (all : Option Broken) (s : Stop) → after_field hs space ids next key names f d ds ≡ all → Stops (first (when (are_among names (names_taken f)) problem.FieldNameTaken d.left) (when (f.key && key) problem.SecondKey d.left)) s → Stops all s
+pub names_stop : (hs : List HeadV) (space : SpaceV) (ids : Bool) (next : ℕ) (key : Bool) (names : List Name) (f : TableField) (d : Field) (ds : List Field) (all : Option Broken) (s : Stop) → after_field hs space ids next key names f d ds ≡ all → Stops (first (when (are_among names (names_taken f)) problem.FieldNameTaken d.left) (when (f.key && key) problem.SecondKey d.left)) s → Stops all s
 names_stop hs space ids next key names f d ds all s is h =
     let a = when (are_among names (names_taken f)) problem.FieldNameTaken d.left in
     let b = when (f.key && key) problem.SecondKey d.left in
     let c = wrong_fields hs space ids (next + width f.kind) (key || f.key) (names ++ names_taken f) ds in
     subst (λ o. Stops o s) (sym (one_by_one a b c) ∙ is) (stops_first (first a b) c s h)
 
-pub nothing_wrong : (hs : List HeadV) (space : List Name) (ids : Bool) (next : ℕ) (key : Bool) (names : List Name) (d : Field) (ds : List Field) (all : Option Broken) (f : TableField) (names' : List Name) (key' : Bool) (next' : ℕ) → after_field hs space ids next key names f d ds ≡ all → are_among names (names_taken f) ≡ false → (f.key && key) ≡ false → names' ≡ names ++ names_taken f → key' ≡ (key || f.key) → next' ≡ next + width f.kind → wrong_fields hs space ids next' key' names' ds ≡ all
+pub nothing_wrong : (hs : List HeadV) (space : SpaceV) (ids : Bool) (next : ℕ) (key : Bool) (names : List Name) (d : Field) (ds : List Field) (all : Option Broken) (f : TableField) (names' : List Name) (key' : Bool) (next' : ℕ) → after_field hs space ids next key names f d ds ≡ all → are_among names (names_taken f) ≡ false → (f.key && key) ≡ false → names' ≡ names ++ names_taken f → key' ≡ (key || f.key) → next' ≡ next + width f.kind → wrong_fields hs space ids next' key' names' ds ≡ all
 nothing_wrong hs space ids next key names d ds all f names' key' next' h a b n k w =
     rw (n, k, w) (sym (skip (when (f.key && key) problem.SecondKey d.left) _ (passes _ problem.SecondKey d.left b))
     ∙ sym (skip (when (are_among names (names_taken f)) problem.FieldNameTaken d.left) _ (passes _ problem.FieldNameTaken d.left a)) ∙ h)
@@ -100,13 +100,13 @@ nothing_wrong hs space ids next key names d ds all f names' key' next' h a b n k
 pub names_are : (f : TableField) (d : Field) (t : FieldType) → f.kind ≡ t → f.name.items ≡ d.name.items → names_taken f ≡ names_in t d
 names_are f d t k n = ap (λ u. names_for u f.name.items) k ∙ ap (names_for t) n
 
-pub typed_is : (hs : List HeadV) (space : List Name) (ids : Bool) (next : ℕ) (f : Field) (t : FieldType) → wrong_kind hs space f.kind ≡ None → type_named hs space (kind_of f.kind) ≡ Some t → wrong_field hs space ids next f ≡ wrong_typed hs space ids next f (Some t)
+pub typed_is : (hs : List HeadV) (space : SpaceV) (ids : Bool) (next : ℕ) (f : Field) (t : FieldType) → wrong_kind hs space f.kind ≡ None → type_named hs space (kind_of f.kind) ≡ Some t → wrong_field hs space ids next f ≡ wrong_typed hs space ids next f (Some t)
 typed_is hs space ids next f t k n = skip (wrong_kind hs space f.kind) _ k ∙ ap (wrong_typed hs space ids next f) n
 
 abbrev pub field_law : FieldType → Field → Option Broken
 field_law t f = wrong_law (is_required t (field_of f)) (has (codes "key") (field_of f).attributes) (has (codes "nested_flatbuffer") (field_of f).attributes) t f.left
 
-pub law_left : (hs : List HeadV) (space : List Name) (ids : Bool) (next : ℕ) (f : Field) (t : FieldType) → wrong_slot t ids next f ≡ None → wrong_default hs t f.left f.default ≡ None → wrong_nested hs space (attribute_named (codes "nested_flatbuffer") f.attributes.items) ≡ None → wrong_typed hs space ids next f (Some t) ≡ field_law t f
+pub law_left : (hs : List HeadV) (space : SpaceV) (ids : Bool) (next : ℕ) (f : Field) (t : FieldType) → wrong_slot t ids next f ≡ None → wrong_default hs t f.left f.default ≡ None → wrong_nested hs space (attribute_named (codes "nested_flatbuffer") f.attributes.items) ≡ None → wrong_typed hs space ids next f (Some t) ≡ field_law t f
 law_left hs space ids next f t a b c = skip (wrong_slot t ids next f) _ a ∙ skip (wrong_default hs t f.left f.default) _ b ∙ skip (wrong_nested hs space (attribute_named (codes "nested_flatbuffer") f.attributes.items)) _ c
 
 pub law_is : (f : Field) (t : FieldType) (required key nested : Bool) (ks ns : List Attribute) → required ≡ is_required t (field_of f) → key ≡ has (codes "key") (map attribute_of ks) → ks ≡ f.attributes.items → nested ≡ has (codes "nested_flatbuffer") (map attribute_of ns) → ns ≡ f.attributes.items → wrong_law required key nested t f.left ≡ field_law t f

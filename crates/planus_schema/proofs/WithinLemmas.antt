@@ -11,7 +11,7 @@ use Rattle.planus_layout.specs.declared.measure.Measure.{Measure}
 use Rattle.planus_schema.specs.declared.fault.Fault.{Fault}
 use Rattle.planus_schema.specs.declared.fault.Refusal.{Refusal}
 use Rattle.planus_schema.specs.declared.fault.Refusal.TheVariants as refusal
-use Rattle.planus_schema.specs.Names.{HeadV, named_head, own_name, words_in, space_after, heads_of}
+use Rattle.planus_schema.specs.Names.{HeadV, space_at, begun_after, begun_in, named_head, own_name, words_in, space_after, heads_of}
 use Rattle.planus_schema.specs.Wrong.{Broken}
 use Rattle.planus_schema.specs.WrongServices.{known_attributes}
 use Rattle.planus_schema.specs.Faults.{Placed, fault_in, name_fault, name_faults, body_fault, body_faults, measure_placed, statement_faults, wrong_said, file_faults, placed_head, placed_at, placed_in, placed_from, first_twenty, faults_found, IsExact, AreWithin}
@@ -36,15 +36,17 @@ bodies n hs ms [] a = All-nil (Within n)
 bodies n hs ms (p ∷ ps) a =
     All-append (Within n) (body_fault hs ms p) (body_faults hs (ms ++ measure_placed hs ms p ∷ []) ps) (one n p.head.file _ (All-head (Begun n) p ps a)) (bodies n hs (ms ++ measure_placed hs ms p ∷ []) ps (All-tail (Begun n) p ps a))
 
-statements : (n : ℕ) (hs : List HeadV) (known : List Name) (file : ℕ) (space : Option PathV) (ds : List Declaration) → file < n → All (Within n) (statement_faults hs known file space ds)
-statements n hs known file space [] h = All-nil (Within n)
-statements n hs known file space (d ∷ ds) h =
-    All-append (Within n) (fault_in file (wrong_said hs (words_in space) known d)) (statement_faults hs known file (space_after space (item_of d.item)) ds) (one n file _ h) (statements n hs known file (space_after space (item_of d.item)) ds h)
+statements : (n : ℕ) (hs : List HeadV) (known : List Name) (file b : ℕ) (space : Option PathV) (ds : List Declaration) → file < n → All (Within n) (statement_faults hs known file b space ds)
+statements n hs known file b space [] h = All-nil (Within n)
+statements n hs known file b space (d ∷ ds) h =
+    let c = begun_after b (item_of d.item) in
+    All-append (Within n) (fault_in file (wrong_said hs (space_at (words_in space) b) known d)) (statement_faults hs known file c (space_after space (item_of d.item)) ds) (one n file _ h) (statements n hs known file c (space_after space (item_of d.item)) ds h)
 
-files_within : (n : ℕ) (hs : List HeadV) (known : List Name) (k : ℕ) (fs : List (Vec Declaration)) → k + length fs ≤ n → All (Within n) (file_faults hs known k fs)
-files_within n hs known k [] h = All-nil (Within n)
-files_within n hs known k (f ∷ fs) h =
-    All-append (Within n) (statement_faults hs known k None f.items) (file_faults hs known (k + 1) fs) (statements n hs known k None f.items (omega (arith, h))) (files_within n hs known (k + 1) fs (omega (arith, h)))
+files_within : (n : ℕ) (hs : List HeadV) (known : List Name) (k b : ℕ) (fs : List (Vec Declaration)) → k + length fs ≤ n → All (Within n) (file_faults hs known k b fs)
+files_within n hs known k b [] h = All-nil (Within n)
+files_within n hs known k b (f ∷ fs) h =
+    let c = begun_in b (schema_of f.items) in
+    All-append (Within n) (statement_faults hs known k b None f.items) (file_faults hs known (k + 1) c fs) (statements n hs known k b None f.items (omega (arith, h))) (files_within n hs known (k + 1) c fs (omega (arith, h)))
 
 head_begun : (n file : ℕ) (space : List Name) (v : DeclarationV) (d : Declaration) (o : Option Name) → file < n → All (Begun n) (placed_head d (named_head file space v o))
 head_begun n file space v d None h = All-nil (Begun n)
@@ -66,8 +68,8 @@ found_within files =
     let n = length files in
     let hs = heads_of (map (λ f. schema_of f.items) files) in
     let ps = all_begun n 0 files (omega arith) in
-    All-take (Within n) 20 _ (All-append (Within n) (name_faults hs 0 (placed_from 0 files)) (body_faults hs [] (placed_from 0 files) ++ file_faults hs (known_attributes files) 0 files) (names n hs 0 (placed_from 0 files) ps)
-    (All-append (Within n) (body_faults hs [] (placed_from 0 files)) (file_faults hs (known_attributes files) 0 files) (bodies n hs [] (placed_from 0 files) ps) (files_within n hs (known_attributes files) 0 files (omega arith))))
+    All-take (Within n) 20 _ (All-append (Within n) (name_faults hs 0 (placed_from 0 files)) (body_faults hs [] (placed_from 0 files) ++ file_faults hs (known_attributes files) 0 0 files) (names n hs 0 (placed_from 0 files) ps)
+    (All-append (Within n) (body_faults hs [] (placed_from 0 files)) (file_faults hs (known_attributes files) 0 0 files) (bodies n hs [] (placed_from 0 files) ps) (files_within n hs (known_attributes files) 0 0 files (omega arith))))
 
 pub exact_within : (files : List (Vec Declaration)) (r : Refusal) → IsExact files r → AreWithin (length files) r
 exact_within files refusal.OutOfMemory e = tt

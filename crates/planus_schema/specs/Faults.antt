@@ -21,8 +21,9 @@ use Rattle.planus_schema.specs.declared.fault.Stop.{Stop}
 use Rattle.planus_schema.specs.declared.fault.Stop.TheVariants as stop
 use Rattle.planus_schema.specs.declared.fault.Problem.TheVariants as problem
 use Rattle.planus_schema.specs.declared.head.Head.{Head}
-use Rattle.planus_schema.specs.Names.{HeadV, own_name, words_in, space_after, heads_of}
-use Rattle.planus_schema.specs.Names.{index_of, head_of, named_head}
+use Rattle.planus_schema.specs.Names.{HeadV, SpaceV, own_name, words_in, space_after, heads_of}
+use Rattle.planus_schema.specs.Names.{index_of, head_of, named_head, space_at, begun_after, begun_in}
+use Rattle.planus_schema.specs.declared.lookup.Wanted.TheVariants as wanted
 use Rattle.planus_schema.specs.Enums.{integer_type}
 use Rattle.planus_schema.specs.Wrong.{Broken, broken, when, first, wrong_table}
 use Rattle.planus_schema.specs.WrongEnums.{wrong_enum}
@@ -97,7 +98,7 @@ name_faults hs n (p ∷ ps) = name_fault hs n p ++ name_faults hs (n + 1) ps
 -- ---- declarations
 
 -- the fault of a declaration; `left` is the place of its name
-abbrev pub wrong_body : List HeadV → List Name → List (Option Measure) → ℕ → Item → Option Broken
+abbrev pub wrong_body : List HeadV → SpaceV → List (Option Measure) → ℕ → Item → Option Broken
 wrong_body hs space ms left (item.Include w) = broken problem.UnknownType left
 wrong_body hs space ms left (item.Namespace p) = broken problem.UnknownType left
 wrong_body hs space ms left (item.Attribute l) = broken problem.UnknownType left
@@ -115,7 +116,7 @@ scalar_measure None = None
 scalar_measure (Some s) = Some (record { size = scalar_size s; alignment = scalar_size s })
 
 -- the size of a declaration without a fault; one with a fault counts as a byte
-abbrev pub sound_measure : List HeadV → List Name → List (Option Measure) → Item → Option Measure
+abbrev pub sound_measure : List HeadV → SpaceV → List (Option Measure) → Item → Option Measure
 sound_measure hs space ms (item.Include w) = None
 sound_measure hs space ms (item.Namespace p) = None
 sound_measure hs space ms (item.Attribute l) = None
@@ -147,12 +148,14 @@ measure_or_byte (Some b) m byte = byte
 
 abbrev pub measure_placed : List HeadV → List (Option Measure) → Placed → Option Measure
 measure_placed hs ms p =
-    measure_or_byte (wrong_body hs p.head.space ms (name_left p.tree) p.tree.item)
-    (sound_measure hs p.head.space ms p.tree.item) (byte_measure p.tree.item)
+    let space = space_at p.head.space (length ms + 1) in
+    measure_or_byte (wrong_body hs space ms (name_left p.tree) p.tree.item)
+    (sound_measure hs space ms p.tree.item) (byte_measure p.tree.item)
 
 abbrev pub body_fault : List HeadV → List (Option Measure) → Placed → List Fault
 body_fault hs ms p =
-    fault_in p.head.file (wrong_body hs p.head.space ms (name_left p.tree) p.tree.item)
+    fault_in p.head.file (wrong_body hs (space_at p.head.space (length ms + 1)) ms
+    (name_left p.tree) p.tree.item)
 
 abbrev pub body_faults : List HeadV → List (Option Measure) → List Placed → List Fault
 body_faults hs ms [] = []
@@ -161,7 +164,7 @@ body_faults hs ms (p ∷ ps) =
 
 -- ---- statements
 
-abbrev pub wrong_statement : List HeadV → List Name → ℕ → Item → Option Broken
+abbrev pub wrong_statement : List HeadV → SpaceV → ℕ → Item → Option Broken
 wrong_statement hs space left (item.Include w) = None
 wrong_statement hs space left (item.Namespace p) = None
 wrong_statement hs space left (item.Attribute l) = None
@@ -170,27 +173,29 @@ wrong_statement hs space left (item.Struct r) = None
 wrong_statement hs space left (item.Enum e) = None
 wrong_statement hs space left (item.Union u) = None
 wrong_statement hs space left (item.Service s) = None
-wrong_statement hs space left (item.RootType p) = wrong_table problem.RootIsNoTable hs space p
+wrong_statement hs space left (item.RootType p) = wrong_table problem.RootIsNoTable hs wanted.Root space p
 wrong_statement hs space left (item.FileIdentifier w) =
     when (not (length w.items == 4)) problem.WrongIdentifier left
 wrong_statement hs space left (item.FileExtension w) = None
 
 -- the fault of its attributes and methods, and then of its statement
-abbrev pub wrong_said : List HeadV → List Name → List Name → Declaration → Option Broken
+abbrev pub wrong_said : List HeadV → SpaceV → List Name → Declaration → Option Broken
 wrong_said hs space known d =
     first (wrong_item hs space known d.item) (wrong_statement hs space d.left d.item)
 
-abbrev pub statement_faults : List HeadV → List Name → ℕ → Option PathV → List Declaration
+-- after `n` declarations
+abbrev pub statement_faults : List HeadV → List Name → ℕ → ℕ → Option PathV → List Declaration
     → List Fault
-statement_faults hs known file space [] = []
-statement_faults hs known file space (d ∷ ds) =
-    fault_in file (wrong_said hs (words_in space) known d)
-    ++ statement_faults hs known file (space_after space (item_of d.item)) ds
+statement_faults hs known file n space [] = []
+statement_faults hs known file n space (d ∷ ds) =
+    fault_in file (wrong_said hs (space_at (words_in space) n) known d) ++ statement_faults hs known
+    file (begun_after n (item_of d.item)) (space_after space (item_of d.item)) ds
 
-abbrev pub file_faults : List HeadV → List Name → ℕ → List (Vec Declaration) → List Fault
-file_faults hs known n [] = []
-file_faults hs known n (f ∷ fs) =
-    statement_faults hs known n None f.items ++ file_faults hs known (n + 1) fs
+-- the files from this one on, after `n` declarations
+abbrev pub file_faults : List HeadV → List Name → ℕ → ℕ → List (Vec Declaration) → List Fault
+file_faults hs known file n [] = []
+file_faults hs known file n (f ∷ fs) = statement_faults hs known file n None f.items
+    ++ file_faults hs known (file + 1) (begun_in n (schema_of f.items)) fs
 
 -- ---- the whole
 
@@ -199,7 +204,7 @@ abbrev pub faults_found : List (Vec Declaration) → List Fault
 faults_found files =
     let hs = heads_of (map (λ f. schema_of f.items) files) in
     first_twenty (name_faults hs 0 (placed_from 0 files)
-    ++ (body_faults hs [] (placed_from 0 files) ++ file_faults hs (known_attributes files) 0 files))
+    ++ (body_faults hs [] (placed_from 0 files) ++ file_faults hs (known_attributes files) 0 0 files))
 
 -- the file, and then the word: an earlier word has more tokens to the end
 abbrev pub place_of : Fault → ℕ × ℕ

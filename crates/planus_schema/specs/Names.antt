@@ -1,7 +1,7 @@
 -- Declarations, their full names, and the declaration that a name refers to.
 use Rattle.std.specs.Prelude.{ℕ, zero, suc, ◌+◌, ◌==◌, Bool, true, false, if◌then◌else◌}
 use Rattle.std.specs.Prelude.{List, [], ◌∷◌, ◌++◌, length, take, fold, position, Option}
-use Rattle.std.specs.Prelude.{Some, None, codes, slice_get}
+use Rattle.std.specs.Prelude.{Some, None, codes, slice_get, nat_lt, not, ◌&&◌}
 use denote.Ref.{Bor}
 use Rattle.std.specs.Str.{bytes_eq}
 use Rattle.planus_syntax.specs.Values.{Name, PathV, KindV, single, vector}
@@ -13,6 +13,10 @@ use Rattle.planus_syntax.specs.declared.value.Path.{Path}
 use Rattle.planus_syntax.specs.declared.value.Attribute.{Attribute}
 use Rattle.std.specs.Option.{option_map}
 use Rattle.planus_schema.specs.declared.head.Head.{Head}
+use Rattle.planus_schema.specs.declared.lookup.Sought.{Sought}
+use Rattle.planus_schema.specs.declared.lookup.Sought.TheVariants as sought
+use Rattle.planus_schema.specs.declared.lookup.Wanted.{Wanted}
+use Rattle.planus_schema.specs.declared.lookup.Wanted.TheVariants as wanted
 use Rattle.planus_layout.specs.declared.schema.Base.{Base}
 use Rattle.planus_layout.specs.declared.schema.Base.TheVariants as base
 use Rattle.planus_layout.specs.declared.schema.FieldType.{FieldType}
@@ -56,6 +60,18 @@ own_name (extension w) = None
 abbrev pub words_in : Option PathV → List Name
 words_in None = []
 words_in (Some p) = words_of p
+
+-- how many declarations have begun after one more item
+abbrev pub begun_after : ℕ → ItemV → ℕ
+begun_after n i = counted (own_name i)
+  where
+    counted : Option Name → ℕ
+    counted None = n
+    counted (Some w) = n + 1
+
+abbrev pub begun_in : ℕ → List DeclarationV → ℕ
+begun_in n [] = n
+begun_in n (d ∷ ds) = begun_in (begun_after n d.item) ds
 
 -- the namespace after a declaration
 abbrev pub space_after : Option PathV → ItemV → Option PathV
@@ -106,15 +122,93 @@ abbrev pub or_else : Option ℕ → Option ℕ → Option ℕ
 or_else None o = o
 or_else (Some i) o = Some i
 
--- in the first k words of the namespace, and then outwards
-abbrev pub found_from : List HeadV → List Name → List Name → ℕ → Option ℕ
-found_from hs space words zero = index_of hs (dotted words)
-found_from hs space words (suc k) = or_else (index_of hs (dotted (take (suc k) space ++ words)))
-    (found_from hs space words k)
+-- The place of a name: the words of its namespace, and how many declarations begin before it. The
+-- files are read in order, each after those that it includes, so these are the declarations that are
+-- known there; that in which the name stands is one of them.
+pub record SpaceV : Type 0 where
+  pub words : List Name
+  pub begun : ℕ
 
--- the innermost declaration that these words refer to in this namespace
-abbrev pub found : List HeadV → List Name → List Name → Option ℕ
-found hs space words = found_from hs space words (length space)
+abbrev pub space_at : List Name → ℕ → SpaceV
+space_at words n = record { words = words; begun = n }
+
+-- enums and unions; the other declarations with names are tables and structs
+abbrev pub is_choice_item : ItemV → Bool
+is_choice_item (include w) = false
+is_choice_item (namespace p) = false
+is_choice_item (attribute l) = false
+is_choice_item (table r) = false
+is_choice_item (struct r) = false
+is_choice_item (enumeration e) = true
+is_choice_item (union u) = true
+is_choice_item (service s) = false
+is_choice_item (root p) = false
+is_choice_item (identifier w) = false
+is_choice_item (extension w) = false
+
+abbrev pub item_at : List HeadV → ℕ → Option ItemV
+item_at hs i = option_map (λ h. h.declaration.item) (slice_get hs i)
+
+abbrev pub is_choice : List HeadV → ℕ → Bool
+is_choice hs i = is_choice_of (item_at hs i)
+  where
+    is_choice_of : Option ItemV → Bool
+    is_choice_of None = false
+    is_choice_of (Some item) = is_choice_item item
+
+-- whether a declaration is one of those sought by a name before which `begun` have begun
+abbrev pub is_sought : List HeadV → ℕ → Sought → ℕ → Bool
+is_sought hs begun sought.EarlierChoice i = is_choice hs i && nat_lt i begun
+is_sought hs begun sought.EarlierRecord i = not (is_choice hs i) && nat_lt i begun
+is_sought hs begun sought.LaterRecord i = not (is_choice hs i) && not (nat_lt i begun)
+is_sought hs begun sought.LaterChoice i = is_choice hs i && not (nat_lt i begun)
+
+abbrev pub index_if : (ℕ → Bool) → Option ℕ → Option ℕ
+index_if test None = None
+index_if test (Some i) = if test i then Some i else None
+
+-- the declaration of this full name, if it passes the test
+abbrev pub named_if : List HeadV → (ℕ → Bool) → List Name → Option ℕ
+named_if hs test words = index_if test (index_of hs (dotted words))
+
+-- in the first k words of the namespace, and then outwards
+abbrev pub found_from : List HeadV → (ℕ → Bool) → List Name → List Name → ℕ → Option ℕ
+found_from hs test space words zero = named_if hs test words
+found_from hs test space words (suc k) = or_else (named_if hs test (take (suc k) space ++ words))
+    (found_from hs test space words k)
+
+-- a root is named from outside all namespaces, or else from its own, and never from between
+abbrev pub found_root : List HeadV → (ℕ → Bool) → List Name → List Name → Option ℕ
+found_root hs test space words =
+    or_else (named_if hs test words) (named_if hs test (take (length space) space ++ words))
+
+-- the innermost declaration that passes the test and that these words refer to in this namespace
+abbrev pub found_by : List HeadV → (ℕ → Bool) → Wanted → List Name → List Name → Option ℕ
+found_by hs test wanted.AnyType space words = found_from hs test space words (length space)
+found_by hs test wanted.Record space words = found_from hs test space words (length space)
+found_by hs test wanted.Root space words = found_root hs test space words
+
+-- A type is the innermost enum or union that is known at its place; else the innermost known table
+-- or struct; else one that follows. A member of a union without an alias, a nested buffer and a root
+-- are tables, whatever enums there are.
+abbrev pub order_of : Wanted → List Sought
+order_of wanted.AnyType = sought.EarlierChoice ∷ sought.EarlierRecord ∷ sought.LaterRecord
+    ∷ sought.LaterChoice ∷ []
+order_of wanted.Record = sought.EarlierRecord ∷ sought.LaterRecord ∷ sought.EarlierChoice
+    ∷ sought.LaterChoice ∷ []
+order_of wanted.Root = sought.EarlierRecord ∷ sought.LaterRecord ∷ sought.EarlierChoice
+    ∷ sought.LaterChoice ∷ []
+
+-- the first that is found in this order
+abbrev pub first_found : List HeadV → List Sought → Wanted → SpaceV → List Name → Option ℕ
+first_found hs [] w space words = None
+first_found hs (s ∷ more) w space words =
+    or_else (found_by hs (is_sought hs space.begun s) w space.words words)
+    (first_found hs more w space words)
+
+-- the declaration that these words refer to at this place
+unfoldable pub found : List HeadV → Wanted → SpaceV → List Name → Option ℕ
+found hs w space words = first_found hs (order_of w) w space words
 
 -- ---- types
 
@@ -130,9 +224,6 @@ base_of_item (service s) i = None
 base_of_item (root p) i = None
 base_of_item (identifier w) i = None
 base_of_item (extension w) i = None
-
-abbrev pub item_at : List HeadV → ℕ → Option ItemV
-item_at hs i = option_map (λ h. h.declaration.item) (slice_get hs i)
 
 abbrev pub base_of_head : Option ItemV → ℕ → Option Base
 base_of_head None i = None
@@ -158,9 +249,12 @@ abbrev pub base_or : Option Base → Option Base → Option Base
 base_or None o = o
 base_or (Some b) o = Some b
 
--- the type that a name refers to in this namespace
-abbrev pub base_named : List HeadV → List Name → PathV → Option Base
-base_named hs space p = base_or (plain_base p) (base_found hs (found hs space (words_of p)))
+-- the type that a name refers to at this place
+abbrev pub base_as : List HeadV → Wanted → SpaceV → PathV → Option Base
+base_as hs w space p = base_or (plain_base p) (base_found hs (found hs w space (words_of p)))
+
+abbrev pub base_named : List HeadV → SpaceV → PathV → Option Base
+base_named hs space p = base_as hs wanted.AnyType space p
 
 abbrev pub table_in : Option Base → Option ℕ
 table_in None = None
@@ -171,7 +265,7 @@ table_in (Some (base.Struct i)) = None
 table_in (Some (base.Table i)) = Some i
 table_in (Some (base.Union i)) = None
 
-abbrev pub type_named : List HeadV → List Name → KindV → Option FieldType
+abbrev pub type_named : List HeadV → SpaceV → KindV → Option FieldType
 type_named hs space (single p) =
     option_map (λ b. record { vector = false; base = b }) (base_named hs space p)
 type_named hs space (vector p) =

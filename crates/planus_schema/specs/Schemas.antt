@@ -1,8 +1,8 @@
 -- What a schema is, and how it follows from the declarations.
-use Rattle.std.specs.Prelude.{◌≡◌, ℕ, ◌<◌, ◌≤◌, List, [], ◌∷◌, ◌++◌, length, map}
+use Rattle.std.specs.Prelude.{◌≡◌, ℕ, ◌+◌, ◌<◌, ◌≤◌, List, [], ◌∷◌, ◌++◌, length, map}
 use Rattle.std.specs.Prelude.{Option, Some, None}
 use Rattle.std.specs.Option.{option_map}
-use Rattle.planus_syntax.specs.Values.{Name, PathV, ItemV, include, namespace, attribute, table}
+use Rattle.planus_syntax.specs.Values.{PathV, ItemV, include, namespace, attribute, table}
 use Rattle.planus_syntax.specs.Values.{struct, enumeration, union, service, root, identifier}
 use Rattle.planus_syntax.specs.Values.{extension, DeclarationV, names_of}
 use Rattle.planus_layout.specs.declared.schema.Body.{Body}
@@ -13,8 +13,10 @@ use Rattle.planus_schema.specs.declared.fault.Fault.{Fault}
 use Rattle.planus_schema.specs.declared.fault.Refusal.{Refusal}
 use Rattle.planus_schema.specs.declared.fault.Refusal.TheVariants as refusal
 use Rattle.planus_layout.specs.declared.schema.Schema.{Schema}
-use Rattle.planus_schema.specs.Names.{HeadV, heads_of, words_in, space_after, base_named}
+use Rattle.planus_schema.specs.Names.{HeadV, SpaceV, heads_of, words_in, space_after, base_as}
+use Rattle.planus_schema.specs.Names.{space_at, begun_after, begun_in}
 use Rattle.planus_schema.specs.Names.{table_in}
+use Rattle.planus_schema.specs.declared.lookup.Wanted.TheVariants as wanted
 use Rattle.planus_layout.specs.Distinct.{AreDistinct, Each2}
 use Rattle.planus_schema.specs.Enums.{IsEnum, SaysEnum}
 use Rattle.planus_layout.specs.Layouts.{IsStruct, body_in}
@@ -31,7 +33,7 @@ IsBody (body.Enum e) = IsEnum e
 IsBody (body.Union u) = IsUnion u
 
 -- the meaning of a declaration; enums and structs in a struct are among those before it
-abbrev pub SaysBody : List HeadV → List Name → List Body → ItemV → Body → Type 0
+abbrev pub SaysBody : List HeadV → SpaceV → List Body → ItemV → Body → Type 0
 SaysBody hs space before (table r) (body.Table t) = SaysTable hs space r t
 SaysBody hs space before (struct r) (body.Struct s) = SaysStruct hs space before r s
 SaysBody hs space before (enumeration e) (body.Enum t) = SaysEnum e t
@@ -43,7 +45,7 @@ SayBodies hs before [] [] = Unit {0}
 SayBodies hs before [] (b ∷ bs) = ⊥
 SayBodies hs before (h ∷ rest) [] = ⊥
 SayBodies hs before (h ∷ rest) (b ∷ bs) = IsBody b
-    × SaysBody hs h.space before h.declaration.item b × SayBodies hs (before ++ b ∷ []) rest bs
+    × SaysBody hs (space_at h.space (length before + 1)) before h.declaration.item b × SayBodies hs (before ++ b ∷ []) rest bs
 
 -- ---- statements
 
@@ -56,7 +58,7 @@ abbrev pub no_statements : StatementsV
 no_statements = record { root = None; identifier = None; extension = None }
 
 -- a statement replaces an earlier one
-abbrev pub after : List HeadV → Option PathV → StatementsV → ItemV → StatementsV
+abbrev pub after : List HeadV → SpaceV → StatementsV → ItemV → StatementsV
 after hs space s (include w) = s
 after hs space s (namespace p) = s
 after hs space s (attribute l) = s
@@ -65,19 +67,22 @@ after hs space s (struct r) = s
 after hs space s (enumeration e) = s
 after hs space s (union u) = s
 after hs space s (service x) = s
-after hs space s (root p) = record s { root = Some (table_in (base_named hs (words_in space) p)) }
+after hs space s (root p) = record s { root = Some (table_in (base_as hs wanted.Root space p)) }
 after hs space s (identifier w) = record s { identifier = Some w }
 after hs space s (extension w) = record s { extension = Some w }
 
-abbrev pub after_file : List HeadV → Option PathV → StatementsV → List DeclarationV → StatementsV
-after_file hs space s [] = s
-after_file hs space s (d ∷ ds) =
-    after_file hs (space_after space d.item) (after hs space s d.item) ds
+-- after `n` declarations
+abbrev pub after_file : List HeadV → ℕ → Option PathV → StatementsV → List DeclarationV
+    → StatementsV
+after_file hs n space s [] = s
+after_file hs n space s (d ∷ ds) = after_file hs (begun_after n d.item) (space_after space d.item)
+    (after hs (space_at (words_in space) n) s d.item) ds
 
 -- the statements of the last file, which includes the others
-abbrev pub after_files : List HeadV → StatementsV → List (List DeclarationV) → StatementsV
-after_files hs s [] = s
-after_files hs s (ds ∷ files) = after_files hs (after_file hs None no_statements ds) files
+abbrev pub after_files : List HeadV → ℕ → StatementsV → List (List DeclarationV) → StatementsV
+after_files hs n s [] = s
+after_files hs n s (ds ∷ files) =
+    after_files hs (begun_in n ds) (after_file hs n None no_statements ds) files
 
 -- ---- schemas
 
@@ -98,7 +103,8 @@ pub record IsDeclared (hs : List HeadV) (h : HeadV) (old new : List Declared) : 
   pub added : new ≡ old ++ last ∷ []
   pub head : IsHeadOf h last
   pub sound : IsBody last.body
-  pub says : SaysBody hs h.space (map body_in old) h.declaration.item last.body
+  pub says : SaysBody hs (space_at h.space (length old + 1)) (map body_in old) h.declaration.item
+      last.body
 
 -- these are declared, in this order
 pub record AreDeclared (hs : List HeadV) (some : List HeadV) (ds : List Declared) : Type 0 where
@@ -121,7 +127,7 @@ IsFour (Some w) = length w ≡ 4
 pub record Means (files : List (List DeclarationV)) (s : Schema) : Type 0 where
   pub declared : AreDeclared (heads_of files) (heads_of files) s.declarations.items
   pub names : AreDistinct (map (λ h. h.name) (heads_of files))
-  pub statements : said_of s.statements ≡ after_files (heads_of files) no_statements files
+  pub statements : said_of s.statements ≡ after_files (heads_of files) 0 no_statements files
   pub four : IsFour (said_of s.statements).identifier
 
 -- ---- faults

@@ -2,7 +2,7 @@
 use Rattle.std.specs.Prelude.{◌≡◌, ℕ, Bool, true, false, ◌&&◌, not}
 use Rattle.std.specs.Prelude.{if◌then◌else◌}
 use Rattle.std.specs.Prelude.{List, Option, Some, None, codes}
-use Rattle.planus_syntax.specs.Values.{Name, LiteralV, numeral, named, quote, nothing, AttributeV}
+use Rattle.planus_syntax.specs.Values.{LiteralV, numeral, named, quote, nothing, AttributeV}
 use Rattle.planus_syntax.specs.Values.{FieldV, RecordV, names_of}
 use Rattle.planus_layout.specs.declared.schema.Body.{Body}
 use Rattle.planus_layout.specs.declared.schema.Struct.{Struct}
@@ -11,14 +11,14 @@ use Rattle.planus_layout.specs.declared.number.Number.{Number}
 use Rattle.planus_layout.specs.Numbers.{magnitude_of, integer_said}
 use Rattle.planus_layout.specs.Distinct.{Each2}
 use Rattle.planus_layout.specs.Layouts.{measure_in, greatest_alignment}
-use Rattle.planus_schema.specs.Names.{HeadV, type_named, setting, has, is_set}
+use Rattle.planus_schema.specs.Names.{HeadV, SpaceV, type_named, setting, has, is_set}
 
 -- no default, and not `required` or `deprecated`
 abbrev pub is_plain : FieldV → Bool
 is_plain f = not (is_set f.default) && not (has (codes "required") f.attributes)
     && not (has (codes "deprecated") f.attributes)
 
-pub record SaysStructField (hs : List HeadV) (space : List Name) (bodies : List Body) (d : FieldV)
+pub record SaysStructField (hs : List HeadV) (space : SpaceV) (bodies : List Body) (d : FieldV)
     (f : StructField) : Type 0 where
   pub name : f.name.items ≡ d.name
   pub docs : names_of f.docs.items ≡ d.docs
@@ -38,7 +38,7 @@ abbrev pub alignment_said : Option AttributeV → ℕ → ℕ
 alignment_said None greatest = greatest
 alignment_said (Some a) greatest = literal_number a.value
 
-pub record SaysStruct (hs : List HeadV) (space : List Name) (bodies : List Body) (d : RecordV)
+pub record SaysStruct (hs : List HeadV) (space : SpaceV) (bodies : List Body) (d : RecordV)
     (s : Struct) : Type 0 where
   pub fields : Each2 (SaysStructField hs space bodies) d.fields s.fields.items
   pub alignment : s.alignment

@@ -12,7 +12,8 @@ use Rattle.planus_layout.specs.declared.schema.Base.TheVariants as base
 use Rattle.planus_layout.specs.declared.schema.FieldType.{FieldType}
 use Rattle.planus_layout.specs.declared.schema.Table.{Table}
 use Rattle.planus_layout.specs.declared.schema.TableField.{TableField}
-use Rattle.planus_schema.specs.Names.{HeadV, type_named, setting, has, found, base_found, is_set}
+use Rattle.planus_schema.specs.Names.{HeadV, SpaceV, type_named, setting, has, found, base_found, is_set}
+use Rattle.planus_schema.specs.declared.lookup.Wanted.TheVariants as wanted
 use Rattle.planus_layout.specs.Slots.{is_union, slots_taken, AreSlots, Follow}
 use Rattle.planus_layout.specs.Distinct.{AreDistinct, Each2}
 use Rattle.planus_schema.specs.Structs.{literal_number, number_in}
@@ -108,12 +109,12 @@ nested_name (Some (named p)) = None
 nested_name (Some (quote w)) = Some w
 nested_name (Some nothing) = None
 
-abbrev pub table_found : List HeadV → List Name → Option Name → Option Base
+abbrev pub table_found : List HeadV → SpaceV → Option Name → Option Base
 table_found hs space None = None
-table_found hs space (Some w) = base_found hs (found hs space (w ∷ []))
+table_found hs space (Some w) = base_found hs (found hs wanted.Record space (w ∷ []))
 
 -- the table that `nested_flatbuffer` names
-abbrev pub NestedIs : List HeadV → List Name → Option AttributeV → Option ℕ → Type 0
+abbrev pub NestedIs : List HeadV → SpaceV → Option AttributeV → Option ℕ → Type 0
 NestedIs hs space None o = o ≡ None
 NestedIs hs space (Some a) None = ⊥
 NestedIs hs space (Some a) (Some i) =
@@ -124,7 +125,7 @@ abbrev pub is_required : FieldType → FieldV → Bool
 is_required t d = has (codes "required") d.attributes
     || (has (codes "key") d.attributes && is_text_base t.base)
 
-pub record SaysField (hs : List HeadV) (space : List Name) (ids : Bool) (d : FieldV)
+pub record SaysField (hs : List HeadV) (space : SpaceV) (ids : Bool) (d : FieldV)
     (f : TableField) : Type 0 where
   pub name : f.name.items ≡ d.name
   pub docs : names_of f.docs.items ≡ d.docs
@@ -136,7 +137,7 @@ pub record SaysField (hs : List HeadV) (space : List Name) (ids : Bool) (d : Fie
   pub key : f.key ≡ has (codes "key") d.attributes
   pub nested : NestedIs hs space (setting (codes "nested_flatbuffer") d.attributes) f.nested
 
-pub record SaysTable (hs : List HeadV) (space : List Name) (d : RecordV) (t : Table) : Type 0 where
+pub record SaysTable (hs : List HeadV) (space : SpaceV) (d : RecordV) (t : Table) : Type 0 where
   pub fields : Each2 (SaysField hs space (has_ids d.fields)) d.fields t.fields.items
   pub order : has_ids d.fields ≡ false
       → (end : ℕ) × Follow 0 t.fields.items end

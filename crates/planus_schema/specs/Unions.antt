@@ -2,13 +2,15 @@
 use Rattle.std.specs.Prelude.{◌≡◌, ℕ, ◌+◌, Bool, true, ◌&&◌, nat_le, nat_eq, List, [], ◌∷◌}
 use Rattle.std.specs.Prelude.{map, Option, Some, None, codes, if◌then◌else◌}
 use Rattle.std.specs.List.{IsDistinct, list_all}
-use Rattle.planus_syntax.specs.Values.{Name, PathV, MemberV, UnionV, names_of}
+use Rattle.planus_syntax.specs.Values.{PathV, MemberV, UnionV, names_of}
 use Rattle.planus_layout.specs.declared.schema.Base.TheVariants as base
 use Rattle.planus_layout.specs.declared.schema.Union.{Union}
 use Rattle.planus_layout.specs.declared.schema.UnionMember.{UnionMember}
 use Rattle.planus_layout.specs.Numbers.{magnitude_of, integer_said}
+use Rattle.planus_schema.specs.declared.lookup.Wanted.{Wanted}
+use Rattle.planus_schema.specs.declared.lookup.Wanted.TheVariants as wanted
 use Rattle.planus_schema.specs.Structs.{natural_of}
-use Rattle.planus_schema.specs.Names.{HeadV, words_of, dotted, base_named}
+use Rattle.planus_schema.specs.Names.{HeadV, SpaceV, words_of, dotted, base_as}
 use Rattle.planus_layout.specs.Distinct.{AreDistinct, Each2}
 
 -- the given number, or one more than that before; `NONE` is 0
@@ -40,11 +42,19 @@ target_of m = target_or m.target
     target_or None = m.path
     target_or (Some p) = p
 
-pub record SaysMember (hs : List HeadV) (space : List Name) (d : MemberV) (m : UnionMember)
+-- enums and unions count only for a name after an alias
+abbrev pub wanted_of : MemberV → Wanted
+wanted_of m = wanted_for m.target
+  where
+    wanted_for : Option PathV → Wanted
+    wanted_for None = wanted.Record
+    wanted_for (Some p) = wanted.AnyType
+
+pub record SaysMember (hs : List HeadV) (space : SpaceV) (d : MemberV) (m : UnionMember)
     : Type 0 where
   pub name : m.name.items ≡ dotted (words_of d.path)
   pub docs : names_of m.docs.items ≡ d.docs
-  pub table : base_named hs space (target_of d) ≡ Some (base.Table m.table)
+  pub table : base_as hs (wanted_of d) space (target_of d) ≡ Some (base.Table m.table)
 
 abbrev pub tag_in : UnionMember → ℕ
 tag_in m = m.tag
@@ -55,6 +65,6 @@ pub record IsUnion (u : Union) : Type 0 where
   pub distinct : IsDistinct nat_eq (map tag_in u.members.items)
   pub names : AreDistinct (codes "NONE" ∷ map (λ m. m.name.items) u.members.items)
 
-pub record SaysUnion (hs : List HeadV) (space : List Name) (d : UnionV) (u : Union) : Type 0 where
+pub record SaysUnion (hs : List HeadV) (space : SpaceV) (d : UnionV) (u : Union) : Type 0 where
   pub members : Each2 (SaysMember hs space) d.members u.members.items
   pub tags : map tag_in u.members.items ≡ tags_from 0 d.members

@@ -3,15 +3,17 @@
 use Rattle.std.specs.Prelude.{◌≡◌, ℕ, Bool, not}
 use Rattle.std.specs.Prelude.{if◌then◌else◌, List, Option, Some, None}
 use Rattle.std.specs.Prelude.{Result, Ok, Err}
-use Rattle.planus_syntax.specs.Values.{Name, path_of}
+use Rattle.planus_syntax.specs.Values.{path_of}
 use Rattle.planus_syntax.specs.declared.value.Path.{Path}
 use Rattle.planus_syntax.specs.declared.value.Kind.{Kind}
 use Rattle.planus_syntax.specs.declared.value.Kind.TheVariants as kind
 use Rattle.planus_schema.specs.declared.fault.Problem.{Problem}
 use Rattle.planus_schema.specs.declared.fault.Problem.TheVariants as problem
+use Rattle.planus_schema.specs.declared.lookup.Wanted.{Wanted}
+use Rattle.planus_schema.specs.declared.lookup.Wanted.TheVariants as wanted
 use Rattle.planus_schema.specs.declared.fault.Stop.{Stop}
 use Rattle.planus_schema.specs.declared.fault.Stop.TheVariants as stop
-use Rattle.planus_schema.specs.Names.{HeadV, base_named, table_in, is_set}
+use Rattle.planus_schema.specs.Names.{HeadV, SpaceV, base_as, table_in, is_set}
 
 -- `left`: the number of tokens from the word at fault to the end of its text
 pub record Broken : Type 0 where
@@ -40,18 +42,18 @@ Tells o (Err e) = Stops o e
 
 -- ---- names of types
 
-abbrev pub wrong_base : List HeadV → List Name → Path → Option Broken
-wrong_base hs space p =
-    when (not (is_set (base_named hs space (path_of p)))) problem.UnknownType p.left
+abbrev pub wrong_base : List HeadV → Wanted → SpaceV → Path → Option Broken
+wrong_base hs w space p =
+    when (not (is_set (base_as hs w space (path_of p)))) problem.UnknownType p.left
 
 abbrev pub path_in_kind : Kind → Path
 path_in_kind (kind.Single p) = p
 path_in_kind (kind.Vector p) = p
 
-abbrev pub wrong_kind : List HeadV → List Name → Kind → Option Broken
-wrong_kind hs space k = wrong_base hs space (path_in_kind k)
+abbrev pub wrong_kind : List HeadV → SpaceV → Kind → Option Broken
+wrong_kind hs space k = wrong_base hs wanted.AnyType space (path_in_kind k)
 
 -- a name that has to be a table's
-abbrev pub wrong_table : Problem → List HeadV → List Name → Path → Option Broken
-wrong_table problem hs space p = first (wrong_base hs space p)
-    (when (not (is_set (table_in (base_named hs space (path_of p))))) problem p.left)
+abbrev pub wrong_table : Problem → List HeadV → Wanted → SpaceV → Path → Option Broken
+wrong_table problem hs w space p = first (wrong_base hs w space p)
+    (when (not (is_set (table_in (base_as hs w space (path_of p))))) problem p.left)

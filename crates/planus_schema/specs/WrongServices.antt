@@ -11,7 +11,8 @@ use Rattle.planus_syntax.specs.declared.value.Method.{Method}
 use Rattle.planus_syntax.specs.declared.value.Record.{Record}
 use Rattle.planus_layout.specs.Distinct.{is_in}
 use Rattle.planus_schema.specs.declared.fault.Problem.TheVariants as problem
-use Rattle.planus_schema.specs.Names.{HeadV, cut_words}
+use Rattle.planus_schema.specs.declared.lookup.Wanted.TheVariants as wanted
+use Rattle.planus_schema.specs.Names.{HeadV, SpaceV, cut_words}
 use Rattle.planus_schema.specs.Wrong.{Broken, when, first, wrong_table}
 
 -- ---- attributes
@@ -67,21 +68,21 @@ wrong_in_record known r = first (wrong_attributes known r.attributes.items)
 -- ---- services
 
 -- after methods of these names
-abbrev pub wrong_method : List HeadV → List Name → List Name → List Name → Method → Option Broken
+abbrev pub wrong_method : List HeadV → SpaceV → List Name → List Name → Method → Option Broken
 wrong_method hs space known names m =
     first (when (is_in names m.name.items) problem.MethodNameTaken m.left)
-    (first (wrong_table problem.MethodIsNoTable hs space m.request)
-    (first (wrong_table problem.MethodIsNoTable hs space m.response)
+    (first (wrong_table problem.MethodIsNoTable hs wanted.AnyType space m.request)
+    (first (wrong_table problem.MethodIsNoTable hs wanted.AnyType space m.response)
     (wrong_attributes known m.attributes.items)))
 
-abbrev pub wrong_methods : List HeadV → List Name → List Name → List Name → List Method
+abbrev pub wrong_methods : List HeadV → SpaceV → List Name → List Name → List Method
     → Option Broken
 wrong_methods hs space known names [] = None
 wrong_methods hs space known names (m ∷ ms) = first (wrong_method hs space known names m)
     (wrong_methods hs space known (names ++ m.name.items ∷ []) ms)
 
 -- the attributes of a declaration, and the methods of a service
-abbrev pub wrong_item : List HeadV → List Name → List Name → Item → Option Broken
+abbrev pub wrong_item : List HeadV → SpaceV → List Name → Item → Option Broken
 wrong_item hs space known (item.Include w) = None
 wrong_item hs space known (item.Namespace p) = None
 wrong_item hs space known (item.Attribute l) = None

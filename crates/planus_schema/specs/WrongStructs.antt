@@ -16,7 +16,7 @@ use Rattle.planus_layout.specs.Numbers.{scalar_size}
 use Rattle.planus_layout.specs.Distinct.{is_in}
 use Rattle.planus_layout.specs.Layouts.{next_multiple, is_alignment, measure_of_body}
 use Rattle.planus_schema.specs.declared.fault.Problem.TheVariants as problem
-use Rattle.planus_schema.specs.Names.{HeadV, type_named, has, setting, is_set, attribute_named}
+use Rattle.planus_schema.specs.Names.{HeadV, SpaceV, type_named, has, setting, is_set, attribute_named}
 use Rattle.planus_schema.specs.Structs.{number_in, alignment_said}
 use Rattle.planus_schema.specs.Tables.{at_most}
 use Rattle.planus_schema.specs.Wrong.{Broken, broken, when, first, wrong_kind}
@@ -67,7 +67,7 @@ abbrev pub is_vector : Option FieldType → Bool
 is_vector None = false
 is_vector (Some t) = t.vector
 
-abbrev pub wrong_plain : List HeadV → List Name → Field → Option Broken
+abbrev pub wrong_plain : List HeadV → SpaceV → Field → Option Broken
 wrong_plain hs space f =
     let set = map attribute_of f.attributes.items in
     first (when (is_set f.default) problem.DefaultInStruct f.left)
@@ -82,7 +82,7 @@ wrong_type ms at left (Some t) = first (wrong_measure t.base left (measure_among
     (when (not (nat_le (end_of at (measure_among ms t.base)) 65535)) problem.StructTooLarge left)
 
 -- a field after byte `at`
-abbrev pub wrong_struct_field : List HeadV → List Name → List (Option Measure) → ℕ → Field
+abbrev pub wrong_struct_field : List HeadV → SpaceV → List (Option Measure) → ℕ → Field
     → Option Broken
 wrong_struct_field hs space ms at f =
     first (wrong_plain hs space f) (wrong_type ms at f.left (type_named hs space (kind_of f.kind)))
@@ -91,11 +91,11 @@ abbrev pub measure_in_type : List (Option Measure) → Option FieldType → Opti
 measure_in_type ms None = None
 measure_in_type ms (Some t) = measure_among ms t.base
 
-abbrev pub field_measure : List HeadV → List Name → List (Option Measure) → Field → Option Measure
+abbrev pub field_measure : List HeadV → SpaceV → List (Option Measure) → Field → Option Measure
 field_measure hs space ms f = measure_in_type ms (type_named hs space (kind_of f.kind))
 
 -- the fields after byte `at` and after those of these names
-abbrev pub wrong_struct_fields : List HeadV → List Name → List (Option Measure) → ℕ → List Name
+abbrev pub wrong_struct_fields : List HeadV → SpaceV → List (Option Measure) → ℕ → List Name
     → List Field → Option Broken
 wrong_struct_fields hs space ms at names [] = None
 wrong_struct_fields hs space ms at names (f ∷ fs) =
@@ -106,7 +106,7 @@ wrong_struct_fields hs space ms at names (f ∷ fs) =
 
 -- ---- the whole
 
-abbrev pub end_after : List HeadV → List Name → List (Option Measure) → ℕ → List Field → ℕ
+abbrev pub end_after : List HeadV → SpaceV → List (Option Measure) → ℕ → List Field → ℕ
 end_after hs space ms at [] = at
 end_after hs space ms at (f ∷ fs) =
     end_after hs space ms (end_of at (field_measure hs space ms f)) fs
@@ -115,7 +115,7 @@ abbrev pub alignment_in : Option Measure → ℕ
 alignment_in None = 1
 alignment_in (Some m) = m.alignment
 
-abbrev pub greatest_after : List HeadV → List Name → List (Option Measure) → ℕ → List Field → ℕ
+abbrev pub greatest_after : List HeadV → SpaceV → List (Option Measure) → ℕ → List Field → ℕ
 greatest_after hs space ms n [] = n
 greatest_after hs space ms n (f ∷ fs) =
     greatest_after hs space ms (max n (alignment_in (field_measure hs space ms f))) fs
@@ -140,7 +140,7 @@ is_empty [] = true
 is_empty (f ∷ fs) = false
 
 -- the fields one by one, then the alignment; `left` is the place of the struct's name
-abbrev pub wrong_struct : List HeadV → List Name → List (Option Measure) → Record → ℕ
+abbrev pub wrong_struct : List HeadV → SpaceV → List (Option Measure) → Record → ℕ
     → Option Broken
 wrong_struct hs space ms r left =
     first (when (is_empty r.fields.items) problem.EmptyStruct left)
@@ -151,7 +151,7 @@ wrong_struct hs space ms r left =
 abbrev pub measure_laid : ℕ → ℕ → Measure
 measure_laid alignment end = record { size = next_multiple alignment end; alignment = alignment }
 
-abbrev pub struct_measure : List HeadV → List Name → List (Option Measure) → Record → Measure
+abbrev pub struct_measure : List HeadV → SpaceV → List (Option Measure) → Record → Measure
 struct_measure hs space ms r =
     measure_laid (alignment_said
     (setting (codes "force_align") (map attribute_of r.attributes.items))

@@ -13,7 +13,7 @@ use Rattle.planus_layout.specs.declared.scalar.Scalar.TheVariants as scalar
 use Rattle.planus_layout.specs.Slots.{is_union, width, are_whole, slot_said}
 use Rattle.planus_layout.specs.Distinct.{is_in}
 use Rattle.planus_schema.specs.declared.fault.Problem.TheVariants as problem
-use Rattle.planus_schema.specs.Names.{HeadV, type_named, has, is_set, attribute_named, table_in}
+use Rattle.planus_schema.specs.Names.{HeadV, SpaceV, type_named, has, is_set, attribute_named, table_in}
 use Rattle.planus_schema.specs.Tables.{has_ids, id_said, nested_name, table_found, is_required}
 use Rattle.planus_schema.specs.Tables.{names_for, is_number, may_be_key, is_bytes}
 use Rattle.planus_schema.specs.Defaults.{default_said}
@@ -49,7 +49,7 @@ abbrev pub wrong_default : List HeadV → FieldType → ℕ → Option Literal �
 wrong_default hs t left l = when (not (is_set (default_said hs t (option_map literal_of l))))
     (if is_set l then problem.WrongDefault else problem.UnknownValue) left
 
-abbrev pub wrong_nested : List HeadV → List Name → Option Attribute → Option Broken
+abbrev pub wrong_nested : List HeadV → SpaceV → Option Attribute → Option Broken
 wrong_nested hs space None = None
 wrong_nested hs space (Some a) =
     when (not (is_set (table_in (table_found hs space (nested_name (attribute_of a).value)))))
@@ -63,7 +63,7 @@ wrong_law required key nested t left =
     (when (nested && not (is_bytes t)) problem.WrongNested left))
 
 -- a field of a known type
-abbrev pub wrong_typed : List HeadV → List Name → Bool → ℕ → Field → Option FieldType
+abbrev pub wrong_typed : List HeadV → SpaceV → Bool → ℕ → Field → Option FieldType
     → Option Broken
 wrong_typed hs space ids next f None = None
 wrong_typed hs space ids next f (Some t) =
@@ -73,11 +73,11 @@ wrong_typed hs space ids next f (Some t) =
     (has (codes "nested_flatbuffer") (field_of f).attributes) t f.left)))
 
 -- its type, slot and default, the nested buffer, and what it may be
-abbrev pub wrong_field : List HeadV → List Name → Bool → ℕ → Field → Option Broken
+abbrev pub wrong_field : List HeadV → SpaceV → Bool → ℕ → Field → Option Broken
 wrong_field hs space ids next f = first (wrong_kind hs space f.kind)
     (wrong_typed hs space ids next f (type_named hs space (kind_of f.kind)))
 
-abbrev pub field_type : List HeadV → List Name → Field → FieldType
+abbrev pub field_type : List HeadV → SpaceV → Field → FieldType
 field_type hs space f = type_or (type_named hs space (kind_of f.kind))
   where
     type_or : Option FieldType → FieldType
@@ -93,7 +93,7 @@ are_among names [] = false
 are_among names (w ∷ ws) = is_in names w || are_among (names ++ w ∷ []) ws
 
 -- the fields after the slots below `next`, after a `key` or none, and after those of these names
-abbrev pub wrong_fields : List HeadV → List Name → Bool → ℕ → Bool → List Name → List Field
+abbrev pub wrong_fields : List HeadV → SpaceV → Bool → ℕ → Bool → List Name → List Field
     → Option Broken
 wrong_fields hs space ids next key names [] = None
 wrong_fields hs space ids next key names (f ∷ fs) =
@@ -110,18 +110,18 @@ wrong_fields hs space ids next key names (f ∷ fs) =
 abbrev pub slots_at : FieldType → ℕ → List ℕ
 slots_at t n = if is_union t then (n - 1) ∷ n ∷ [] else n ∷ []
 
-abbrev pub slots_from : List HeadV → List Name → Bool → ℕ → List Field → List ℕ
+abbrev pub slots_from : List HeadV → SpaceV → Bool → ℕ → List Field → List ℕ
 slots_from hs space ids next [] = []
 slots_from hs space ids next (f ∷ fs) =
     let t = field_type hs space f in
     slots_at t (field_slot t ids next f) ++ slots_from hs space ids (next + width t) fs
 
 -- the fields one by one, then all slots together; `left` is the place of the table's name
-abbrev pub wrong_table_fields : List HeadV → List Name → ℕ → List Field → Option Broken
+abbrev pub wrong_table_fields : List HeadV → SpaceV → ℕ → List Field → Option Broken
 wrong_table_fields hs space left fs =
     let ids = has_ids (map field_of fs) in
     first (wrong_fields hs space ids 0 false [] fs)
     (wrong_slots left (slots_from hs space ids 0 fs))
 
-abbrev pub wrong_table_body : List HeadV → List Name → Record → ℕ → Option Broken
+abbrev pub wrong_table_body : List HeadV → SpaceV → Record → ℕ → Option Broken
 wrong_table_body hs space r left = wrong_table_fields hs space left r.fields.items

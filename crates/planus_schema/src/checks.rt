@@ -13,6 +13,7 @@ ghost use Rattle.planus_schema.specs.WrongServices.{wrong_method, wrong_methods,
 
 use crate::fault::{Problem, Stop, or_return, wrong};
 use crate::kind::table_at;
+use crate::lookup::Wanted;
 use crate::names::take_name;
 use crate::scope::Scope;
 use crate::words::cut_words;
@@ -103,8 +104,8 @@ fn check_method(
         return Err(wrong(Problem::MethodNameTaken, method.left));
     }
     let problem = Problem::MethodIsNoTable;
-    or_return!(table_at(scope, &method.request, problem));
-    or_return!(table_at(scope, &method.response, problem));
+    or_return!(table_at(scope, Wanted::AnyType, &method.request, problem));
+    or_return!(table_at(scope, Wanted::AnyType, &method.response, problem));
     check_attributes(known, &method.attributes)
 }
 

@@ -8,6 +8,7 @@ ghost use Rattle.planus_schema.specs.Names.{heads_in};
 ghost use Rattle.planus_schema.specs.Faults.{placed_of, placed_at, placed_in, placed_from};
 ghost use Rattle.planus_schema.specs.Names.{own_name as own_name_lem, head_of, heads_of, dotted};
 ghost use Rattle.planus_schema.specs.Names.{space_after as space_after_lem};
+ghost use Rattle.planus_schema.specs.Names.{begun_after as begun_after_lem};
 
 use crate::fault::or_return;
 use planus_syntax::{Declaration, Item, Path};
@@ -130,6 +131,20 @@ pub(crate) fn space_after<'a>(
         Item::Namespace(Some(path)) => Some(path),
         Item::Namespace(None) => None,
         _ => space,
+    }
+}
+
+/// Returns how many declarations have begun after one more item.
+pub(crate) fn begun_after(begun: usize, declaration: &Declaration) -> Result<usize, AllocError>
+    ensures { IfOk result (λ n. n ≡ begun_after_lem begun (item_of declaration.now.item)) }
+{
+    match own_name(&declaration.item) {
+        // No memory holds so many declarations that this sum is too large.
+        Some(_) => match begun.checked_add(1) {
+            Some(begun) => Ok(begun),
+            None => Err(AllocError),
+        },
+        None => Ok(begun),
     }
 }
 

@@ -4,8 +4,10 @@ ghost use Rattle.std.specs.Prelude.{◌≡◌, slice_get, map, IfOk};
 ghost use Rattle.std.specs.Option.{option_map};
 ghost use Rattle.planus_schema.specs.Names.{head_of, index_of as index_of_lem};
 ghost use Rattle.planus_schema.specs.inner.Index.{IsIndex};
+ghost use Rattle.planus_schema.specs.Names.{is_choice as is_choice_lem};
 
 use crate::head::Head;
+use planus_syntax::Item;
 use std::alloc::{AllocError, Global};
 use std::collections::BTreeMap;
 use std::marker::Model;
@@ -55,6 +57,16 @@ impl<'h> Heads<'h> {
         ensures { option_map (λ h. h.now) result ≡ slice_get self.now index }
     {
         self.list.get(index)
+    }
+
+    /// Returns whether a declaration is an enum or a union.
+    pub(crate) fn is_choice(&self, index: usize) -> bool
+        ensures { result ≡ is_choice_lem (map head_of self.now) index }
+    {
+        match self.list.get(index) {
+            Some(head) => matches!(head.declaration.item, Item::Enum(_) | Item::Union(_)),
+            None => false,
+        }
     }
 
     pub(crate) fn index_of(&self, name: &[u8]) -> Option<usize>

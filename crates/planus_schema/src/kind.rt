@@ -7,11 +7,11 @@ ghost use Rattle.planus_schema.specs.inner.Scopes.{scope_heads, scope_space};
 ghost use Rattle.planus_schema.specs.Names.{head_of, plain_base as plain_base_lem};
 ghost use Rattle.planus_schema.specs.Names.{base_of_head};
 ghost use Rattle.planus_schema.specs.Wrong.{Tells, wrong_base, wrong_kind, wrong_table};
-ghost use Rattle.planus_schema.specs.Names.{base_named, type_named, item_at};
+ghost use Rattle.planus_schema.specs.Names.{base_as, type_named, item_at};
 
 use crate::fault::{Problem, Stop, or_return, wrong};
 use crate::heads::Heads;
-use crate::lookup::found;
+use crate::lookup::{Wanted, found};
 use crate::scalar_names::scalar_named;
 use crate::scope::Scope;
 use planus_layout::{Base, FieldType};
@@ -54,16 +54,19 @@ pub(crate) fn head_base(heads: &Heads, index: usize) -> Option<Base>
     }
 }
 
-pub(crate) fn base_of(scope: &Scope, path: &Path) -> Result<Base, Stop>
-    ensures named { IfOk result (λ b. base_named (scope_heads scope.now)
+fn base_of(scope: &Scope, wanted: Wanted, path: &Path) -> Result<Base, Stop>
+    ensures named { IfOk result (λ b. base_as (scope_heads scope.now) wanted
         (scope_space scope.now) (path_of path.now) ≡ Some b) }
-    ensures wrong { Tells (wrong_base (scope_heads scope.now) (scope_space scope.now) path.now)
-        result }
+    ensures wrong { Tells (wrong_base (scope_heads scope.now) wanted (scope_space scope.now)
+        path.now) result }
 {
     if let Some(base) = plain_base(path) {
         return Ok(base);
     }
-    let index = or_return!(found(scope, &path.first, &path.more), Stop::OutOfMemory);
+    let index = or_return!(
+        found(scope, wanted, &path.first, &path.more),
+        Stop::OutOfMemory
+    );
     let base = match index {
         Some(index) => head_base(scope.heads, index),
         None => None,
@@ -84,17 +87,22 @@ pub(crate) fn type_of(scope: &Scope, kind: &Kind) -> Result<FieldType, Stop>
         Kind::Single(path) => (false, path),
         Kind::Vector(path) => (true, path),
     };
-    let base = or_return!(base_of(scope, path));
+    let base = or_return!(base_of(scope, Wanted::AnyType, path));
     Ok(FieldType { vector, base })
 }
 
-pub(crate) fn table_at(scope: &Scope, path: &Path, problem: Problem) -> Result<usize, Stop>
-    ensures named { IfOk result (λ i. base_named (scope_heads scope.now) (scope_space scope.now)
-        (path_of path.now) ≡ Some (Base.Table i)) }
-    ensures wrong { Tells (wrong_table problem (scope_heads scope.now) (scope_space scope.now)
-        path.now) result }
+pub(crate) fn table_at(
+    scope: &Scope,
+    wanted: Wanted,
+    path: &Path,
+    problem: Problem,
+) -> Result<usize, Stop>
+    ensures named { IfOk result (λ i. base_as (scope_heads scope.now) wanted
+        (scope_space scope.now) (path_of path.now) ≡ Some (Base.Table i)) }
+    ensures wrong { Tells (wrong_table problem (scope_heads scope.now) wanted
+        (scope_space scope.now) path.now) result }
 {
-    match base_of(scope, path) {
+    match base_of(scope, wanted, path) {
         Ok(Base::Table(index)) => Ok(index),
         Ok(_) => Err(wrong(problem, path.left)),
         Err(stop) => Err(stop),

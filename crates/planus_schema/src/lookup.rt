@@ -1,45 +1,160 @@
 //! The declaration that a name refers to.
 
-ghost use Rattle.std.specs.Prelude.{◌≡◌, ◌++◌, ◌∷◌, take, length, IfOk, ◌≤◌};
+ghost use Rattle.std.specs.Prelude.{◌≡◌, ◌++◌, ◌∷◌, take, length, map, IfOk, ◌≤◌};
 ghost use Rattle.planus_syntax.specs.Values.{names_of};
 ghost use Rattle.planus_schema.specs.inner.Scopes.{scope_heads, scope_space};
-ghost use Rattle.planus_schema.specs.Names.{index_of as index_of_lem};
-ghost use Rattle.planus_schema.specs.Names.{dotted, found as found_lem};
+ghost use Rattle.planus_schema.specs.Names.{head_of, space_of, named_if, found_from, found_root};
+ghost use Rattle.planus_schema.specs.Names.{found as found_lem, found_by as found_by_lem};
+ghost use Rattle.planus_schema.specs.Names.{is_sought as is_sought_lem, order_of as order_of_lem};
 
 use crate::fault::or_return;
 use crate::head::{depth, dotted_name};
+use crate::heads::Heads;
 use crate::scope::Scope;
 use std::alloc::AllocError;
 
+/// How a name is used.
+#[derive(Clone, Copy)]
+pub(crate) enum Wanted {
+    /// The type of a field or of a method, or a union's member after an alias.
+    AnyType,
+    /// A union's member without an alias, or a nested buffer.
+    Record,
+    /// A root.
+    Root,
+}
+
+/// Enums and unions, or tables and structs, that are known where a name is used, or that follow.
+#[derive(Clone, Copy)]
+pub(crate) enum Sought {
+    EarlierChoice,
+    EarlierRecord,
+    LaterRecord,
+    LaterChoice,
+}
+
+fn is_sought(heads: &Heads, begun: usize, sought: Sought, index: usize) -> bool
+    ensures { result ≡ is_sought_lem (map head_of heads.now) begun sought index }
+{
+    let choice = heads.is_choice(index);
+    match sought {
+        Sought::EarlierChoice => choice && index < begun,
+        Sought::EarlierRecord => !choice && index < begun,
+        Sought::LaterRecord => !choice && index >= begun,
+        Sought::LaterChoice => choice && index >= begun,
+    }
+}
+
 fn found_at(
     scope: &Scope,
+    sought: Sought,
     count: usize,
     first: &[u8],
     more: &[Vec<u8>],
 ) -> Result<Option<usize>, AllocError>
-    requires { count ≤ length (scope_space scope.now) }
-    ensures { IfOk result (λ o. o ≡ index_of_lem (scope_heads scope.now)
-        (dotted (take count (scope_space scope.now) ++ first.now ∷ names_of more.now))) }
+    requires { count ≤ length (space_of scope.now.space) }
+    ensures { IfOk result (λ o. o ≡ named_if (scope_heads scope.now)
+        (is_sought_lem (scope_heads scope.now) scope.now.begun sought)
+        (take count (space_of scope.now.space) ++ first.now ∷ names_of more.now)) }
 {
     let name = or_return!(dotted_name(scope.alloc, scope.space, count, first, more));
-    Ok(scope.heads.index_of(&name))
+    match scope.heads.index_of(&name) {
+        Some(index) if is_sought(scope.heads, scope.begun, sought, index) => Ok(Some(index)),
+        _ => Ok(None),
+    }
 }
 
-/// Returns the index of the innermost declaration that these words refer to.
-pub(crate) fn found(
+fn found_outwards(
     scope: &Scope,
+    sought: Sought,
     first: &[u8],
     more: &[Vec<u8>],
 ) -> Result<Option<usize>, AllocError>
-    ensures { IfOk result (λ o. o ≡ found_lem (scope_heads scope.now) (scope_space scope.now)
-        (first.now ∷ names_of more.now)) }
+    ensures { IfOk result (λ o. o ≡ found_from (scope_heads scope.now)
+        (is_sought_lem (scope_heads scope.now) scope.now.begun sought)
+        (space_of scope.now.space) (first.now ∷ names_of more.now)
+        (length (space_of scope.now.space))) }
 {
     let mut count = depth(scope.space);
     'spaces: while count > 0 {
-        if let Some(index) = or_return!(found_at(scope, count, first, more)) {
+        if let Some(index) = or_return!(found_at(scope, sought, count, first, more)) {
             return Ok(Some(index));
         }
         count -= 1;
     }
-    found_at(scope, 0, first, more)
+    found_at(scope, sought, 0, first, more)
+}
+
+fn found_for_root(
+    scope: &Scope,
+    sought: Sought,
+    first: &[u8],
+    more: &[Vec<u8>],
+) -> Result<Option<usize>, AllocError>
+    ensures { IfOk result (λ o. o ≡ found_root (scope_heads scope.now)
+        (is_sought_lem (scope_heads scope.now) scope.now.begun sought)
+        (space_of scope.now.space) (first.now ∷ names_of more.now)) }
+{
+    if let Some(index) = or_return!(found_at(scope, sought, 0, first, more)) {
+        return Ok(Some(index));
+    }
+    found_at(scope, sought, depth(scope.space), first, more)
+}
+
+fn found_by(
+    scope: &Scope,
+    wanted: Wanted,
+    sought: Sought,
+    first: &[u8],
+    more: &[Vec<u8>],
+) -> Result<Option<usize>, AllocError>
+    ensures { IfOk result (λ o. o ≡ found_by_lem (scope_heads scope.now)
+        (is_sought_lem (scope_heads scope.now) scope.now.begun sought) wanted
+        (space_of scope.now.space) (first.now ∷ names_of more.now)) }
+{
+    match wanted {
+        Wanted::AnyType | Wanted::Record => found_outwards(scope, sought, first, more),
+        Wanted::Root => found_for_root(scope, sought, first, more),
+    }
+}
+
+fn order_of(wanted: Wanted) -> [Sought; 4]
+    ensures { result ≡ order_of_lem wanted }
+{
+    match wanted {
+        Wanted::AnyType => [
+            Sought::EarlierChoice,
+            Sought::EarlierRecord,
+            Sought::LaterRecord,
+            Sought::LaterChoice,
+        ],
+        Wanted::Record | Wanted::Root => [
+            Sought::EarlierRecord,
+            Sought::LaterRecord,
+            Sought::EarlierChoice,
+            Sought::LaterChoice,
+        ],
+    }
+}
+
+/// Returns the index of the declaration that these words refer to.
+#[tactic(auto, unfolding(crate::specs::Names::found))]
+pub(crate) fn found(
+    scope: &Scope,
+    wanted: Wanted,
+    first: &[u8],
+    more: &[Vec<u8>],
+) -> Result<Option<usize>, AllocError>
+    ensures { IfOk result (λ o. o ≡ found_lem (scope_heads scope.now) wanted
+        (scope_space scope.now) (first.now ∷ names_of more.now)) }
+{
+    let order = order_of(wanted);
+    let mut rest = order.as_slice();
+    'order: while let Some((sought, after)) = rest.split_first() {
+        if let Some(index) = or_return!(found_by(scope, wanted, *sought, first, more)) {
+            return Ok(Some(index));
+        }
+        rest = after;
+    }
+    Ok(None)
 }

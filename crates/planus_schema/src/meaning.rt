@@ -1,8 +1,8 @@
 //! The meaning of files.
 
-ghost use Rattle.std.specs.Prelude.{◌≡◌, [], ◌∷◌, ◌++◌, ◌≤◌, map, length, Some, IfOk, IfErr, OnOk};
+ghost use Rattle.std.specs.Prelude.{◌≡◌, [], ◌∷◌, ◌++◌, ◌≤◌, ◌+◌, map, length, Some, IfOk, IfErr, OnOk};
 ghost use Rattle.planus_syntax.specs.Values.{schema_of};
-ghost use Rattle.planus_schema.specs.Names.{head_of, heads_of, space_of, index_of};
+ghost use Rattle.planus_schema.specs.Names.{head_of, heads_of, space_of, space_at, index_of};
 ghost use Rattle.planus_layout.specs.Distinct.{AreDistinct};
 ghost use Rattle.planus_schema.specs.inner.Read.{IsBodyRead, IsToldOf};
 ghost use Rattle.planus_schema.specs.Schemas.{IsDeclared, AreDeclared, Means};
@@ -32,10 +32,11 @@ use planus_syntax::{Declaration, Item};
 use std::alloc::{AllocError, Global};
 
 fn body_of(alloc: Global, heads: &Heads, declared: &[Declared], head: &Head) -> Result<Body, Stop>
-    ensures read { IfOk result (λ b. IsBodyRead (map head_of heads.now) (space_of head.now.space)
-        declared.now head.now.declaration.now.item b) }
-    ensures wrong { Tells (wrong_body (map head_of heads.now) (space_of head.now.space)
-        (measures_of declared.now) (name_left_lem head.now.declaration.now)
+    ensures read { IfOk result (λ b. IsBodyRead (map head_of heads.now)
+        (space_at (space_of head.now.space) (length declared.now + 1)) declared.now
+        head.now.declaration.now.item b) }
+    ensures wrong { Tells (wrong_body (map head_of heads.now)
+        (space_at (space_of head.now.space) (length declared.now + 1)) (measures_of declared.now) (name_left_lem head.now.declaration.now)
         head.now.declaration.now.item) result }
 {
     let left = head.declaration.left.saturating_sub(1);
@@ -43,6 +44,7 @@ fn body_of(alloc: Global, heads: &Heads, declared: &[Declared], head: &Head) -> 
         alloc,
         heads,
         space: head.space,
+        begun: declared.len() + 1,
     };
     match &head.declaration.item {
         Item::Table(record) => {

@@ -4,7 +4,7 @@ ghost use Rattle.std.specs.Prelude.{◌≡◌, [], ◌≤◌, map, length, IfOk,
 ghost use Rattle.planus_syntax.specs.Values.{item_of, schema_of};
 ghost use Rattle.planus_schema.specs.inner.Read.{AreStated};
 ghost use Rattle.planus_schema.specs.inner.Scopes.{scope_heads, scope_space};
-ghost use Rattle.planus_schema.specs.Names.{head_of, path_in};
+ghost use Rattle.planus_schema.specs.Names.{head_of, begun_in};
 ghost use Rattle.planus_schema.specs.Schemas.{said_of, after, after_file, after_files, IsFour};
 ghost use Rattle.planus_schema.specs.Schemas.{no_statements};
 ghost use Rattle.planus_syntax.specs.Values.{names_of};
@@ -15,9 +15,10 @@ ghost use Rattle.planus_schema.specs.Faults.{file_faults};
 
 use crate::checks::{check_item, known_attributes};
 use crate::fault::{Fault, Problem, Stop, note, or_return, wrong};
-use crate::head::space_after;
+use crate::head::{begun_after, space_after};
 use crate::heads::Heads;
 use crate::kind::table_at;
+use crate::lookup::Wanted;
 use crate::scope::Scope;
 use planus_layout::Statements;
 use planus_syntax::{Declaration, Item};
@@ -30,7 +31,7 @@ fn state(
     statements: &mut Statements,
 ) -> Result<(), Stop>
     ensures said { OnOk result ((said_of statements.new ≡ after (scope_heads scope.now)
-        (path_in scope.now.space) (said_of statements.old) (item_of declaration.now.item))
+        (scope_space scope.now) (said_of statements.old) (item_of declaration.now.item))
         × (IsFour (said_of statements.old).identifier
         → IsFour (said_of statements.new).identifier)) }
     ensures wrong { Tells (wrong_said (scope_heads scope.now) (scope_space scope.now)
@@ -39,7 +40,7 @@ fn state(
     or_return!(check_item(scope, known, &declaration.item));
     match &declaration.item {
         Item::RootType(path) => {
-            let table = or_return!(table_at(scope, path, Problem::RootIsNoTable));
+            let table = or_return!(table_at(scope, Wanted::Root, path, Problem::RootIsNoTable));
             statements.root = Some(table);
         }
         Item::FileIdentifier(word) => {
@@ -63,15 +64,17 @@ fn state_file(
     heads: &Heads,
     known: &[Vec<u8>],
     file: usize,
+    begun: &mut usize,
     declarations: &[Declaration],
     statements: &mut Statements,
     faults: &mut Vec<Fault>,
 ) -> Result<(), AllocError>
     requires { length faults.old.items ≤ 20 }
-    ensures { OnOk result (AreStated (after_file (map head_of heads.now) None
+    ensures begun { OnOk result (begun.new ≡ begun_in begun.old (schema_of declarations.now)) }
+    ensures stated { OnOk result (AreStated (after_file (map head_of heads.now) begun.old None
         (said_of statements.old) (schema_of declarations.now)) (statement_faults
-        (map head_of heads.now) (names_of known.now) file None declarations.now) statements.old
-        statements.new faults.old.items faults.new.items) }
+        (map head_of heads.now) (names_of known.now) file begun.old None declarations.now)
+        statements.old statements.new faults.old.items faults.new.items) }
 {
     let mut space = None;
     'declarations: for declaration in declarations {
@@ -79,12 +82,14 @@ fn state_file(
             alloc,
             heads,
             space,
+            begun: *begun,
         };
         match state(&scope, known, declaration, statements) {
             Ok(()) => {}
             Err(stop) => or_return!(note(faults, file, stop)),
         }
         space = space_after(space, declaration);
+        *begun = or_return!(begun_after(*begun, declaration));
     }
     Ok(())
 }
@@ -107,17 +112,18 @@ pub(crate) fn statements(
 ) -> Result<Statements, AllocError>
     requires { length faults.old.items ≤ 20 }
     ensures said { IfOk result (λ s. faults.new.items ≡ [] → said_of s
-        ≡ after_files (map head_of heads.now) no_statements
+        ≡ after_files (map head_of heads.now) 0 no_statements
         (map (λ f. schema_of f.items) files.now)) }
     ensures four { IfOk result (λ s. faults.new.items ≡ [] → IsFour (said_of s).identifier) }
     ensures kept { OnOk result (faults.new.items ≡ [] → faults.old.items ≡ []) }
     ensures most { OnOk result (length faults.new.items ≤ 20) }
     ensures adds { OnOk result (Adds (file_faults (map head_of heads.now)
-        (known_attributes_lem files.now) 0 files.now) faults.old.items faults.new.items) }
+        (known_attributes_lem files.now) 0 0 files.now) faults.old.items faults.new.items) }
 {
     let known = or_return!(known_attributes(alloc, files));
     let mut statements = nothing_stated();
     let mut file = 0;
+    let mut begun = 0;
     'files: for declarations in files {
         statements = nothing_stated();
         or_return!(state_file(
@@ -125,6 +131,7 @@ pub(crate) fn statements(
             heads,
             &known,
             file,
+            &mut begun,
             declarations,
             &mut statements,
             faults,

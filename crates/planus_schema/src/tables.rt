@@ -24,7 +24,7 @@ use crate::attributes::{has, setting};
 use crate::defaults::default_of;
 use crate::fault::{Problem, Stop, or_return, wrong};
 use crate::kind::{head_base, type_of};
-use crate::lookup::found;
+use crate::lookup::{Wanted, found};
 use crate::names::{copied, take_name};
 use crate::scope::Scope;
 use crate::slots::{check_slots, field_slot, has_ids};
@@ -90,12 +90,13 @@ fn check_lawful(
 
 fn table_named(scope: &Scope, text: &[u8], left: usize) -> Result<usize, Stop>
     ensures named { IfOk result (λ i. base_found (scope_heads scope.now)
-        (found_lem (scope_heads scope.now) (scope_space scope.now) (text.now ∷ []))
+        (found_lem (scope_heads scope.now) Wanted.Record (scope_space scope.now)
+        (text.now ∷ []))
         ≡ Some (Base.Table i)) }
     ensures wrong { Tells (when (not (is_set (table_in (table_found (scope_heads scope.now)
         (scope_space scope.now) (Some text.now))))) Problem.NestedIsNoTable left) result }
 {
-    let index = or_return!(found(scope, text, &[]), Stop::OutOfMemory);
+    let index = or_return!(found(scope, Wanted::Record, text, &[]), Stop::OutOfMemory);
     match index {
         Some(index) => match head_base(scope.heads, index) {
             Some(Base::Table(table)) => Ok(table),

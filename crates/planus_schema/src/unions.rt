@@ -8,7 +8,7 @@ ghost use Rattle.planus_layout.specs.Distinct.{is_in};
 ghost use Rattle.planus_schema.specs.inner.Read.{names_of_members};
 ghost use Rattle.planus_schema.specs.inner.Read.{IsMemberRead, IsUnionRead};
 ghost use Rattle.planus_schema.specs.inner.Scopes.{scope_heads, scope_space};
-ghost use Rattle.planus_schema.specs.Unions.{tag_of as tag_of_lem, target_of as target_of_lem};
+ghost use Rattle.planus_schema.specs.Unions.{tag_of as tag_of_lem, target_of as target_of_lem, wanted_of as wanted_of_lem};
 ghost use Rattle.planus_schema.specs.Unions.{SaysMember, tag_in};
 ghost use Rattle.planus_schema.specs.Unions.{is_tag, tag_said};
 ghost use Rattle.planus_schema.specs.Wrong.{Tells, wrong_table};
@@ -17,6 +17,7 @@ ghost use Rattle.planus_schema.specs.WrongUnions.{target_path, wrong_member, wro
 use crate::fault::{Problem, Stop, or_return, wrong};
 use crate::head::dotted_name;
 use crate::kind::table_at;
+use crate::lookup::Wanted;
 use crate::names::copied;
 use crate::scope::Scope;
 use planus_layout::{Union, UnionMember, integer};
@@ -29,6 +30,15 @@ fn target_of(member: &Member) -> &Path
     match &member.target {
         Some(path) => path,
         None => &member.path,
+    }
+}
+
+fn wanted_of(member: &Member) -> Wanted
+    ensures { result ≡ wanted_of_lem (member_of member.now) }
+{
+    match &member.target {
+        Some(_) => Wanted::AnyType,
+        None => Wanted::Record,
     }
 }
 
@@ -52,10 +62,11 @@ fn member(scope: &Scope, declared: &Member, tag: u8) -> Result<UnionMember, Stop
     ensures read { IfOk result (λ m. SaysMember (scope_heads scope.now) (scope_space scope.now)
         (member_of declared.now) m × m.tag ≡ tag) }
     ensures wrong { Tells (wrong_table Problem.MemberIsNoTable (scope_heads scope.now)
-        (scope_space scope.now) (target_path declared.now)) result }
+        (wanted_of_lem (member_of declared.now)) (scope_space scope.now)
+        (target_path declared.now)) result }
 {
     let path = target_of(declared);
-    let table = or_return!(table_at(scope, path, Problem::MemberIsNoTable));
+    let table = or_return!(table_at(scope, wanted_of(declared), path, Problem::MemberIsNoTable));
     let name = or_return!(
         dotted_name(
             scope.alloc,

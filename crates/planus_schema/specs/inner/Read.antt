@@ -26,7 +26,7 @@ use Rattle.planus_schema.specs.declared.fault.Fault.{Fault}
 use Rattle.planus_schema.specs.declared.fault.Refusal.{Refusal}
 use Rattle.planus_schema.specs.declared.fault.Refusal.TheVariants as refusal
 use Rattle.planus_schema.specs.Faults.{Adds, AreInOrder, sound_measure}
-use Rattle.planus_schema.specs.Names.{HeadV}
+use Rattle.planus_schema.specs.Names.{HeadV, SpaceV}
 use Rattle.planus_schema.specs.Schemas.{AreFaults, IsBody, IsFour, SaysBody, StatementsV, said_of}
 use Rattle.planus_schema.specs.Structs.{SaysStruct, SaysStructField}
 use Rattle.planus_schema.specs.Unions.{IsUnion, SaysMember, is_tag, tag_in, tag_of, tags_from}
@@ -37,7 +37,7 @@ use Rattle.planus_schema.specs.WrongStructs.{struct_measure}
 use Rattle.planus_schema.specs.WrongTables.{are_among, field_slot, field_type, slots_from}
 
 -- a field of a table after the slots below `next`
-pub record IsFieldRead (hs : List HeadV) (space : List Name) (ids : Bool) (next : ℕ) (d : Field)
+pub record IsFieldRead (hs : List HeadV) (space : SpaceV) (ids : Bool) (next : ℕ) (d : Field)
     (f : TableField) : Type 0 where
   pub says : SaysField hs space ids (field_of d) f
   pub order : ids ≡ false → f.slot + 1 ≡ next + width f.kind
@@ -45,7 +45,7 @@ pub record IsFieldRead (hs : List HeadV) (space : List Name) (ids : Bool) (next 
   pub kind : f.kind ≡ field_type hs space d
   pub slot : f.slot ≡ field_slot f.kind ids next d
 
-pub record AreFieldsRead (hs : List HeadV) (space : List Name) (ids : Bool) (ds : List Field)
+pub record AreFieldsRead (hs : List HeadV) (space : SpaceV) (ids : Bool) (ds : List Field)
     (fs : List TableField) : Type 0 where
   pub says : Each2 (SaysField hs space ids) (map field_of ds) fs
   pub order : ids ≡ false → (end : ℕ) × Follow 0 fs end
@@ -54,7 +54,7 @@ pub record AreFieldsRead (hs : List HeadV) (space : List Name) (ids : Bool) (ds 
   pub slots : slots_taken fs ≡ slots_from hs space ids 0 ds
 
 -- a field of a struct after `at` bytes
-pub record IsStructFieldRead (hs : List HeadV) (space : List Name) (bodies : List Declared) (at : ℕ)
+pub record IsStructFieldRead (hs : List HeadV) (space : SpaceV) (bodies : List Declared) (at : ℕ)
     (d : Field) (f : StructField) : Type 0 where
   pub says : SaysStructField hs space (map body_in bodies) (field_of d) f
   pub placed : IsNext f.alignment at f.distance
@@ -62,7 +62,7 @@ pub record IsStructFieldRead (hs : List HeadV) (space : List Name) (bodies : Lis
   pub next : f.distance + f.size ≡ end_of at (field_measure hs space (measures_of bodies) d)
   pub alignment : f.alignment ≡ alignment_in (field_measure hs space (measures_of bodies) d)
 
-pub record IsLayoutRead (hs : List HeadV) (space : List Name) (bodies : List Declared)
+pub record IsLayoutRead (hs : List HeadV) (space : SpaceV) (bodies : List Declared)
     (ds : List Field) (l : Layout) : Type 0 where
   pub says : Each2 (SaysStructField hs space (map body_in bodies)) (map field_of ds) l.fields.items
   pub laid : Laid 0 l.fields.items l.end
@@ -73,7 +73,7 @@ pub record IsLayoutRead (hs : List HeadV) (space : List Name) (bodies : List Dec
   pub alignment : l.alignment ≡ greatest_after hs space (measures_of bodies) 1 ds
 
 -- a member after the tag `previous`, and after these
-pub record IsMemberRead (hs : List HeadV) (space : List Name) (previous : ℕ)
+pub record IsMemberRead (hs : List HeadV) (space : SpaceV) (previous : ℕ)
     (members : List UnionMember) (d : Member) (m : UnionMember) : Type 0 where
   pub says : SaysMember hs space (member_of d) m
   pub tag : m.tag ≡ tag_of previous (member_of d).value
@@ -84,7 +84,7 @@ pub record IsMemberRead (hs : List HeadV) (space : List Name) (previous : ℕ)
 abbrev pub names_of_members : List UnionMember → List Name
 names_of_members members = codes "NONE" ∷ map (λ m. m.name.items) members
 
-pub record IsUnionRead (hs : List HeadV) (space : List Name) (ds : List Member) (u : Union)
+pub record IsUnionRead (hs : List HeadV) (space : SpaceV) (ds : List Member) (u : Union)
     : Type 0 where
   pub says : Each2 (SaysMember hs space) (map member_of ds) u.members.items
   pub tags : map tag_in u.members.items ≡ tags_from 0 (map member_of ds)
@@ -106,14 +106,14 @@ pub record IsMeasureRead (bodies : List Declared) (b : Base) (m : Measure) : Typ
   pub small : m.alignment ≤ 32
   pub fits : m.size ≤ 65535
 
-pub record IsStructRead (hs : List HeadV) (space : List Name) (bodies : List Declared) (r : Record)
+pub record IsStructRead (hs : List HeadV) (space : SpaceV) (bodies : List Declared) (r : Record)
     (s : Struct) : Type 0 where
   pub says : SaysStruct hs space (map body_in bodies) (record_of r) s
   pub sound : IsStruct s
   pub measure : record { size = s.size; alignment = s.alignment }
       ≡ struct_measure hs space (measures_of bodies) r
 
-pub record IsBodyRead (hs : List HeadV) (space : List Name) (bodies : List Declared) (i : Item)
+pub record IsBodyRead (hs : List HeadV) (space : SpaceV) (bodies : List Declared) (i : Item)
     (b : Body) : Type 0 where
   pub says : SaysBody hs space (map body_in bodies) (item_of i) b
   pub sound : IsBody b

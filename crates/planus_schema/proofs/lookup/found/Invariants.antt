@@ -1,17 +1,14 @@
-use Rattle.std.proofs.Common.{◌≡◌, ◌∷◌, ◌≤◌, length}
+use Rattle.std.proofs.Common.{◌≡◌, ◌∷◌, length}
 use Rattle.planus_syntax.specs.Values.{names_of}
-use Rattle.planus_schema.specs.Names.{found_from, found}
+use Rattle.planus_schema.specs.Names.{first_found, found}
 use Rattle.planus_schema.specs.inner.Scopes.{scope_heads, scope_space}
 use Rattle.planus_schema.proofs.lookup.found.Given as goal
 
-abbrev pub invariant-spaces : goal.invariant-spaces
-invariant-spaces l = record {
-  within : l.count ≤ length (scope_space l.scope);
-  rest : found_from (scope_heads l.scope) (scope_space l.scope)
-      (l.first ∷ names_of l.more) l.count
-      ≡ found (scope_heads l.scope) (scope_space l.scope)
-      (l.first ∷ names_of l.more);
-}
+abbrev pub invariant-order : goal.invariant-order
+invariant-order l =
+    first_found (scope_heads l.scope) l.rest l.wanted (scope_space l.scope)
+    (l.first ∷ names_of l.more)
+    ≡ found (scope_heads l.scope) l.wanted (scope_space l.scope) (l.first ∷ names_of l.more)
 
-abbrev pub decreases-spaces : goal.decreases-spaces
-decreases-spaces l = l.count
+abbrev pub decreases-order : goal.decreases-order
+decreases-order l = length l.rest

@@ -34,6 +34,6 @@ returns-clause-means c =
     record {
       declared = subst (λ hs. AreDeclared hs hs c.in-Ok-declarations.value.items) c.requires.heads (c.in-Ok-declarations.ensures.says before);
       names = subst (λ hs. AreDistinct (map (λ (x : HeadV). x.name) hs)) c.requires.heads (c.in-Ok.ensures.distinct (c.in-Ok-declarations.ensures.kept before));
-      statements = c.in-Ok-statements.ensures.said none ∙ ap (λ hs. after_files hs no_statements (map (λ (f : Vec Declaration). schema_of f.items) c.args.files.now)) c.requires.heads;
+      statements = c.in-Ok-statements.ensures.said none ∙ ap (λ hs. after_files hs 0 no_statements (map (λ (f : Vec Declaration). schema_of f.items) c.args.files.now)) c.requires.heads;
       four = c.in-Ok-statements.ensures.four none;
     }

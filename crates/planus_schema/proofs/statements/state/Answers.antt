@@ -1,18 +1,18 @@
 use Rattle.std.proofs.Common.{◌≡◌, ℕ, List, refl, sym, ◌∙◌}
-use Rattle.std.specs.Prelude.{Option, None}
+use Rattle.std.specs.Prelude.{None}
 use Rattle.std.specs.Global.{Vec}
-use Rattle.planus_syntax.specs.Values.{Name, PathV, item_of}
+use Rattle.planus_syntax.specs.Values.{item_of}
 use Rattle.planus_syntax.specs.declared.value.Path.{Path}
 use Rattle.planus_syntax.specs.declared.value.Item.{Item}
 use Rattle.planus_syntax.specs.declared.value.Item.TheVariants as item
-use Rattle.planus_schema.specs.Names.{HeadV, path_in}
+use Rattle.planus_schema.specs.Names.{HeadV, SpaceV}
 use Rattle.planus_schema.specs.inner.Scopes.{scope_heads, scope_space}
 use Rattle.planus_schema.specs.Schemas.{StatementsV, said_of, after}
 use Rattle.planus_schema.specs.Faults.{wrong_statement}
 use Rattle.planus_schema.proofs.FaultLemmas.{skip, stops_first, stops_next}
 use Rattle.planus_schema.proofs.statements.state.Goals as goal
 
-nothing_said : (hs : List HeadV) (space : Option PathV) (x : StatementsV) (i : Item) → ((p : Path) → i ≡ item.RootType p → ⊥) → ((w : Vec ℕ) → i ≡ item.FileIdentifier w → ⊥) → ((w : Vec ℕ) → i ≡ item.FileExtension w → ⊥) → after hs space x (item_of i) ≡ x
+nothing_said : (hs : List HeadV) (space : SpaceV) (x : StatementsV) (i : Item) → ((p : Path) → i ≡ item.RootType p → ⊥) → ((w : Vec ℕ) → i ≡ item.FileIdentifier w → ⊥) → ((w : Vec ℕ) → i ≡ item.FileExtension w → ⊥) → after hs space x (item_of i) ≡ x
 nothing_said hs space x (item.Include w) a b c = refl
 nothing_said hs space x (item.Namespace p) a b c = refl
 nothing_said hs space x (item.Attribute l) a b c = refl
@@ -25,7 +25,7 @@ nothing_said hs space x (item.RootType p) a b c = absurd (a p refl)
 nothing_said hs space x (item.FileIdentifier w) a b c = absurd (b w refl)
 nothing_said hs space x (item.FileExtension w) a b c = absurd (c w refl)
 
-nothing_wrong : (hs : List HeadV) (space : List Name) (x : ℕ) (i : Item) → ((p : Path) → i ≡ item.RootType p → ⊥) → ((w : Vec ℕ) → i ≡ item.FileIdentifier w → ⊥) → ((w : Vec ℕ) → i ≡ item.FileExtension w → ⊥) → wrong_statement hs space x i ≡ None
+nothing_wrong : (hs : List HeadV) (space : SpaceV) (x : ℕ) (i : Item) → ((p : Path) → i ≡ item.RootType p → ⊥) → ((w : Vec ℕ) → i ≡ item.FileIdentifier w → ⊥) → ((w : Vec ℕ) → i ≡ item.FileExtension w → ⊥) → wrong_statement hs space x i ≡ None
 nothing_wrong hs space x (item.Include w) a b c = refl
 nothing_wrong hs space x (item.Namespace p) a b c = refl
 nothing_wrong hs space x (item.Attribute l) a b c = refl
@@ -50,7 +50,7 @@ returns-in-Ok-table_at-clause-wrong c = skip _ _ c.in-Ok.ensures ∙ (rw c.in-Ro
 
 pub returns-in_default-clause-said : goal.returns-in_default-clause-said
 returns-in_default-clause-said c = (
-  sym (nothing_said (scope_heads c.args.scope.now) (path_in c.args.scope.now.space) (said_of c.args.statements.now) c.args.declaration.now.item c.in_default.not-RootType c.in_default.not-FileIdentifier c.in_default.not-FileExtension),
+  sym (nothing_said (scope_heads c.args.scope.now) (scope_space c.args.scope.now) (said_of c.args.statements.now) c.args.declaration.now.item c.in_default.not-RootType c.in_default.not-FileIdentifier c.in_default.not-FileExtension),
   λ four. four,
 )
 

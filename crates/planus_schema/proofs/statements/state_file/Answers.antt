@@ -1,10 +1,10 @@
-use Rattle.std.proofs.Common.{subst, ◌+◌, ◌++◌, map, drop, ap, sym, ◌∙◌}
+use Rattle.std.proofs.Common.{◌≡◌, subst, ◌+◌, ◌++◌, map, drop, ap, sym, ◌∙◌}
 use Rattle.std.proofs.lemmas.List.{drop_all}
 use Rattle.planus_syntax.specs.Values.{names_of, item_of, schema_of}
 use Rattle.std.specs.Global.{Vec}
 use Rattle.planus_schema.specs.declared.fault.Fault.{Fault}
 use Rattle.planus_schema.specs.inner.Read.{AreStated}
-use Rattle.planus_schema.specs.Names.{head_of, path_in, space_after, words_in}
+use Rattle.planus_schema.specs.Names.{head_of, path_in, space_after, words_in, space_at, begun_after, begun_in}
 use Rattle.planus_schema.specs.Schemas.{said_of, after, after_file}
 use Rattle.planus_schema.specs.Faults.{first_twenty, statement_faults, fault_in, wrong_said}
 use Rattle.planus_schema.proofs.StructLemmas.{drop_next}
@@ -22,8 +22,10 @@ declarations-preserved c =
     let r = drop_next c.args.declarations.now c.declarations.declaration-index c.declaration-item.result c.declarations-test.true c.declaration-item.is in
     let old = c.declarations.faults.items in
     let d = c.declaration-item.result in
-    let found = fault_in c.args.file (wrong_said hs (words_in (path_in c.declarations.space)) known d) in
-    let said = after hs (path_in c.declarations.space) (said_of c.declarations.statements) (item_of d.item) in
+    let b = c.declarations.begun in
+    let here = space_at (words_in (path_in c.declarations.space)) b in
+    let found = fault_in c.args.file (wrong_said hs here known d) in
+    let said = after hs here (said_of c.declarations.statements) (item_of d.item) in
     let a : AreStated said found c.declarations.statements c.state.new.statements old c.match-state.faults.items =
     elim c.match-state.branch [
       | in-Err+in-Ok-note w ↦
@@ -49,20 +51,30 @@ declarations-preserved c =
             };
           })
     ] in
+    let more : c.in-Ok-begun_after.value ≡ begun_after b (item_of d.item) = c.in-Ok-begun_after.ensures in
     record {
-      said = λ e. ap (λ sp. after_file hs sp (said_of c.state.new.statements) (schema_of (drop (n + 1) ds))) c.space_after-space.ensures
-          ∙ ap (λ s. after_file hs (space_after (path_in c.declarations.space) (item_of c.declaration-item.result.item)) s (schema_of (drop (n + 1) ds))) (a.said_now e)
-          ∙ ap (λ ds'. after_file hs (path_in c.declarations.space) (said_of c.declarations.statements) (schema_of ds')) (sym r) ∙ i.said (a.noted.kept e);
+      begun = ap (λ m. begun_in m (schema_of (drop (n + 1) ds))) more
+          ∙ ap (λ ds'. begun_in b (schema_of ds')) (sym r) ∙ i.begun;
+      said = λ e. ap (λ m. after_file hs m (path_in c.space_after-space.result) (said_of c.state.new.statements) (schema_of (drop (n + 1) ds))) more
+          ∙ ap (λ sp. after_file hs (begun_after b (item_of d.item)) sp (said_of c.state.new.statements) (schema_of (drop (n + 1) ds))) c.space_after-space.ensures
+          ∙ ap (λ s. after_file hs (begun_after b (item_of d.item)) (space_after (path_in c.declarations.space) (item_of c.declaration-item.result.item)) s (schema_of (drop (n + 1) ds))) (a.said_now e)
+          ∙ ap (λ ds'. after_file hs b (path_in c.declarations.space) (said_of c.declarations.statements) (schema_of ds')) (sym r) ∙ i.said (a.noted.kept e);
       four = λ e f. a.four e (i.four (a.noted.kept e) f);
       kept = λ e. i.kept (a.noted.kept e);
       most = a.noted.most;
-      adds = ap (λ sp. first_twenty (c.match-state.faults.items ++ statement_faults hs known c.args.file sp (drop (n + 1) ds))) c.space_after-space.ensures
+      adds = ap (λ m. first_twenty (c.match-state.faults.items ++ statement_faults hs known c.args.file m (path_in c.space_after-space.result) (drop (n + 1) ds))) more
+          ∙ ap (λ sp. first_twenty (c.match-state.faults.items ++ statement_faults hs known c.args.file (begun_after b (item_of d.item)) sp (drop (n + 1) ds))) c.space_after-space.ensures
           ∙ adds_next c.declarations.faults.items _ c.match-state.faults.items _ _ a.noted.adds
-          (ap (λ ds'. first_twenty (c.declarations.faults.items ++ statement_faults hs known c.args.file (path_in c.declarations.space) ds')) (sym r) ∙ c.declarations.invariant.adds);
+          (ap (λ ds'. first_twenty (c.declarations.faults.items ++ statement_faults hs known c.args.file b (path_in c.declarations.space) ds')) (sym r) ∙ c.declarations.invariant.adds);
     }
 
-pub returns : goal.returns
-returns c =
+pub returns-clause-begun : goal.returns-clause-begun
+returns-clause-begun c =
+    let d = drop_all c.declarations.declaration-index c.args.declarations.now c.declarations-test.false in
+    rw d at c.declarations.invariant.begun
+
+pub returns-clause-stated : goal.returns-clause-stated
+returns-clause-stated c =
     let i = c.declarations.invariant in
     let d = drop_all c.declarations.declaration-index c.args.declarations.now c.declarations-test.false in
     record {
@@ -72,6 +84,6 @@ returns c =
         kept = i.kept;
         most = i.most;
         adds = adds_none c.declarations.faults.items i.most
-            ∙ ap (λ ds. first_twenty (c.declarations.faults.items ++ statement_faults (map head_of c.args.heads.now) (names_of c.args.known.now) c.args.file (path_in c.declarations.space) ds)) (sym d) ∙ i.adds;
+            ∙ ap (λ ds. first_twenty (c.declarations.faults.items ++ statement_faults (map head_of c.args.heads.now) (names_of c.args.known.now) c.args.file c.declarations.begun (path_in c.declarations.space) ds)) (sym d) ∙ i.adds;
       };
     }

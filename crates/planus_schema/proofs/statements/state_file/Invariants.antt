@@ -2,21 +2,23 @@ use Rattle.std.proofs.Common.{◌≡◌, ◌≤◌, ◌++◌, [], length, map, d
 use Rattle.std.specs.Prelude.{None}
 use Rattle.planus_syntax.specs.Values.{schema_of, names_of}
 use Rattle.planus_schema.specs.Faults.{first_twenty, statement_faults}
-use Rattle.planus_schema.specs.Names.{head_of, path_in}
+use Rattle.planus_schema.specs.Names.{head_of, path_in, begun_in}
 use Rattle.planus_schema.specs.Schemas.{said_of, after_file, IsFour}
 use Rattle.planus_schema.proofs.statements.state_file.Given as goal
 
 abbrev pub invariant-declarations : goal.invariant-declarations
 invariant-declarations l = record {
-  said : l.faults.items ≡ [] → after_file (map head_of l.heads) (path_in l.space) (said_of l.statements)
+  begun : begun_in l.begun (schema_of (drop l.declaration-index l.declarations))
+      ≡ begun_in l.fn.begun (schema_of l.declarations);
+  said : l.faults.items ≡ [] → after_file (map head_of l.heads) l.begun (path_in l.space) (said_of l.statements)
       (schema_of (drop l.declaration-index l.declarations))
-      ≡ after_file (map head_of l.heads) None (said_of l.fn.statements) (schema_of l.declarations);
+      ≡ after_file (map head_of l.heads) l.fn.begun None (said_of l.fn.statements) (schema_of l.declarations);
   four : l.faults.items ≡ [] → IsFour (said_of l.fn.statements).identifier
       → IsFour (said_of l.statements).identifier;
   kept : l.faults.items ≡ [] → l.fn.faults.items ≡ [];
   most : length l.faults.items ≤ 20;
   adds : first_twenty (l.faults.items ++ statement_faults (map head_of l.heads) (names_of l.known)
-      l.file (path_in l.space) (drop l.declaration-index l.declarations))
+      l.file l.begun (path_in l.space) (drop l.declaration-index l.declarations))
       ≡ first_twenty (l.fn.faults.items ++ statement_faults (map head_of l.heads) (names_of l.known)
-      l.file None l.declarations);
+      l.file l.fn.begun None l.declarations);
 }

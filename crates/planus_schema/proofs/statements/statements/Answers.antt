@@ -1,11 +1,11 @@
-use Rattle.std.proofs.Common.{◌+◌, ◌++◌, map, drop, ap, subst, sym, ◌∙◌, arith}
+use Rattle.std.proofs.Common.{◌≡◌, ◌+◌, ◌++◌, map, drop, ap, subst, sym, ◌∙◌, arith}
 use Rattle.std.proofs.lemmas.List.{drop_all}
 use Rattle.std.specs.Prelude.{None}
 use Rattle.std.specs.Global.{Vec}
 use Rattle.planus_syntax.specs.Values.{names_of, schema_of}
 use Rattle.planus_syntax.specs.declared.value.Declaration.{Declaration}
 use Rattle.planus_schema.specs.Schemas.{StatementsV, said_of, after_file, after_files, no_statements, IsFour}
-use Rattle.planus_schema.specs.Names.{head_of}
+use Rattle.planus_schema.specs.Names.{head_of, begun_in}
 use Rattle.planus_schema.specs.WrongServices.{known_attributes}
 use Rattle.planus_schema.specs.Faults.{Adds, first_twenty, statement_faults, file_faults}
 use Rattle.planus_schema.proofs.StructLemmas.{drop_next}
@@ -21,20 +21,25 @@ files-preserved c =
     let old = c.files.faults.items in
     let new = c.state_file.new.faults.items in
     let file = c.files.file in
+    let b = c.files.begun in
     let d = c.declarations-item.result in
-    let a = subst (λ cs. Adds (statement_faults hs cs file None d.items) old new) (ap names_of c.deref.ensures.value ∙ c.files.invariant.known)
-    (subst (λ ds. Adds (statement_faults hs (names_of c.deref.result.now) file None ds) old new) c.deref-in-files.ensures.value c.in-Ok-state_file.ensures.noted.adds) in
+    let a = subst (λ cs. Adds (statement_faults hs cs file b None d.items) old new) (ap names_of c.deref.ensures.value ∙ c.files.invariant.known)
+    (subst (λ ds. Adds (statement_faults hs (names_of c.deref.result.now) file b None ds) old new) c.deref-in-files.ensures.value c.in-Ok-state_file.ensures.stated.noted.adds) in
+    let more : c.state_file.new.begun ≡ begun_in b (schema_of d.items) =
+    c.in-Ok-state_file.ensures.begun ∙ ap (λ ds. begun_in b (schema_of ds)) c.deref-in-files.ensures.value in
     record {
       index = ap (λ n. n + 1) i.index;
-      said = λ e. ap (λ s. after_files hs s (map (λ (f : Vec Declaration). schema_of f.items) (drop (c.files.declarations-index + 1) c.args.files.now)))
-          (c.in-Ok-state_file.ensures.said_now e ∙ ap (λ s. after_file hs None s (schema_of c.deref-in-files.result.now)) none
-          ∙ ap (λ ds. after_file hs None no_statements (schema_of ds)) c.deref-in-files.ensures.value)
-          ∙ ap (λ fs. after_files hs (said_of c.files.statements) (map (λ (f : Vec Declaration). schema_of f.items) fs)) (sym r) ∙ i.said (c.in-Ok-state_file.ensures.noted.kept e);
-      four = λ e. c.in-Ok-state_file.ensures.four e (subst (λ (s : StatementsV). IsFour s.identifier) (sym none) tt);
-      kept = λ e. i.kept (c.in-Ok-state_file.ensures.noted.kept e);
-      most = c.in-Ok-state_file.ensures.noted.most;
-      adds = adds_next old (statement_faults hs (known_attributes c.args.files.now) file None d.items) new _ _ a
-          (ap (λ fs. first_twenty (old ++ file_faults hs (known_attributes c.args.files.now) file fs)) (sym r) ∙ c.files.invariant.adds);
+      said = λ e. ap (λ m. after_files hs m (said_of c.state_file.new.statements) (map (λ (f : Vec Declaration). schema_of f.items) (drop (c.files.declarations-index + 1) c.args.files.now))) more
+          ∙ ap (λ s. after_files hs (begun_in b (schema_of d.items)) s (map (λ (f : Vec Declaration). schema_of f.items) (drop (c.files.declarations-index + 1) c.args.files.now)))
+          (c.in-Ok-state_file.ensures.stated.said_now e ∙ ap (λ s. after_file hs b None s (schema_of c.deref-in-files.result.now)) none
+          ∙ ap (λ ds. after_file hs b None no_statements (schema_of ds)) c.deref-in-files.ensures.value)
+          ∙ ap (λ fs. after_files hs b (said_of c.files.statements) (map (λ (f : Vec Declaration). schema_of f.items) fs)) (sym r) ∙ i.said (c.in-Ok-state_file.ensures.stated.noted.kept e);
+      four = λ e. c.in-Ok-state_file.ensures.stated.four e (subst (λ (s : StatementsV). IsFour s.identifier) (sym none) tt);
+      kept = λ e. i.kept (c.in-Ok-state_file.ensures.stated.noted.kept e);
+      most = c.in-Ok-state_file.ensures.stated.noted.most;
+      adds = ap (λ m. first_twenty (new ++ file_faults hs (known_attributes c.args.files.now) (file + 1) m (drop (c.files.declarations-index + 1) c.args.files.now))) more
+          ∙ adds_next old (statement_faults hs (known_attributes c.args.files.now) file b None d.items) new _ _ a
+          (ap (λ fs. first_twenty (old ++ file_faults hs (known_attributes c.args.files.now) file b fs)) (sym r) ∙ c.files.invariant.adds);
       known = c.files.invariant.known;
     }
 
@@ -46,7 +51,7 @@ returns-clause-adds c =
     let i = c.files.invariant in
     let d = drop_all c.files.declarations-index c.args.files.now c.files-test.false in
     adds_none c.files.faults.items i.most
-    ∙ ap (λ fs. first_twenty (c.files.faults.items ++ file_faults (map head_of c.args.heads.now) (known_attributes c.args.files.now) c.files.file fs)) (sym d) ∙ i.adds
+    ∙ ap (λ fs. first_twenty (c.files.faults.items ++ file_faults (map head_of c.args.heads.now) (known_attributes c.args.files.now) c.files.file c.files.begun fs)) (sym d) ∙ i.adds
 
 pub returns-clause-said : goal.returns-clause-said
 returns-clause-said c =
