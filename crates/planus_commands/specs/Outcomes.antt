@@ -1,7 +1,6 @@
 -- What becomes of the text of a schema.
 use Rattle.std.specs.Prelude.{◌≡◌, ℕ, Bool, true, false, not, List, [], ◌∷◌, ◌++◌, codes, count_by}
-use Rattle.std.specs.Prelude.{Option, ◌⊎◌, ◌-◌, length, Ok}
-use Rattle.std.specs.Str.{IsUtf8, IsValidUpTo}
+use Rattle.std.specs.Prelude.{Option, ◌-◌, length, Ok}
 use Rattle.std.specs.Io.KnownBytes.{Appends, Keeps}
 use Rattle.planus_syntax.specs.declared.text.SchemaError.{SchemaError}
 use Rattle.planus_syntax.specs.declared.text.SchemaError.TheVariants as errors
@@ -33,27 +32,20 @@ ReportsError name text (errors.Token fault at) report =
 ReportsError name text (errors.Declaration fault index at) report =
     report ≡ report_text name text at (parse_message fault)
 
--- the text isn't UTF-8 from this byte on
-abbrev pub ReportsBytes : List ℕ → List ℕ → List ℕ → Type 0
-ReportsBytes name text report = (at : ℕ) × IsValidUpTo text at
-    × (report ≡ report_text name text at (codes "the text is not UTF-8"))
-
 -- the report of the text's first fault
 abbrev pub Reports : List ℕ → List ℕ → List ℕ → Type 0
 Reports name text report =
-    ((¬ (IsUtf8 text)) × ReportsBytes name text report)
-    ⊎ (IsUtf8 text × ((error : SchemaError) × IsFaultOf text error
-    × ReportsError name text error report))
+    (error : SchemaError) × IsFaultOf text error × ReportsError name text error report
 
--- The first spells a schema, in UTF-8, whose canonical text is the second.
+-- The first spells a schema, whose canonical text is the second.
 abbrev pub Formats : List ℕ → List ℕ → Type 0
 Formats text out =
-    IsUtf8 text × ((schema : List DeclarationV) × Spells text schema × (out ≡ text_of schema))
+    (schema : List DeclarationV) × Spells text schema × (out ≡ text_of schema)
 
 -- the text's declarations, or the report of its first fault
 abbrev pub IsParsed : List ℕ → List ℕ → Parsed → Type 0
 IsParsed name text (parsed.Declarations ds) =
-    IsUtf8 text × Spells text (schema_of ds.items) × AreWhole (schema_of ds.items)
+    Spells text (schema_of ds.items) × AreWhole (schema_of ds.items)
 IsParsed name text (parsed.Faulty report) = Reports name text report.items
 
 -- the byte of the word from which `left` tokens follow to the text's end

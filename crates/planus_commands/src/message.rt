@@ -15,6 +15,8 @@ pub fn lex_message(fault: LexFault) -> &'static str
         LexFault::BadNumber => "the number that ends here is malformed",
         LexFault::OpenString => "the string has no end on its line",
         LexFault::Escape => "a backslash in a string is not supported",
+        LexFault::Control => "a control character, as a tab, is in the string",
+        LexFault::NotUtf8 => "the string that ends here is not UTF-8",
         LexFault::OpenComment => "the comment has no end",
         LexFault::Strange => "unexpected character",
     }

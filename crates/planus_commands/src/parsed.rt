@@ -3,7 +3,6 @@
 ghost use Rattle.std.specs.Prelude.{IfOk};
 ghost use Rattle.planus_commands.specs.Outcomes.{IsParsed};
 
-use crate::report::report;
 use crate::texts::error_report;
 use planus_syntax::{Declaration, parse_text};
 use std::alloc::{AllocError, Global};
@@ -20,15 +19,8 @@ pub enum Parsed {
 pub fn parse_or_report(alloc: Global, name: &str, text: &[u8]) -> Result<Parsed, AllocError>
     ensures { IfOk result (λ parsed. IsParsed name.now text.now parsed) }
 {
-    match std::str::from_utf8(text) {
-        Err(error) => {
-            let message = b"the text is not UTF-8";
-            let out = report(alloc, name, text, error.valid_up_to(), message)?;
-            Ok(Parsed::Faulty(out))
-        }
-        Ok(_) => match parse_text(alloc, text) {
-            Ok(declarations) => Ok(Parsed::Declarations(declarations)),
-            Err(error) => Ok(Parsed::Faulty(error_report(alloc, name, text, error)?)),
-        },
+    match parse_text(alloc, text) {
+        Ok(declarations) => Ok(Parsed::Declarations(declarations)),
+        Err(error) => Ok(Parsed::Faulty(error_report(alloc, name, text, error)?)),
     }
 }

@@ -1,7 +1,6 @@
 //! What becomes of a text, and what is written of it.
 
 ghost use Rattle.std.specs.Prelude.{◌≡◌, count_by, List, IfOk, IfErr, length, Result, Ok, Err};
-ghost use Rattle.std.specs.Str.{IsUtf8};
 ghost use Rattle.std.specs.Io.KnownBytes.{Appends, Keeps};
 ghost use Rattle.planus_syntax.specs.Values.{AreWhole, DeclarationV};
 ghost use Rattle.planus_syntax.specs.Parsed.{LiesIn, Spells};
@@ -48,19 +47,12 @@ pub(crate) fn error_report(
 pub fn outcome_of(alloc: Global, name: &str, text: &[u8]) -> Result<Outcome, AllocError>
     ensures outcome { IfOk result (λ outcome. IsOutcome name.now text.now outcome) }
     // A text that spells a schema is formatted.
-    ensures only { (schema : List DeclarationV) → AreWhole schema → IsUtf8 text.now
-        → Spells text.now schema → IfOk result (λ outcome. IsTextOf schema outcome) }
+    ensures only { (schema : List DeclarationV) → AreWhole schema → Spells text.now schema
+        → IfOk result (λ outcome. IsTextOf schema outcome) }
 {
-    match std::str::from_utf8(text) {
-        Err(error) => {
-            let message = b"the text is not UTF-8";
-            let out = report(alloc, name, text, error.valid_up_to(), message)?;
-            Ok(Outcome::Faulty(out))
-        }
-        Ok(_) => match format_text(alloc, text) {
-            Ok(out) => Ok(Outcome::Formatted(out)),
-            Err(error) => Ok(Outcome::Faulty(error_report(alloc, name, text, error)?)),
-        },
+    match format_text(alloc, text) {
+        Ok(out) => Ok(Outcome::Formatted(out)),
+        Err(error) => Ok(Outcome::Faulty(error_report(alloc, name, text, error)?)),
     }
 }
 

@@ -5,7 +5,7 @@ use Rattle.std.specs.Option.{option_map}
 use Rattle.std.specs.List.{AllByRecursion}
 use Rattle.std.specs.Str.{bytes_eq}
 use Rattle.std.proofs.lemmas.Option.{slice_get_within}
-use Rattle.planus_syntax.specs.Values.{Name, PathV, KindV, single, vector, ItemV, include, namespace, attribute, table, struct, enumeration, union, service, root, identifier, extension, AttributeV, FieldV, MemberV, DeclarationV}
+use Rattle.planus_syntax.specs.Values.{Name, PathV, KindV, single, vector, ItemV, include, native_include, namespace, attribute, table, struct, enumeration, union, service, root, identifier, extension, AttributeV, FieldV, MemberV, DeclarationV}
 use Rattle.planus_layout.specs.declared.scalar.Scalar.{Scalar}
 use Rattle.planus_layout.specs.declared.schema.Base.{Base}
 use Rattle.planus_layout.specs.declared.schema.Base.TheVariants as base
@@ -42,6 +42,7 @@ base_of_body (Some (body.Union u)) i = Some (base.Union i)
 same_kind : (hs : List HeadV) (space : SpaceV) (before : List Body) (item : ItemV) (b : Body) (i : ℕ) → SaysBody hs space before item b → base_of_item item i ≡ base_of_body (Some b) i
 unfolding base_of_body
 same_kind hs space before (include w) b i h = absurd h
+same_kind hs space before (native_include w) b i h = absurd h
 same_kind hs space before (namespace p) b i h = absurd h
 same_kind hs space before (attribute l) b i h = absurd h
 same_kind hs space before (table r) (body.Table t) i h = refl
@@ -176,6 +177,7 @@ refers_before hs before rest space (d ∷ ds) (f ∷ fs) x =
 
 refers_said : (hs : List HeadV) (space : SpaceV) (before rest : List Body) (item : ItemV) (b : Body) → Matches hs (before ++ rest) → SaysBody hs space before item b → RefersBody (before ++ rest) (length before) b
 refers_said hs space before rest (include w) b m h = absurd h
+refers_said hs space before rest (native_include w) b m h = absurd h
 refers_said hs space before rest (namespace p) b m h = absurd h
 refers_said hs space before rest (attribute l) b m h = absurd h
 refers_said hs space before rest (table r) (body.Table t) m h = refers_fields hs (before ++ rest) space _ r.fields t.fields.items m h.fields
@@ -229,6 +231,7 @@ table_of (Some (base.Union j)) i e = absurd cc
 
 root_after : (hs : List HeadV) (bs : List Body) (space : SpaceV) (s : StatementsV) (item : ItemV) → Matches hs bs → RootIs bs s → RootIs bs (after hs space s item)
 root_after hs bs space s (include w) m h = h
+root_after hs bs space s (native_include w) m h = h
 root_after hs bs space s (namespace p) m h = h
 root_after hs bs space s (attribute l) m h = h
 root_after hs bs space s (table r) m h = h

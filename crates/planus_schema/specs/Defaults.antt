@@ -6,6 +6,7 @@ use Rattle.std.specs.List.{list_any}
 use Rattle.std.specs.Str.{bytes_eq}
 use Rattle.planus_syntax.specs.Values.{Name, PathV, LiteralV, numeral, named, quote, nothing}
 use Rattle.planus_syntax.specs.Values.{ItemV, include, namespace, attribute, table, struct}
+use Rattle.planus_syntax.specs.Values.{native_include}
 use Rattle.planus_syntax.specs.Values.{enumeration, union, service, root, identifier, extension}
 use Rattle.planus_syntax.specs.Values.{VariantV, EnumerationV}
 use Rattle.planus_layout.specs.declared.number.Number.{Number}
@@ -166,6 +167,7 @@ vector_default nothing = Some empty
 abbrev pub enum_at : Option ItemV → Option EnumerationV
 enum_at None = None
 enum_at (Some (include w)) = None
+enum_at (Some (native_include w)) = None
 enum_at (Some (namespace p)) = None
 enum_at (Some (attribute l)) = None
 enum_at (Some (table r)) = None

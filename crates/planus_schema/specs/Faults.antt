@@ -100,6 +100,7 @@ name_faults hs n (p ∷ ps) = name_fault hs n p ++ name_faults hs (n + 1) ps
 -- the fault of a declaration; `left` is the place of its name
 abbrev pub wrong_body : List HeadV → SpaceV → List (Option Measure) → ℕ → Item → Option Broken
 wrong_body hs space ms left (item.Include w) = broken problem.UnknownType left
+wrong_body hs space ms left (item.NativeInclude w) = broken problem.UnknownType left
 wrong_body hs space ms left (item.Namespace p) = broken problem.UnknownType left
 wrong_body hs space ms left (item.Attribute l) = broken problem.UnknownType left
 wrong_body hs space ms left (item.Table r) = wrong_table_body hs space r left
@@ -118,6 +119,7 @@ scalar_measure (Some s) = Some (record { size = scalar_size s; alignment = scala
 -- the size of a declaration without a fault; one with a fault counts as a byte
 abbrev pub sound_measure : List HeadV → SpaceV → List (Option Measure) → Item → Option Measure
 sound_measure hs space ms (item.Include w) = None
+sound_measure hs space ms (item.NativeInclude w) = None
 sound_measure hs space ms (item.Namespace p) = None
 sound_measure hs space ms (item.Attribute l) = None
 sound_measure hs space ms (item.Table r) = None
@@ -131,6 +133,7 @@ sound_measure hs space ms (item.FileExtension w) = None
 
 abbrev pub byte_measure : Item → Option Measure
 byte_measure (item.Include w) = None
+byte_measure (item.NativeInclude w) = None
 byte_measure (item.Namespace p) = None
 byte_measure (item.Attribute l) = None
 byte_measure (item.Table r) = None
@@ -166,6 +169,7 @@ body_faults hs ms (p ∷ ps) =
 
 abbrev pub wrong_statement : List HeadV → SpaceV → ℕ → Item → Option Broken
 wrong_statement hs space left (item.Include w) = None
+wrong_statement hs space left (item.NativeInclude w) = None
 wrong_statement hs space left (item.Namespace p) = None
 wrong_statement hs space left (item.Attribute l) = None
 wrong_statement hs space left (item.Table r) = None

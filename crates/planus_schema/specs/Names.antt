@@ -6,6 +6,7 @@ use denote.Ref.{Bor}
 use Rattle.std.specs.Str.{bytes_eq}
 use Rattle.planus_syntax.specs.Values.{Name, PathV, KindV, single, vector}
 use Rattle.planus_syntax.specs.Values.{AttributeV, ItemV, include, namespace, attribute, table}
+use Rattle.planus_syntax.specs.Values.{native_include}
 use Rattle.planus_syntax.specs.Values.{struct}
 use Rattle.planus_syntax.specs.Values.{enumeration, union, service, root, identifier, extension}
 use Rattle.planus_syntax.specs.Values.{DeclarationV, path_of, declaration_of}
@@ -46,6 +47,7 @@ pub record HeadV : Type 0 where
 -- only tables, structs, enums and unions can be types
 abbrev pub own_name : ItemV → Option Name
 own_name (include w) = None
+own_name (native_include w) = None
 own_name (namespace p) = None
 own_name (attribute l) = None
 own_name (table r) = Some r.name
@@ -135,6 +137,7 @@ space_at words n = record { words = words; begun = n }
 -- enums and unions; the other declarations with names are tables and structs
 abbrev pub is_choice_item : ItemV → Bool
 is_choice_item (include w) = false
+is_choice_item (native_include w) = false
 is_choice_item (namespace p) = false
 is_choice_item (attribute l) = false
 is_choice_item (table r) = false
@@ -214,6 +217,7 @@ found hs w space words = first_found hs (order_of w) w space words
 
 abbrev pub base_of_item : ItemV → ℕ → Option Base
 base_of_item (include w) i = None
+base_of_item (native_include w) i = None
 base_of_item (namespace p) i = None
 base_of_item (attribute l) i = None
 base_of_item (table r) i = Some (base.Table i)

@@ -3,6 +3,7 @@ use Rattle.std.specs.Prelude.{◌≡◌, ℕ, ◌+◌, ◌<◌, ◌≤◌, List,
 use Rattle.std.specs.Prelude.{Option, Some, None}
 use Rattle.std.specs.Option.{option_map}
 use Rattle.planus_syntax.specs.Values.{PathV, ItemV, include, namespace, attribute, table}
+use Rattle.planus_syntax.specs.Values.{native_include}
 use Rattle.planus_syntax.specs.Values.{struct, enumeration, union, service, root, identifier}
 use Rattle.planus_syntax.specs.Values.{extension, DeclarationV, names_of}
 use Rattle.planus_layout.specs.declared.schema.Body.{Body}
@@ -60,6 +61,7 @@ no_statements = record { root = None; identifier = None; extension = None }
 -- a statement replaces an earlier one
 abbrev pub after : List HeadV → SpaceV → StatementsV → ItemV → StatementsV
 after hs space s (include w) = s
+after hs space s (native_include w) = s
 after hs space s (namespace p) = s
 after hs space s (attribute l) = s
 after hs space s (table r) = s

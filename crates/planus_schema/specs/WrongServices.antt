@@ -27,6 +27,7 @@ built_in = cut_words []
 
 abbrev pub customs_at : Item → List Name
 customs_at (item.Include w) = []
+customs_at (item.NativeInclude w) = []
 customs_at (item.Namespace p) = []
 customs_at (item.Attribute l) = l.name.items ∷ []
 customs_at (item.Table r) = []
@@ -84,13 +85,15 @@ wrong_methods hs space known names (m ∷ ms) = first (wrong_method hs space kno
 -- the attributes of a declaration, and the methods of a service
 abbrev pub wrong_item : List HeadV → SpaceV → List Name → Item → Option Broken
 wrong_item hs space known (item.Include w) = None
+wrong_item hs space known (item.NativeInclude w) = None
 wrong_item hs space known (item.Namespace p) = None
 wrong_item hs space known (item.Attribute l) = None
 wrong_item hs space known (item.Table r) = wrong_in_record known r
 wrong_item hs space known (item.Struct r) = wrong_in_record known r
 wrong_item hs space known (item.Enum e) = wrong_attributes known e.attributes.items
 wrong_item hs space known (item.Union u) = wrong_attributes known u.attributes.items
-wrong_item hs space known (item.Service s) = wrong_methods hs space known [] s.methods.items
+wrong_item hs space known (item.Service s) = first (wrong_attributes known s.attributes.items)
+    (wrong_methods hs space known [] s.methods.items)
 wrong_item hs space known (item.RootType p) = None
 wrong_item hs space known (item.FileIdentifier w) = None
 wrong_item hs space known (item.FileExtension w) = None

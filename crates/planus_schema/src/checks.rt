@@ -131,7 +131,10 @@ pub(crate) fn check_item(scope: &Scope, known: &[Vec<u8>], item: &Item) -> Resul
         }
         Item::Enum(body) => check_attributes(known, &body.attributes),
         Item::Union(body) => check_attributes(known, &body.attributes),
-        Item::Service(service) => check_methods(scope, known, &service.methods),
+        Item::Service(service) => {
+            or_return!(check_attributes(known, &service.attributes));
+            check_methods(scope, known, &service.methods)
+        }
         _ => Ok(()),
     }
 }

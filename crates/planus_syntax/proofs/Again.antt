@@ -2,7 +2,7 @@
 use Rattle.std.proofs.Common.{◌≡◌, ℕ, Bool, true, false, List, [], ◌∷◌, length, Option, Some, None, Result, Ok, refl, ap, ◌∙◌}
 use Rattle.std.specs.Prelude.{codes, ◌==◌, ◌||◌, not}
 use Rattle.planus_syntax.specs.Tokens.{Piece, word, text, doc, mark}
-use Rattle.planus_syntax.specs.Values.{PathV, KindV, single, vector, LiteralV, numeral, named, quote, nothing, LabelV, AttributeV, FieldV, RecordV, VariantV, EnumerationV, MemberV, UnionV, MethodV, ServiceV, ItemV, include, namespace, attribute, table, struct, enumeration, union, service, root, identifier, extension, DeclarationV, Before, each_before, doc_before, docs_before, dotted_before, path_before, kind_before, literal_before, after_before, number_before, label_piece, label_before, attribute_before, next_before, attributes_before, field_before, record_before, variant_before, list_before, comma_before, enumeration_before, member_before, union_before, method_before, service_before, quoted_before, rooted_before, declared_before, namespace_before, item_before, declaration_before, schema_pieces}
+use Rattle.planus_syntax.specs.Values.{PathV, KindV, single, vector, LiteralV, numeral, named, quote, nothing, LabelV, AttributeV, FieldV, RecordV, VariantV, EnumerationV, MemberV, UnionV, MethodV, ServiceV, ItemV, include, native_include, namespace, attribute, table, struct, enumeration, union, service, root, identifier, extension, DeclarationV, Before, each_before, doc_before, docs_before, dotted_before, path_before, kind_before, literal_before, after_before, number_before, label_piece, label_before, attribute_before, next_before, attributes_before, field_before, record_before, variant_before, list_before, comma_before, enumeration_before, member_before, union_before, method_before, service_before, quoted_before, rooted_before, declared_before, namespace_before, item_before, declaration_before, schema_pieces}
 use Rattle.planus_syntax.specs.Reading.{Fault, Reads, optional_at, ◌>>=◌, begins_mark, begins_doc, begins_next, is_some, inside, mark_at, word_at, doc_at, number_at, label_at, list_at, with_items, docs_at, dotted_at, path_at, kind_at, brackets_at, name_at, literal_at, attribute_at, next_attribute_at, attributes_at, field_at, record_at, comma_at, variant_at, next_variant_at, variants_at, enumeration_at, member_at, next_member_at, members_at, union_at, method_at, service_at, quoted_at, rooted_at, namespace_at, declared_at, as_item, statement_at, item_at, declaration_at, schema_at}
 use Rattle.planus_syntax.specs.Values.{is_whole, is_whole_item, is_some_of, AreWhole}
 use Rattle.planus_syntax.proofs.Many.{Again, list_again, suits_all, always, all_always}
@@ -241,7 +241,9 @@ methods_are_again = record {
 service_again : (s : ServiceV) (rest : List Piece) → service_at (service_before s rest) ≡ Ok (s, rest)
 unfolding service_at
 service_again s rest =
-    step (list_at inside method_at (each_before method_before s.methods (mark 125 ∷ rest))) (s.methods, mark 125 ∷ rest) _ (list_again inside method_at method_before any always methods_looped methods_are_again s.methods (mark 125 ∷ rest) (all_always s.methods) refl refl)
+    let b = mark 123 ∷ each_before method_before s.methods (mark 125 ∷ rest) in
+    step (attributes_at (attributes_before s.attributes b)) (s.attributes, b) _ (attributes_again s.attributes b refl)
+    ∙ step (list_at inside method_at (each_before method_before s.methods (mark 125 ∷ rest))) (s.methods, mark 125 ∷ rest) _ (list_again inside method_at method_before any always methods_looped methods_are_again s.methods (mark 125 ∷ rest) (all_always s.methods) refl refl)
 
 quoted_again : (w : List ℕ) (rest : List Piece) → quoted_at (text w ∷ mark 59 ∷ rest) ≡ Ok (w, rest)
 unfolding quoted_at
@@ -308,6 +310,14 @@ extension_is : (left : ℕ) (w : List ℕ) (rest : List Piece) → item_at (code
 unfolding item_at
 extension_is left w rest = extension_said left w rest
 
+native_said : (left : ℕ) (w : List ℕ) (rest : List Piece) → statement_at (codes "native_include") left (quoted_before w rest) ≡ Ok (native_include w, rest)
+unfolding statement_at
+native_said left w rest = ap (as_item native_include) (quoted_again w rest)
+
+native_is : (left : ℕ) (w : List ℕ) (rest : List Piece) → item_at (codes "native_include") left (quoted_before w rest) ≡ Ok (native_include w, rest)
+unfolding item_at
+native_is left w rest = native_said left w rest
+
 table_is : (left : ℕ) (v : RecordV) (rest : List Piece) → item_at (codes "table") left (record_before v rest) ≡ Ok (table v, rest)
 unfolding item_at
 table_is left v rest = ap (as_item table) (record_again v rest)
@@ -333,6 +343,7 @@ documented docs ps = word_at ps >>= λ key. item_at key.0 (length ps) key.1 >>= 
 
 items_again : (docs : List (List ℕ)) (i : ItemV) (rest : List Piece) → is_whole_item i ≡ true → documented docs (item_before i rest) ≡ Ok (record { docs = docs; item = i }, rest)
 items_again docs (include v) rest w = step (item_at (codes "include") (length (item_before (include v) rest)) (quoted_before v rest)) (include v, rest) _ (include_is (length (item_before (include v) rest)) v rest)
+items_again docs (native_include v) rest w = step (item_at (codes "native_include") (length (item_before (native_include v) rest)) (quoted_before v rest)) (native_include v, rest) _ (native_is (length (item_before (native_include v) rest)) v rest)
 items_again docs (namespace v) rest w = step (item_at (codes "namespace") (length (item_before (namespace v) rest)) (namespace_before v rest)) (namespace v, rest) _ (namespace_is (length (item_before (namespace v) rest)) v rest)
 items_again docs (attribute v) rest w = step (item_at (codes "attribute") (length (item_before (attribute v) rest)) (declared_before v rest)) (attribute v, rest) _ (attribute_is (length (item_before (attribute v) rest)) v rest)
 items_again docs (root v) rest w = step (item_at (codes "root_type") (length (item_before (root v) rest)) (rooted_before v rest)) (root v, rest) _ (root_is (length (item_before (root v) rest)) v rest)
@@ -346,6 +357,7 @@ items_again docs (service v) rest w = step (item_at (codes "rpc_service") (lengt
 
 item_begins_doc : (i : ItemV) (rest : List Piece) → begins_doc (item_before i rest) ≡ false
 item_begins_doc (include v) rest = refl
+item_begins_doc (native_include v) rest = refl
 item_begins_doc (namespace v) rest = refl
 item_begins_doc (attribute v) rest = refl
 item_begins_doc (root v) rest = refl
@@ -359,6 +371,7 @@ item_begins_doc (service v) rest = refl
 
 item_is_some : (i : ItemV) (rest : List Piece) → is_some (item_before i rest) ≡ true
 item_is_some (include v) rest = refl
+item_is_some (native_include v) rest = refl
 item_is_some (namespace v) rest = refl
 item_is_some (attribute v) rest = refl
 item_is_some (root v) rest = refl

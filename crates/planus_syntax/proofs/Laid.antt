@@ -2,12 +2,13 @@
 use Rattle.std.proofs.Common.{◌≡◌, ℕ, List, [], ◌∷◌, ◌++◌, Bool, true, false, cond, refl, sym, ap, ◌∙◌, subst}
 use Rattle.std.specs.Prelude.{not, ◌==◌, ◌||◌, ◌&&◌, codes}
 use Rattle.std.specs.List.{list_all, AllByRecursion}
+use Rattle.std.specs.Char.{is_ascii_digit}
 use Rattle.std.proofs.lemmas.Bool.{eqb-true}
 use Rattle.planus_syntax.specs.declared.layout.Place.{Place}
-use Rattle.planus_syntax.specs.Tokens.{Piece, word, number, text, doc, mark, begins, is_word_byte, is_number_byte, is_line_byte, is_blank, is_lawful, bytes_of}
-use Rattle.planus_syntax.specs.Layout.{is_mark_of, place_after, outside, is_tight, is_glued, is_grouped, new_line, between_declarations, after_mark, spaced, apart, gap_before, laid_out, printed}
+use Rattle.planus_syntax.specs.Tokens.{Piece, word, number, text, doc, mark, begins, is_word_byte, is_number_start, is_number_byte, is_line_byte, is_blank, is_mark, is_lawful, bytes_of}
+use Rattle.planus_syntax.specs.Layout.{is_mark_of, place_after, outside, is_tight, is_open, is_number_piece, is_glued, is_grouped, new_line, between_declarations, after_mark, spaced, apart, gap_before, laid_out, printed}
 use Rattle.planus_syntax.specs.Spelled.{Part, token, blank, goes_on, spelled, tokens_in, AreParts}
-use Rattle.planus_syntax.proofs.Marks.{one_of, never}
+use Rattle.planus_syntax.proofs.Marks.{one_of, never, neither, not_true}
 
 blanks : List ℕ → List Part → List Part
 blanks [] ps = ps
@@ -104,17 +105,63 @@ gap_cases : (p : ℕ → Bool) (c : Bool) (g rest : List ℕ) → (c ≡ true �
 gap_cases p true g rest h k = h refl
 gap_cases p false g rest h k = k
 
-gap_stops : (place : Place) (a : Piece) (qs : List Piece) → Stops (goes_on (token a)) (gap_before place a qs ++ laid_out place qs)
-gap_stops place (word w) [] = refl
-gap_stops place (word w) (q ∷ qs) =
+digit_mark : (b : ℕ) → is_mark b ≡ true → is_ascii_digit b ≡ false
+digit_mark b h = one_of (λ x. is_ascii_digit x ≡ false) (codes "{}()[]:;,=.") b (refl, (refl, (refl, (refl, (refl, (refl, (refl, (refl, (refl, (refl, (refl, tt))))))))))) h
+
+word_digit : (w rest : List ℕ) → is_lawful (word w) ≡ true → Stops is_ascii_digit (w ++ rest)
+word_digit [] rest h = absurd cc
+word_digit (c ∷ w) rest h =
+    let a = both (list_all is_word_byte (c ∷ w)) (not (is_number_start c)) h in
+    (neither (is_ascii_digit c) (c == 43 || c == 45) (not_true (is_number_start c) a.1)).0
+
+no_digit_first : (q : Piece) (rest : List ℕ) → is_lawful q ≡ true → is_number_piece q ≡ false → Stops is_ascii_digit (bytes_of q ++ rest)
+no_digit_first (word w) rest h n = word_digit w rest h
+no_digit_first (number w) rest h n = absurd cc
+no_digit_first (text w) rest h n = refl
+no_digit_first (doc w) rest h n = refl
+no_digit_first (mark b) rest h n = digit_mark b h
+
+never_glued : (o v : Bool) → v ≡ true → ((o && not (v && true)) || false) ≡ true → ⊥
+never_glued true true e g = cc
+never_glued false true e g = cc
+never_glued o false e g = cc
+
+-- what a point is glued to is no number
+glued_number : (m : ℕ) (q : Piece) → (m == 46) ≡ true → is_glued (mark m) q ≡ true → is_number_piece q ≡ false
+glued_number m (word w) e g = refl
+glued_number m (number w) e g = absurd (never_glued (is_open m) (m == 46) e g)
+glued_number m (text w) e g = refl
+glued_number m (doc w) e g = refl
+glued_number m (mark b) e g = refl
+
+point_at : (m : ℕ) (v : Bool) (bs : List ℕ) → (m == 46) ≡ v → (v ≡ true → Stops is_ascii_digit bs) → Stops (λ b. m == 46 && is_ascii_digit b) bs
+point_at m v [] e h = refl
+point_at m true (b ∷ bs) e h = ap (λ x. x && is_ascii_digit b) e ∙ h refl
+point_at m false (b ∷ bs) e h = ap (λ x. x && is_ascii_digit b) e
+
+mark_stops : (p : Place) (b : ℕ) (q : Piece) (rest : List ℕ) → Stops is_ascii_digit (after_mark p b q ++ rest)
+mark_stops p b q rest =
+    let P : List ℕ → Type 0 = λ bs. Stops is_ascii_digit (bs ++ rest) in
+    let line : P (new_line p q) = either P (p.braces && not (is_mark_of 125 q)) (codes "\n  ") (codes "\n") refl refl in
+    either P (b == 125) (codes "\n\n") _ refl
+    (either P (b == 59) _ _ (either P p.braces (new_line p q) (between_declarations q) line (either P (is_grouped q) (codes "\n") (codes "\n\n") refl refl))
+    (either P (b == 123 || (b == 44 && not p.parentheses)) (new_line p q) (spaced q) line (either P (is_mark_of 125 q) (codes "\n") (codes " ") refl refl)))
+
+gap_stops : (place : Place) (a : Piece) (qs : List Piece) → AllByRecursion (λ q. is_lawful q ≡ true) qs → Stops (goes_on (token a)) (gap_before place a qs ++ laid_out place qs)
+gap_stops place (word w) [] l = refl
+gap_stops place (word w) (q ∷ qs) l =
     gap_cases is_word_byte (is_glued (word w) q) (spaced q) (laid_out place (q ∷ qs)) (word_glued w q _) (spaced_stops is_word_byte q (laid_out place (q ∷ qs)) refl refl)
-gap_stops place (number w) [] = refl
-gap_stops place (number w) (q ∷ qs) =
+gap_stops place (number w) [] l = refl
+gap_stops place (number w) (q ∷ qs) l =
     gap_cases is_number_byte (is_glued (number w) q) (spaced q) (laid_out place (q ∷ qs)) (number_glued w q _) (spaced_stops is_number_byte q (laid_out place (q ∷ qs)) refl refl)
-gap_stops place (text w) qs = never (gap_before place (text w) qs ++ laid_out place qs)
-gap_stops place (doc w) [] = refl
-gap_stops place (doc w) (q ∷ qs) = line_stops place q (laid_out place (q ∷ qs))
-gap_stops place (mark b) qs = never (gap_before place (mark b) qs ++ laid_out place qs)
+gap_stops place (text w) qs l = never (gap_before place (text w) qs ++ laid_out place qs)
+gap_stops place (doc w) [] l = refl
+gap_stops place (doc w) (q ∷ qs) l = line_stops place q (laid_out place (q ∷ qs))
+gap_stops place (mark m) [] l = point_at m (m == 46) (10 ∷ []) refl (λ e. refl)
+gap_stops place (mark m) (q ∷ qs) l =
+    point_at m (m == 46) (gap_before place (mark m) (q ∷ qs) ++ laid_out place (q ∷ qs)) refl (λ e.
+    gap_cases is_ascii_digit (is_glued (mark m) q) (apart place (mark m) q) (laid_out place (q ∷ qs))
+    (λ g. no_digit_first q _ l.0 (glued_number m q e g)) (mark_stops place m q (laid_out place (q ∷ qs))))
 
 parts_of : Place → List Piece → List Part
 parts_of p [] = []
@@ -142,7 +189,7 @@ parts_are p (a ∷ qs) h =
     let next = place_after p a in
     let g = gap_before next a qs in
     let e : g ++ laid_out next qs ≡ spelled (blanks g (parts_of next qs)) = ap (λ r. g ++ r) (parts_spelled next qs) ∙ sym (blanks_spelled g (parts_of next qs)) in
-    (h.0, subst (λ r. begins (goes_on (token a)) r ≡ false) e (gap_stops next a qs), blanks_are g (parts_of next qs) (gap_blank next a qs) (parts_are next qs h.1))
+    (h.0, subst (λ r. begins (goes_on (token a)) r ≡ false) e (gap_stops next a qs h.1), blanks_are g (parts_of next qs) (gap_blank next a qs) (parts_are next qs h.1))
 
 pub layout_spells : (ps : List Piece) → AllByRecursion (λ p. is_lawful p ≡ true) ps → (parts : List Part) × AreParts parts × (printed ps ≡ spelled parts) × (ps ≡ tokens_in parts)
 layout_spells ps h = (parts_of outside ps, parts_are outside ps h, parts_spelled outside ps, parts_tokens outside ps)

@@ -4,7 +4,7 @@ use Rattle.std.specs.Prelude.{codes, ◌==◌, ◌&&◌}
 use Rattle.std.specs.Str.{bytes_eq}
 use Rattle.std.proofs.lemmas.Bool.{eqb-true}
 use Rattle.planus_syntax.specs.Tokens.{Piece, word, number, text, doc, mark}
-use Rattle.planus_syntax.specs.Values.{Name, PathV, KindV, single, vector, LiteralV, numeral, named, quote, nothing, LabelV, AttributeV, FieldV, RecordV, VariantV, EnumerationV, MemberV, UnionV, MethodV, ServiceV, ItemV, include, namespace, attribute, table, struct, enumeration, union, service, root, identifier, extension, DeclarationV, Before, each_before, doc_before, docs_before, dotted_before, path_before, kind_before, literal_before, after_before, number_before, label_before, attribute_before, next_before, attributes_before, field_before, record_before, variant_before, list_before, comma_before, enumeration_before, member_before, union_before, method_before, service_before, quoted_before, rooted_before, declared_before, namespace_before, item_before, declaration_before, schema_pieces}
+use Rattle.planus_syntax.specs.Values.{Name, PathV, KindV, single, vector, LiteralV, numeral, named, quote, nothing, LabelV, AttributeV, FieldV, RecordV, VariantV, EnumerationV, MemberV, UnionV, MethodV, ServiceV, ItemV, include, native_include, namespace, attribute, table, struct, enumeration, union, service, root, identifier, extension, DeclarationV, Before, each_before, doc_before, docs_before, dotted_before, path_before, kind_before, literal_before, after_before, number_before, label_before, attribute_before, next_before, attributes_before, field_before, record_before, variant_before, list_before, comma_before, enumeration_before, member_before, union_before, method_before, service_before, quoted_before, rooted_before, declared_before, namespace_before, item_before, declaration_before, schema_pieces}
 use Rattle.planus_syntax.specs.declared.parse_fault.ParseFault.TheVariants as fault
 use Rattle.planus_syntax.specs.Reading.{Looped, Takes, Fault, Reads, optional_at, begins_mark, begins_doc, begins_next, is_some, inside, mark_at, word_at, doc_at, number_at, text_at, label_at, list_at, with_items, docs_at, dotted_at, path_at, kind_at, brackets_at, name_at, literal_at, attribute_at, next_attribute_at, attributes_at, field_at, record_at, comma_at, variant_at, next_variant_at, variants_at, enumeration_at, member_at, next_member_at, members_at, union_at, method_at, service_at, quoted_at, rooted_at, namespace_at, declared_at, as_item, statement_at, item_at, declaration_at, schema_at}
 use Rattle.planus_syntax.proofs.Many.{bind_ok, ok_is, ok, list_takes}
@@ -438,11 +438,13 @@ service_takes ps x e =
     let y1 = bind_ok _ _ x y0.2 in
     let y2 = bind_ok _ _ x y1.2 in
     let y3 = bind_ok _ _ x y2.2 in
-    subst (λ (y : ServiceV × List Piece). ps ≡ service_before y.0 y.1) (ok_is _ x y3.2)
+    let y4 = bind_ok _ _ x y3.2 in
+    subst (λ (y : ServiceV × List Piece). ps ≡ service_before y.0 y.1) (ok_is _ x y4.2)
     ((word_takes ps y0.0 y0.1) ∙ ap (λ (r : List Piece). word y0.0.0 ∷ r) (
-    (mark_takes 123 y0.0.1 y1.0 y1.1) ∙ ap (λ (r : List Piece). mark 123 ∷ r) (
-    ((list_takes inside method_at method_before methods_looped method_takes y1.0 y2.0 y2.1).0) ∙ ap (λ (r : List Piece). each_before method_before y2.0.0 r) (
-    mark_takes 125 y2.0.1 y3.0 y3.1))))
+    (attributes_takes y0.0.1 y1.0 y1.1) ∙ ap (λ (r : List Piece). attributes_before y1.0.0 r) (
+    (mark_takes 123 y1.0.1 y2.0 y2.1) ∙ ap (λ (r : List Piece). mark 123 ∷ r) (
+    ((list_takes inside method_at method_before methods_looped method_takes y2.0 y3.0 y3.1).0) ∙ ap (λ (r : List Piece). each_before method_before y3.0.0 r) (
+    mark_takes 125 y3.0.1 y4.0 y4.1)))))
 
 pub quoted_takes : Takes quoted_at quoted_before
 unfolding quoted_at
@@ -512,7 +514,8 @@ statement_takes key left ps x e0 =
     chosen (bytes_eq key (codes "root_type")) _ _ (word key ∷ ps ≡ item_before x.0 x.1) x e3 (keyed root rooted_at rooted_before (codes "root_type") key ps x rooted_takes (λ a rest. refl)) (λ e4.
     chosen (bytes_eq key (codes "file_identifier")) _ _ (word key ∷ ps ≡ item_before x.0 x.1) x e4 (keyed identifier quoted_at quoted_before (codes "file_identifier") key ps x quoted_takes (λ a rest. refl)) (λ e5.
     chosen (bytes_eq key (codes "file_extension")) _ _ (word key ∷ ps ≡ item_before x.0 x.1) x e5 (keyed extension quoted_at quoted_before (codes "file_extension") key ps x quoted_takes (λ a rest. refl)) (λ e6.
-    absurd cc))))))
+    chosen (bytes_eq key (codes "native_include")) _ _ (word key ∷ ps ≡ item_before x.0 x.1) x e6 (keyed native_include quoted_at quoted_before (codes "native_include") key ps x quoted_takes (λ a rest. refl)) (λ e7.
+    absurd cc)))))))
 
 pub item_takes : (key : Name) (left : ℕ) (ps : List Piece) (x : ItemV × List Piece) → item_at key left ps ≡ Ok x → word key ∷ ps ≡ item_before x.0 x.1
 unfolding item_at
@@ -561,7 +564,8 @@ union_longer u rest =
 
 service_longer : Longer service_before
 service_longer s rest =
-    omega (arith, each_longer method_before (λ (a : MethodV) (r : List Piece). omega (arith, method_rest_longer a r, docs_longer a.docs (word a.name ∷ mark 40 ∷ path_before a.request (mark 41 ∷ mark 58 ∷ path_before a.response (attributes_before a.attributes (mark 59 ∷ r)))))) s.methods (mark 125 ∷ rest))
+    let f = each_before method_before s.methods (mark 125 ∷ rest) in
+    omega (arith, attributes_longer s.attributes (mark 123 ∷ f), each_longer method_before (λ (a : MethodV) (r : List Piece). omega (arith, method_rest_longer a r, docs_longer a.docs (word a.name ∷ mark 40 ∷ path_before a.request (mark 41 ∷ mark 58 ∷ path_before a.response (attributes_before a.attributes (mark 59 ∷ r)))))) s.methods (mark 125 ∷ rest))
 
 namespace_longer : Longer namespace_before
 namespace_longer None rest = omega arith
@@ -569,6 +573,7 @@ namespace_longer (Some p) rest = omega (arith, path_longer p (mark 59 ∷ rest))
 
 item_longer : (i : ItemV) (rest : List Piece) → length rest < length (item_before i rest)
 item_longer (include w) rest = omega arith
+item_longer (native_include w) rest = omega arith
 item_longer (namespace p) rest = omega (arith, namespace_longer p rest)
 item_longer (attribute l) rest = omega arith
 item_longer (table r) rest = omega (arith, record_longer r rest)

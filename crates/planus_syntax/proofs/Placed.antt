@@ -1,19 +1,20 @@
 -- Where tokens are in a text.
 use Rattle.std.specs.Prelude.{◌==◌, not, None}
 use Rattle.std.specs.List.{list_all}
+use Rattle.std.specs.Str.{is_utf8}
 use Rattle.std.proofs.Common.{true, false, ◌≡◌, ℕ, ◌+◌, ◌-◌, ◌<◌, ◌≤◌, List, [], ◌∷◌, ◌++◌, length, drop, refl, sym, ap, subst, ◌∙◌, append_assoc, arith, Ok, Err}
 use Rattle.std.proofs.lemmas.Bool.{eqb-true}
 use Rattle.std.proofs.lemmas.List.{length-append, append-nil, length-drop, drop-drop}
 use Rattle.planus_syntax.specs.declared.lexer.LexFault.{LexFault}
-use Rattle.planus_syntax.specs.Tokens.{Piece, word, number, doc, mark, bytes_of, begins, is_word_byte, is_number_start, is_number_byte, is_number, is_string_byte, is_line_byte, is_blank, is_mark}
+use Rattle.planus_syntax.specs.Tokens.{Piece, word, number, doc, mark, bytes_of, begins, is_word_byte, is_number_start, starts_number, is_number_byte, is_number, is_string_byte, is_line_byte, is_blank, is_mark}
 use Rattle.planus_syntax.specs.Tokens as pieces
 use Rattle.planus_syntax.specs.Lexing.{Read, with_front, lex_of}
 use Rattle.planus_syntax.specs.Cutting.{Splits, Leads, Starts, Closes}
 use Rattle.planus_syntax.specs.Spelled.{Part, token, blank, comment, block, part_bytes, goes_on, spelled, tokens_in, AreParts, closes, stays_open}
 use Rattle.planus_syntax.specs.Placing.{TokenFirst, StandsAt}
-use Rattle.planus_syntax.proofs.Scanning.{no_front, started}
-use Rattle.planus_syntax.proofs.Marks.{never}
-use Rattle.planus_syntax.proofs.Spelling.{all_two, all_three, all_and, not_begins, closes_earlier, spelling_read, spelling_found}
+use Rattle.planus_syntax.proofs.Scanning.{no_front}
+use Rattle.planus_syntax.proofs.Marks.{a_mark, never, point_stops}
+use Rattle.planus_syntax.proofs.Spelling.{cut_starts, all_two, all_three, all_and, not_begins, closes_earlier, spelling_read, spelling_found}
 
 pub word_leads : (bytes w rest : List ℕ) → Splits is_word_byte bytes w rest → begins is_word_byte bytes ≡ true → begins is_number_start bytes ≡ false → Leads bytes (token (word w)) rest
 word_leads bytes [] rest split h m = absurd (let f : begins is_word_byte rest ≡ true = sym (ap (begins is_word_byte) split.whole) ∙ h in let g = split.stops in cc)
@@ -23,18 +24,17 @@ word_leads bytes (c ∷ w) rest split h m = record {
   stops = split.stops;
 }
 
-pub number_leads : (bytes w rest : List ℕ) → Splits is_number_byte bytes w rest → begins is_number_start bytes ≡ true → is_number w ≡ true → Leads bytes (token (number w)) rest
-number_leads bytes [] rest split h d = absurd (let f : begins is_number_byte rest ≡ true = sym (ap (begins is_number_byte) split.whole) ∙ started bytes h in let g = split.stops in cc)
-number_leads bytes (c ∷ w) rest split h d = record {
+pub number_leads : (bytes w rest : List ℕ) → Splits is_number_byte bytes w rest → starts_number bytes ≡ true → is_number w ≡ true → Leads bytes (token (number w)) rest
+number_leads bytes w rest split h d = record {
   whole = split.whole;
-  lawful = all_and (begins is_number_start (c ∷ w)) (list_all is_number_byte (c ∷ w)) (is_number (c ∷ w)) (sym (ap (begins is_number_start) split.whole) ∙ h) split.each d;
+  lawful = all_and (starts_number w) (list_all is_number_byte w) (is_number w) (cut_starts bytes w rest split h) split.each d;
   stops = split.stops;
 }
 
-pub string_leads : (bytes w rest after : List ℕ) → Splits is_string_byte bytes w rest → rest ≡ 34 ∷ after → Leads (34 ∷ bytes) (token (pieces.text w)) after
-string_leads bytes w rest after split e = record {
+pub string_leads : (bytes w rest after : List ℕ) → Splits is_string_byte bytes w rest → rest ≡ 34 ∷ after → is_utf8 w ≡ true → Leads (34 ∷ bytes) (token (pieces.text w)) after
+string_leads bytes w rest after split e u = record {
   whole = ap (λ r. 34 ∷ r) (split.whole ∙ ap (λ r. w ++ r) e ∙ sym (append_assoc w (34 ∷ []) after));
-  lawful = split.each;
+  lawful = all_two (list_all is_string_byte w) (is_utf8 w) split.each u;
   stops = never after;
 }
 
@@ -70,8 +70,11 @@ block_leads bytes rest after e c = (
 pub blank_leads : (bytes : List ℕ) (b : ℕ) (rest : List ℕ) → bytes ≡ b ∷ rest → is_blank b ≡ true → Starts bytes None rest
 blank_leads bytes b rest e h = (blank b, refl, record { whole = e; lawful = h; stops = never rest })
 
-pub mark_leads : (bytes : List ℕ) (b : ℕ) (rest : List ℕ) → bytes ≡ b ∷ rest → is_mark b ≡ true → Leads bytes (token (mark b)) rest
-mark_leads bytes b rest e h = record { whole = e; lawful = h; stops = never rest }
+pub mark_leads : (bytes : List ℕ) (b : ℕ) (rest : List ℕ) → bytes ≡ b ∷ rest → is_mark b ≡ true → starts_number bytes ≡ false → Leads bytes (token (mark b)) rest
+mark_leads bytes b rest e h n = record { whole = e; lawful = h; stops = point_stops b rest (sym (ap starts_number e) ∙ n) }
+
+pub mark_cuts : (bytes : List ℕ) (b : ℕ) (rest : List ℕ) → bytes ≡ b ∷ rest → is_mark b ≡ true → starts_number bytes ≡ false → lex_of bytes ≡ with_front (mark b ∷ []) (lex_of rest)
+mark_cuts bytes b rest e h n = ap lex_of e ∙ a_mark b rest h (point_stops b rest (sym (ap starts_number e) ∙ n))
 
 pub closes_later : (bytes : List ℕ) (b : ℕ) (rest after : List ℕ) → bytes ≡ b ∷ rest → closes bytes ≡ false → Closes rest after → Closes bytes after
 closes_later bytes b rest after e n c = (

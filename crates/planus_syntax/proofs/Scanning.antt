@@ -1,14 +1,15 @@
 -- The machine over whole runs.
-use Rattle.std.proofs.Common.{◌≡◌, ℕ, suc, List, [], ◌∷◌, ◌++◌, length, Bool, true, false, cond, refl, sym, ap, ◌∙◌, subst, append_assoc, Result, Ok, Err}
+use Rattle.std.proofs.Common.{◌≡◌, ℕ, suc, drop, List, [], ◌∷◌, ◌++◌, length, Bool, true, false, cond, refl, sym, ap, ◌∙◌, subst, append_assoc, Result, Ok, Err}
 use Rattle.std.specs.Prelude.{not, ◌==◌, ◌||◌, ◌&&◌}
 use Rattle.std.specs.List.{list_all}
+use Rattle.std.specs.Str.{is_utf8}
 use Rattle.std.specs.Char.{is_ascii_digit, is_ascii_alphabetic}
 use Rattle.std.proofs.lemmas.List.{append-nil}
 use Rattle.std.proofs.lemmas.Bool.{eqb-true}
 use Rattle.planus_syntax.specs.declared.lexer.LexFault.{LexFault}
-use Rattle.planus_syntax.specs.declared.lexer.LexFault.TheVariants.{BadNumber, OpenComment, Strange}
-use Rattle.planus_syntax.specs.Tokens.{Piece, word, number, text, doc, begins, is_word_byte, is_number_start, is_number_byte, is_number, is_string_byte, is_line_byte}
-use Rattle.planus_syntax.specs.Lexing.{State, between, run, figures, quoted, slash, slashes, comment, documented, block, starred, Step, Read, number_piece, string_fault, opened, in_front, closed, step, with_front, going, lex_from, lex_of}
+use Rattle.planus_syntax.specs.declared.lexer.LexFault.TheVariants.{BadNumber, OpenComment, Strange, NotUtf8}
+use Rattle.planus_syntax.specs.Tokens.{Piece, word, number, text, doc, mark, begins, is_word_byte, is_number_start, starts_number, is_number_byte, is_number, is_string_byte, is_line_byte}
+use Rattle.planus_syntax.specs.Lexing.{State, between, run, figures, point, quoted, slash, slashes, comment, documented, block, starred, Step, Read, number_piece, text_piece, string_fault, opened, in_front, closed, step, with_front, going, lex_from, lex_of}
 use Rattle.planus_syntax.specs.Cutting.{Splits, string_stop}
 use Rattle.planus_syntax.specs.Spelled.{closes}
 
@@ -75,6 +76,26 @@ a_word bytes (c ∷ w) rest split h n =
     let one : lex_of (c ∷ (w ++ rest)) ≡ lex_from (run (c ∷ [])) (w ++ rest) = rw (f, e) (no_front (lex_from (run (c ∷ [])) (w ++ rest))) in
     ap lex_of split.whole ∙ one ∙ run_on w (c ∷ []) rest holds.1 ∙ run_ends (c ∷ w) rest split.stops
 
+goes_at : (digit sign letter line dot : Bool) → (digit || sign) ≡ true → ((letter || (digit || line)) || (dot || sign)) ≡ true
+goes_at true sign true line dot h = refl
+goes_at true sign false line dot h = refl
+goes_at false sign true line dot h = refl
+goes_at false true false true dot h = refl
+goes_at false true false false true h = refl
+goes_at false true false false false h = refl
+goes_at false false letter line dot h = absurd cc
+
+start_goes : (c : ℕ) → is_number_start c ≡ true → is_number_byte c ≡ true
+start_goes c h = goes_at (is_ascii_digit c) (c == 43 || c == 45) (is_ascii_alphabetic c) (c == 95) (c == 46) h
+
+either_or : (a b : Bool) → a ≡ true → (a || b) ≡ true
+either_or true b h = refl
+either_or false b h = absurd cc
+
+abbrev front : ℕ → List ℕ → ℕ
+front d [] = d
+front d (b ∷ bs) = b
+
 figures_whole : (bytes w rest : List ℕ) → Splits is_number_byte bytes w rest → begins is_number_byte bytes ≡ true → begins is_number_start bytes ≡ true → lex_of bytes ≡ after_run (number_piece w) rest
 figures_whole bytes [] rest split h n = absurd (let e : begins is_number_byte rest ≡ true = (sym (ap (begins is_number_byte) split.whole) ∙ h) in let f = split.stops in cc)
 figures_whole bytes (c ∷ w) rest split h n =
@@ -82,6 +103,46 @@ figures_whole bytes (c ∷ w) rest split h n =
     let f : is_number_start c ≡ true = sym (ap (begins is_number_start) split.whole) ∙ n in
     let one : lex_of (c ∷ (w ++ rest)) ≡ lex_from (figures (c ∷ [])) (w ++ rest) = rw f (no_front (lex_from (figures (c ∷ [])) (w ++ rest))) in
     ap lex_of split.whole ∙ one ∙ figures_on w (c ∷ []) rest holds.1 ∙ figures_ends (c ∷ w) rest split.stops
+
+pub digit_goes : (c : ℕ) → is_ascii_digit c ≡ true → is_number_byte c ≡ true
+digit_goes c h = goes_at (is_ascii_digit c) (c == 43 || c == 45) (is_ascii_alphabetic c) (c == 95) (c == 46) (either_or (is_ascii_digit c) (c == 43 || c == 45) h)
+
+-- a number that begins with a point
+point_whole : (bytes w rest : List ℕ) (c : ℕ) (more : List ℕ) → bytes ≡ 46 ∷ c ∷ more → is_ascii_digit c ≡ true → Splits is_number_byte bytes w rest → lex_of bytes ≡ after_run (number_piece w) rest
+point_whole bytes [] rest c more e d split = absurd (let f : begins is_number_byte rest ≡ true = ap (begins is_number_byte) (sym split.whole ∙ e) in let g = split.stops in cc)
+point_whole bytes (a ∷ []) rest c more e d split =
+    let same : rest ≡ c ∷ more = ap (drop 1) (sym split.whole ∙ e) in
+    absurd (let f : begins is_number_byte rest ≡ true = ap (begins is_number_byte) same ∙ digit_goes c d in let g = split.stops in cc)
+point_whole bytes (a ∷ b ∷ w) rest c more e d split =
+    let first : a ≡ 46 = ap (front 0) (sym split.whole ∙ e) in
+    let next : b ≡ c = ap (λ (r : List ℕ). front 0 (drop 1 r)) (sym split.whole ∙ e) in
+    let digit : is_ascii_digit b ≡ true = ap is_ascii_digit next ∙ d in
+    let tail = both (is_number_byte b) (list_all is_number_byte w) (both (is_number_byte a) (list_all is_number_byte (b ∷ w)) split.each).1 in
+    let opens : lex_of (46 ∷ b ∷ (w ++ rest)) ≡ lex_from point (b ∷ (w ++ rest)) = no_front (lex_from point (b ∷ (w ++ rest))) in
+    let one : lex_from point (b ∷ (w ++ rest)) ≡ lex_from (figures (46 ∷ b ∷ [])) (w ++ rest) = rw digit (no_front (lex_from (figures (46 ∷ b ∷ [])) (w ++ rest))) in
+    ap lex_of split.whole ∙ ap (λ x. lex_of (x ∷ b ∷ (w ++ rest))) first ∙ opens ∙ one ∙ figures_on w (46 ∷ b ∷ []) rest tail.1
+    ∙ figures_ends (46 ∷ b ∷ w) rest split.stops ∙ ap (λ x. after_run (number_piece (x ∷ b ∷ w)) rest) (sym first)
+
+second_digit : (bs : List ℕ) → begins is_ascii_digit bs ≡ true → (c : ℕ) × (more : List ℕ) × (bs ≡ c ∷ more) × (is_ascii_digit c ≡ true)
+second_digit [] h = absurd cc
+second_digit (c ∷ more) h = (c, more, refl, h)
+
+number_whole_at : (b : ℕ) (bs w rest : List ℕ) (v : Bool) → is_number_start b ≡ v → (v || (b == 46 && begins is_ascii_digit bs)) ≡ true → Splits is_number_byte (b ∷ bs) w rest → lex_of (b ∷ bs) ≡ after_run (number_piece w) rest
+number_whole_at b bs w rest true e h split = figures_whole (b ∷ bs) w rest split (start_goes b e) e
+number_whole_at b bs w rest false e h split =
+    let a = both (b == 46) (begins is_ascii_digit bs) h in
+    let d = second_digit bs a.1 in
+    point_whole (b ∷ bs) w rest d.0 d.1 (ap (λ x. x ∷ bs) (eqb-true b 46 a.0) ∙ ap (λ r. 46 ∷ r) d.2) d.3 split
+
+number_whole : (bytes w rest : List ℕ) → Splits is_number_byte bytes w rest → starts_number bytes ≡ true → lex_of bytes ≡ after_run (number_piece w) rest
+number_whole [] w rest split h = absurd cc
+number_whole (b ∷ bs) w rest split h = number_whole_at b bs w rest (is_number_start b) refl h split
+
+pub point_ends : (rest : List ℕ) → begins is_ascii_digit rest ≡ false → lex_of (46 ∷ rest) ≡ with_front (mark 46 ∷ []) (lex_of rest)
+point_ends [] s = refl
+point_ends (b ∷ bs) s =
+    let e : step point b ≡ closed (Ok (mark 46)) (opened b) = rw s refl in
+    no_front (lex_from point (b ∷ bs)) ∙ ap (λ x. going (length (b ∷ bs)) x (λ next. lex_from next bs)) e ∙ at_byte (Ok (mark 46)) b bs
 
 nots : (a : Bool) → not a ≡ true → a ≡ false
 nots true h = absurd cc
@@ -93,7 +154,7 @@ differ_bool false h k = cc
 
 string_step : (acc : List ℕ) (c : ℕ) (u v : Bool) → (c == 34) ≡ u → is_string_byte c ≡ v → (c == 34) ≡ false → is_string_byte c ≡ true → step (quoted acc) c ≡ Ok ([], quoted (acc ++ c ∷ []))
 string_step acc c u v e f a h =
-    ap (λ q. cond q (Ok (text acc ∷ [], between)) (cond (is_string_byte c) (Ok ([], quoted (acc ++ c ∷ []))) (Err (string_fault c)))) a
+    ap (λ q. cond q (closed (text_piece acc) (Ok ([], between))) (cond (is_string_byte c) (Ok ([], quoted (acc ++ c ∷ []))) (Err (string_fault c)))) a
     ∙ ap (λ q. cond q (Ok ([], quoted (acc ++ c ∷ []))) (Err (string_fault c))) h
 
 no_quote_at : (c : ℕ) (v : Bool) → (c == 34) ≡ v → is_string_byte c ≡ true → (c == 34) ≡ false
@@ -161,14 +222,32 @@ slashes_end (c ∷ w) rest h s n =
 pub a_comment : (bytes w rest : List ℕ) → Splits is_line_byte bytes w rest → begins (λ b. b == 47) bytes ≡ false → lex_from slashes bytes ≡ lex_of rest
 a_comment bytes w rest split n = ap (lex_from slashes) split.whole ∙ slashes_end w rest split.each split.stops (sym (ap (begins (λ b. b == 47)) split.whole) ∙ n)
 
-pub a_string : (bytes w rest : List ℕ) → Splits is_string_byte bytes w (34 ∷ rest) → lex_from (quoted []) bytes ≡ with_front (text w ∷ []) (lex_of rest)
-a_string bytes w rest split = ap (lex_from (quoted [])) split.whole ∙ quoted_on w [] (34 ∷ rest) split.each
+-- what is read from a string's closing quote on
+abbrev after_text : Result Piece LexFault → List ℕ → Read
+after_text (Ok p) rest = with_front (p ∷ []) (lex_of rest)
+after_text (Err f) rest = Err (f, length (34 ∷ rest))
+
+text_ends : (r : Result Piece LexFault) (rest : List ℕ) → going (length (34 ∷ rest)) (closed r (Ok ([], between))) (λ next. lex_from next rest) ≡ after_text r rest
+text_ends (Ok p) rest = refl
+text_ends (Err f) rest = refl
+
+quoted_ends : (w rest : List ℕ) → lex_from (quoted w) (34 ∷ rest) ≡ after_text (text_piece w) rest
+quoted_ends w rest = text_ends (text_piece w) rest
+
+pub text_read : (bytes w rest : List ℕ) → Splits is_string_byte bytes w (34 ∷ rest) → lex_from (quoted []) bytes ≡ after_text (text_piece w) rest
+text_read bytes w rest split = ap (lex_from (quoted [])) split.whole ∙ quoted_on w [] (34 ∷ rest) split.each ∙ quoted_ends w rest
+
+pub a_string : (bytes w rest : List ℕ) → Splits is_string_byte bytes w (34 ∷ rest) → is_utf8 w ≡ true → lex_from (quoted []) bytes ≡ with_front (text w ∷ []) (lex_of rest)
+a_string bytes w rest split u = text_read bytes w rest split ∙ ap (λ b. after_text (cond b (Ok (text w)) (Err NotUtf8)) rest) u
+
+pub bad_string : (bytes w rest : List ℕ) → Splits is_string_byte bytes w (34 ∷ rest) → is_utf8 w ≡ false → lex_from (quoted []) bytes ≡ Err (NotUtf8, length (34 ∷ rest))
+bad_string bytes w rest split u = text_read bytes w rest split ∙ ap (λ b. after_text (cond b (Ok (text w)) (Err NotUtf8)) rest) u
 
 quote_open : (w rest : List ℕ) → begins is_string_byte rest ≡ false → begins (λ b. b == 34) rest ≡ false → lex_from (quoted w) rest ≡ Err (string_stop rest, length rest)
 quote_open w [] s n = refl
 quote_open w (b ∷ bs) s n =
     ap (λ x. going (suc (length bs)) x (λ next. lex_from next bs))
-    (ap (λ q. cond q (Ok (text w ∷ [], between)) (cond (is_string_byte b) (Ok ([], quoted (w ++ b ∷ []))) (Err (string_fault b)))) n
+    (ap (λ q. cond q (closed (text_piece w) (Ok ([], between))) (cond (is_string_byte b) (Ok ([], quoted (w ++ b ∷ []))) (Err (string_fault b)))) n
     ∙ ap (λ q. cond q (Ok ([], quoted (w ++ b ∷ []))) (Err (string_fault b))) s)
 
 pub no_string : (bytes w rest : List ℕ) → Splits is_string_byte bytes w rest → begins (λ b. b == 34) rest ≡ false → lex_from (quoted []) bytes ≡ Err (string_stop rest, length rest)
@@ -180,27 +259,21 @@ number_is w d = ap (λ b. cond b (Ok (number w)) (Err BadNumber)) d
 bad_is : (w : List ℕ) → is_number w ≡ false → number_piece w ≡ Err BadNumber
 bad_is w d = ap (λ b. cond b (Ok (number w)) (Err BadNumber)) d
 
-goes_at : (digit sign letter line point : Bool) → (digit || sign) ≡ true → ((letter || (digit || line)) || (point || sign)) ≡ true
-goes_at true sign true line point h = refl
-goes_at true sign false line point h = refl
-goes_at false sign true line point h = refl
-goes_at false true false true point h = refl
-goes_at false true false false true h = refl
-goes_at false true false false false h = refl
-goes_at false false letter line point h = absurd cc
+started_at : (b : ℕ) (bs : List ℕ) (v : Bool) → is_number_start b ≡ v → (v || (b == 46 && begins is_ascii_digit bs)) ≡ true → is_number_byte b ≡ true
+started_at b bs true e h = start_goes b e
+started_at b bs false e h =
+    let P : ℕ → Type 0 = λ x. is_number_byte x ≡ true in
+    subst P (sym (eqb-true b 46 (both (b == 46) (begins is_ascii_digit bs) h).0)) refl
 
-start_goes : (c : ℕ) → is_number_start c ≡ true → is_number_byte c ≡ true
-start_goes c h = goes_at (is_ascii_digit c) (c == 43 || c == 45) (is_ascii_alphabetic c) (c == 95) (c == 46) h
-
-pub started : (bytes : List ℕ) → begins is_number_start bytes ≡ true → begins is_number_byte bytes ≡ true
+pub started : (bytes : List ℕ) → starts_number bytes ≡ true → begins is_number_byte bytes ≡ true
 started [] h = absurd cc
-started (c ∷ bs) h = start_goes c h
+started (b ∷ bs) h = started_at b bs (is_number_start b) refl h
 
-pub a_number : (bytes w rest : List ℕ) → Splits is_number_byte bytes w rest → begins is_number_start bytes ≡ true → is_number w ≡ true → lex_of bytes ≡ with_front (number w ∷ []) (lex_of rest)
-a_number bytes w rest split h d = figures_whole bytes w rest split (started bytes h) h ∙ ap (λ r. after_run r rest) (number_is w d)
+pub a_number : (bytes w rest : List ℕ) → Splits is_number_byte bytes w rest → starts_number bytes ≡ true → is_number w ≡ true → lex_of bytes ≡ with_front (number w ∷ []) (lex_of rest)
+a_number bytes w rest split h d = number_whole bytes w rest split h ∙ ap (λ r. after_run r rest) (number_is w d)
 
-pub no_number : (bytes w rest : List ℕ) → Splits is_number_byte bytes w rest → begins is_number_start bytes ≡ true → is_number w ≡ false → lex_of bytes ≡ Err (BadNumber, length rest)
-no_number bytes w rest split h d = figures_whole bytes w rest split (started bytes h) h ∙ ap (λ r. after_run r rest) (bad_is w d)
+pub no_number : (bytes w rest : List ℕ) → Splits is_number_byte bytes w rest → starts_number bytes ≡ true → is_number w ≡ false → lex_of bytes ≡ Err (BadNumber, length rest)
+no_number bytes w rest split h d = number_whole bytes w rest split h ∙ ap (λ r. after_run r rest) (bad_is w d)
 
 pub third_slash : (rest more w after : List ℕ) → rest ≡ 47 ∷ more → Splits is_line_byte more w after → lex_from slashes rest ≡ with_front (doc w ∷ []) (lex_of after)
 third_slash rest more w after f split =

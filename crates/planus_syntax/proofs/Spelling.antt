@@ -2,18 +2,20 @@
 use Rattle.std.proofs.Common.{◌≡◌, ℕ, zero, suc, ◌<◌, ◌≤◌, List, [], ◌∷◌, ◌++◌, length, take, drop, arith, Bool, true, false, refl, sym, ap, ◌∙◌, subst, append_assoc, Ok, Err}
 use Rattle.std.specs.Prelude.{not, ◌==◌, ◌||◌, ◌&&◌}
 use Rattle.std.specs.List.{list_all}
+use Rattle.std.specs.Str.{is_utf8}
+use Rattle.std.specs.Char.{is_ascii_digit}
 use Rattle.std.proofs.lemmas.Bool.{eqb-true}
 use Rattle.std.proofs.lemmas.List.{length-append}
 use Rattle.planus_syntax.specs.declared.lexer.LexFault.{LexFault}
 use Rattle.planus_syntax.specs.declared.lexer.LexFault.TheVariants.{Strange}
 use Rattle.planus_syntax.proofs.Runs.{end, splits}
-use Rattle.planus_syntax.specs.Tokens.{Piece, word, number, text, doc, mark, begins, is_word_byte, is_number_start, is_number_byte, is_number, is_string_byte, is_line_byte, is_blank, is_mark, is_some, is_lawful, bytes_of}
+use Rattle.planus_syntax.specs.Tokens.{Piece, word, number, text, doc, mark, begins, is_word_byte, is_number_start, starts_number, is_number_byte, is_number, is_string_byte, is_line_byte, is_blank, is_mark, is_some, is_lawful, bytes_of}
 use Rattle.planus_syntax.specs.Lexing.{State, between, run, quoted, slash, slashes, Read, opened, going, with_front, lex_from, lex_of}
 use Rattle.planus_syntax.specs.Lexing as machine
 use Rattle.planus_syntax.specs.Cutting.{Splits}
 use Rattle.planus_syntax.specs.Spelled.{Part, token, blank, comment, block, part_bytes, is_part, goes_on, spelled, tokens_in, AreParts, closes, stays_open}
-use Rattle.planus_syntax.proofs.Scanning.{both, no_front, a_word, a_number, started, a_string, third_slash, two_slashes, slash_slash, slash_star, block_closes, block_goes, no_number, no_string, one_slash}
-use Rattle.planus_syntax.proofs.Marks.{mark_opens, word_front, front_says, start_some, not_true, never}
+use Rattle.planus_syntax.proofs.Scanning.{both, no_front, digit_goes, a_word, a_number, started, a_string, bad_string, third_slash, two_slashes, slash_slash, slash_star, block_closes, block_goes, no_number, no_string, one_slash}
+use Rattle.planus_syntax.proofs.Marks.{a_mark, point_stops, neither, word_front, front_says, not_true, never}
 
 blank_at : (P : ℕ → Type 0) (b : ℕ) (u v w x : Bool) → (b == 32) ≡ u → (b == 10) ≡ v → (b == 9) ≡ w → (b == 13) ≡ x → (u || (v || (w || x))) ≡ true → P 32 → P 10 → P 9 → P 13 → P b
 blank_at P b true v w x e f g h t p q r s = subst P (sym (eqb-true b 32 e)) p
@@ -34,23 +36,37 @@ no_third (c ∷ w) rest h s = h
 no_third [] [] h s = refl
 no_third [] (b ∷ rest) h s = subst (λ x. (x == 47) ≡ false) (sym (feed b (b == 10) refl s)) refl
 
+digit_on : (v : Bool) (w rest : List ℕ) → (v && begins is_ascii_digit w) ≡ true → (v && begins is_ascii_digit (w ++ rest)) ≡ true
+digit_on true [] rest h = absurd cc
+digit_on true (c ∷ w) rest h = h
+digit_on false w rest h = h
+
+starts_on_at : (v x : Bool) (w rest : List ℕ) → (v || (x && begins is_ascii_digit w)) ≡ true → (v || (x && begins is_ascii_digit (w ++ rest))) ≡ true
+starts_on_at true x w rest h = refl
+starts_on_at false x w rest h = digit_on x w rest h
+
+starts_on : (w rest : List ℕ) → starts_number w ≡ true → starts_number (w ++ rest) ≡ true
+starts_on [] rest h = absurd cc
+starts_on (c ∷ w) rest h = starts_on_at (is_number_start c) (c == 46) w rest h
+
 pub one_part : (p : Piece) (rest : List ℕ) → is_lawful p ≡ true → begins (goes_on (token p)) rest ≡ false → lex_of (bytes_of p ++ rest) ≡ with_front (p ∷ []) (lex_of rest)
 one_part (word w) rest h s =
     let a = both (is_some w) (list_all is_word_byte w && not (begins is_number_start w)) h in
     let b = both (list_all is_word_byte w) (not (begins is_number_start w)) a.1 in
     a_word (w ++ rest) w rest (record { whole = refl; each = b.0; stops = s }) (word_front w rest a.0 b.0) (front_says is_number_start w rest false a.0 (not_true (begins is_number_start w) b.1))
 one_part (number w) rest h s =
-    let a = both (begins is_number_start w) (list_all is_number_byte w && is_number w) h in
+    let a = both (starts_number w) (list_all is_number_byte w && is_number w) h in
     let b = both (list_all is_number_byte w) (is_number w) a.1 in
-    a_number (w ++ rest) w rest (record { whole = refl; each = b.0; stops = s }) (front_says is_number_start w rest true (start_some is_number_start w a.0) a.0) b.1
+    a_number (w ++ rest) w rest (record { whole = refl; each = b.0; stops = s }) (starts_on w rest a.0) b.1
 one_part (text w) rest h s =
     let e : (w ++ 34 ∷ []) ++ rest ≡ w ++ 34 ∷ rest = append_assoc w (34 ∷ []) rest in
+    let a = both (list_all is_string_byte w) (is_utf8 w) h in
     no_front (lex_from (quoted []) ((w ++ 34 ∷ []) ++ rest))
-    ∙ a_string ((w ++ 34 ∷ []) ++ rest) w rest (record { whole = e; each = h; stops = refl })
+    ∙ a_string ((w ++ 34 ∷ []) ++ rest) w rest (record { whole = e; each = a.0; stops = refl }) a.1
 one_part (doc w) rest h s =
     slash_slash (47 ∷ (w ++ rest))
     ∙ third_slash (47 ∷ (w ++ rest)) (w ++ rest) w rest refl (record { whole = refl; each = h; stops = s })
-one_part (mark b) rest h s = ap (λ x. going (suc (length rest)) x (λ next. lex_from next rest)) (mark_opens b h)
+one_part (mark b) rest h s = a_mark b rest h s
 
 comment_skips : (w rest : List ℕ) → is_part (comment w) ≡ true → begins is_line_byte rest ≡ false → lex_of (47 ∷ 47 ∷ (w ++ rest)) ≡ lex_of rest
 comment_skips w rest h s =
@@ -127,11 +143,27 @@ all_two a b e f = rw (e, f) refl
 abbrev Below : ℕ → Type 0
 Below n = (rest : List ℕ) (qs : List Piece) → length rest ≤ n → lex_of rest ≡ Ok qs → Found rest qs
 
-number_found : (n : ℕ) (bytes w rest : List ℕ) (ps : List Piece) (v : Bool) → is_number w ≡ v → Splits is_number_byte bytes w rest → begins is_number_start bytes ≡ true → length bytes ≤ suc n → lex_of bytes ≡ Ok ps → Below n → Found bytes ps
+cut_digit : (w rest : List ℕ) → begins is_number_byte rest ≡ false → begins is_ascii_digit (w ++ rest) ≡ true → begins is_ascii_digit w ≡ true
+cut_digit [] [] s h = absurd cc
+cut_digit [] (b ∷ bs) s h = absurd (let g = digit_goes b h in cc)
+cut_digit (c ∷ w) rest s h = h
+
+cut_at : (c : ℕ) (w rest : List ℕ) (v : Bool) → is_number_start c ≡ v → begins is_number_byte rest ≡ false → (is_number_start c || (c == 46 && begins is_ascii_digit (w ++ rest))) ≡ true → (is_number_start c || (c == 46 && begins is_ascii_digit w)) ≡ true
+cut_at c w rest true e s h = rw e refl
+cut_at c w rest false e s h =
+    let a = both (c == 46) (begins is_ascii_digit (w ++ rest)) (sym (ap (λ v. v || (c == 46 && begins is_ascii_digit (w ++ rest))) e) ∙ h) in
+    let d = cut_digit w rest s a.1 in
+    rw (e, a.0, d) refl
+
+-- what is cut off a text where a number starts, and is a number, starts one too
+pub cut_starts : (bytes w rest : List ℕ) → Splits is_number_byte bytes w rest → starts_number bytes ≡ true → starts_number w ≡ true
+cut_starts bytes [] rest split h = absurd (let f : begins is_number_byte rest ≡ true = sym (ap (begins is_number_byte) split.whole) ∙ started bytes h in let g = split.stops in cc)
+cut_starts bytes (c ∷ w) rest split h = cut_at c w rest (is_number_start c) refl split.stops (sym (ap starts_number split.whole) ∙ h)
+
+number_found : (n : ℕ) (bytes w rest : List ℕ) (ps : List Piece) (v : Bool) → is_number w ≡ v → Splits is_number_byte bytes w rest → starts_number bytes ≡ true → length bytes ≤ suc n → lex_of bytes ≡ Ok ps → Below n → Found bytes ps
 number_found n bytes [] rest ps v e split h le o below = absurd (let f : begins is_number_byte rest ≡ true = sym (ap (begins is_number_byte) split.whole) ∙ started bytes h in let g = split.stops in cc)
 number_found n bytes (c ∷ w) rest ps true e split h le o below =
-    let f : begins is_number_start (c ∷ w) ≡ true = sym (ap (begins is_number_start) split.whole) ∙ h in
-    token_found (number (c ∷ w)) bytes rest ps (all_and (begins is_number_start (c ∷ w)) (list_all is_number_byte (c ∷ w)) (is_number (c ∷ w)) f split.each e) split.stops split.whole (a_number bytes (c ∷ w) rest split h e) o
+    token_found (number (c ∷ w)) bytes rest ps (all_and (starts_number (c ∷ w)) (list_all is_number_byte (c ∷ w)) (is_number (c ∷ w)) (cut_starts bytes (c ∷ w) rest split h) split.each e) split.stops split.whole (a_number bytes (c ∷ w) rest split h e) o
     (λ qs q. below rest qs (shorter bytes (c ∷ w) rest split.whole (omega arith) n le) q)
 number_found n bytes (c ∷ w) rest ps false e split h le o below = absurd (err_not_ok bytes _ ps (no_number bytes (c ∷ w) rest split h e) o)
 
@@ -146,13 +178,18 @@ front_is : (m : ℕ) (bs : List ℕ) → begins (λ b. b == m) bs ≡ true → (
 front_is m [] h = absurd cc
 front_is m (b ∷ bs) h = (bs, ap (λ x. x ∷ bs) (eqb-true b m h))
 
+closed_found : (n : ℕ) (bs w rest : List ℕ) (ps : List Piece) (u : Bool) → is_utf8 w ≡ u → Splits is_string_byte bs w (34 ∷ rest) → length bs ≤ n → lex_of (34 ∷ bs) ≡ Ok ps → Below n → Found (34 ∷ bs) ps
+closed_found n bs w rest ps true u split le o below =
+    let whole : 34 ∷ bs ≡ (34 ∷ (w ++ 34 ∷ [])) ++ rest = ap (λ r. 34 ∷ r) (split.whole ∙ sym (append_assoc w (34 ∷ []) rest)) in
+    token_found (text w) (34 ∷ bs) rest ps (all_two (list_all is_string_byte w) (is_utf8 w) split.each u) (never rest) whole (no_front (lex_from (quoted []) bs) ∙ a_string bs w rest split u) o
+    (λ qs q. below rest qs (omega (arith, ap length split.whole, length-append w (34 ∷ rest))) q)
+closed_found n bs w rest ps false u split le o below =
+    absurd (err_not_ok (34 ∷ bs) _ ps (no_front (lex_from (quoted []) bs) ∙ bad_string bs w rest split u) o)
+
 string_found : (n : ℕ) (bs w rest : List ℕ) (ps : List Piece) (v : Bool) → begins (λ b. b == 34) rest ≡ v → Splits is_string_byte bs w rest → length bs ≤ n → lex_of (34 ∷ bs) ≡ Ok ps → Below n → Found (34 ∷ bs) ps
 string_found n bs w rest ps true e split le o below =
     let f = front_is 34 rest e in
-    let split2 : Splits is_string_byte bs w (34 ∷ f.0) = subst (λ r. Splits is_string_byte bs w r) f.1 split in
-    let whole : 34 ∷ bs ≡ (34 ∷ (w ++ 34 ∷ [])) ++ f.0 = ap (λ r. 34 ∷ r) (split2.whole ∙ sym (append_assoc w (34 ∷ []) f.0)) in
-    token_found (text w) (34 ∷ bs) f.0 ps split.each (never f.0) whole (no_front (lex_from (quoted []) bs) ∙ a_string bs w f.0 split2) o
-    (λ qs q. below f.0 qs (omega (arith, ap length split2.whole, length-append w (34 ∷ f.0))) q)
+    closed_found n bs w f.0 ps (is_utf8 w) refl (subst (λ r. Splits is_string_byte bs w r) f.1 split) le o below
 string_found n bs w rest ps false e split le o below = absurd (err_not_ok (34 ∷ bs) _ ps (no_front (lex_from (quoted []) bs) ∙ no_string bs w rest split e) o)
 
 pub not_begins : (w after : List ℕ) → begins (λ b. b == 47) (w ++ after) ≡ false → not (begins (λ b. b == 47) w) ≡ true
@@ -220,21 +257,30 @@ slash_found n bs ps false true e f le o below =
     subst (λ r. Found (47 ∷ r) ps) (sym g.1) (star_found n g.0 ps (omega (arith, ap length g.1)) (sym (ap (λ r. lex_of (47 ∷ r)) g.1) ∙ o) below)
 slash_found n bs ps false false e f le o below = absurd (err_not_ok (47 ∷ bs) _ ps (one_slash bs e f) o)
 
-pub class_found : (n b : ℕ) (bs : List ℕ) (ps : List Piece) (u v w x y z : Bool) → is_number_start b ≡ u → is_word_byte b ≡ v → is_blank b ≡ w → is_mark b ≡ x → (b == 34) ≡ y → (b == 47) ≡ z → length bs ≤ n → lex_of (b ∷ bs) ≡ Ok ps → Below n → Found (b ∷ bs) ps
+no_point_at : (b : ℕ) (v : Bool) → (b == 46) ≡ v → is_mark b ≡ false → (b == 46) ≡ false
+no_point_at b true e h =
+    let f : is_mark b ≡ true = let P : ℕ → Type 0 = λ x. is_mark x ≡ true in subst P (sym (eqb-true b 46 e)) refl in
+    absurd cc
+no_point_at b false e h = e
+
+pub no_point : (b : ℕ) → is_mark b ≡ false → (b == 46) ≡ false
+no_point b h = no_point_at b (b == 46) refl h
+
+class_found : (n b : ℕ) (bs : List ℕ) (ps : List Piece) (u v w x y z : Bool) → starts_number (b ∷ bs) ≡ u → is_word_byte b ≡ v → is_blank b ≡ w → is_mark b ≡ x → (b == 34) ≡ y → (b == 47) ≡ z → length bs ≤ n → lex_of (b ∷ bs) ≡ Ok ps → Below n → Found (b ∷ bs) ps
 class_found n b bs ps true v w x y z eu ev ew ex ey ez le o below =
     number_found n (b ∷ bs) _ _ ps _ refl (splits is_number_byte (b ∷ bs)) eu (omega arith) o below
 class_found n b bs ps false true w x y z eu ev ew ex ey ez le o below =
-    word_found n (b ∷ bs) _ _ ps (splits is_word_byte (b ∷ bs)) ev eu (omega arith) o below
+    word_found n (b ∷ bs) _ _ ps (splits is_word_byte (b ∷ bs)) ev (neither (is_number_start b) _ eu).0 (omega arith) o below
 class_found n b bs ps false false true x y z eu ev ew ex ey ez le o below =
     skip_found (blank b) (b ∷ bs) bs ps (λ qs. refl) ew (never bs) refl (below bs ps le (sym (blank_skips b bs ew) ∙ o))
 class_found n b bs ps false false false true y z eu ev ew ex ey ez le o below =
-    token_found (mark b) (b ∷ bs) bs ps ex (never bs) refl (ap (λ s. going (suc (length bs)) s (λ next. lex_from next bs)) (mark_opens b ex)) o (λ qs q. below bs qs le q)
+    token_found (mark b) (b ∷ bs) bs ps ex (point_stops b bs eu) refl (a_mark b bs ex (point_stops b bs eu)) o (λ qs q. below bs qs le q)
 class_found n b bs ps false false false false true z eu ev ew ex ey ez le o below =
     subst (λ c. Found (c ∷ bs) ps) (sym (eqb-true b 34 ey)) (string_found n bs _ _ ps _ refl (splits is_string_byte bs) le (sym (ap (λ c. lex_of (c ∷ bs)) (eqb-true b 34 ey)) ∙ o) below)
 class_found n b bs ps false false false false false true eu ev ew ex ey ez le o below =
     subst (λ c. Found (c ∷ bs) ps) (sym (eqb-true b 47 ez)) (slash_found n bs ps _ _ refl refl le (sym (ap (λ c. lex_of (c ∷ bs)) (eqb-true b 47 ez)) ∙ o) below)
 class_found n b bs ps false false false false false false eu ev ew ex ey ez le o below =
-    absurd (err_not_ok (b ∷ bs) (Strange, suc (length bs)) ps (rw (eu, ev, ew, ex, ey, ez) refl) o)
+    absurd (err_not_ok (b ∷ bs) (Strange, suc (length bs)) ps (rw ((neither (is_number_start b) _ eu).0, ev, ew, no_point b ex, ex, ey, ez) refl) o)
 
 nil_is : (ps : List Piece) → lex_of [] ≡ Ok ps → ps ≡ []
 nil_is ps o = cc
@@ -243,7 +289,7 @@ found_below : (n : ℕ) → Below n
 found_below zero [] ps le o = ([], tt, refl, nil_is ps o)
 found_below zero (b ∷ bs) ps le o = absurd (omega arith)
 found_below (suc n) [] ps le o = ([], tt, refl, nil_is ps o)
-found_below (suc n) (b ∷ bs) ps le o = class_found n b bs ps (is_number_start b) (is_word_byte b) (is_blank b) (is_mark b) (b == 34) (b == 47) refl refl refl refl refl refl (omega arith) o (found_below n)
+found_below (suc n) (b ∷ bs) ps le o = class_found n b bs ps (starts_number (b ∷ bs)) (is_word_byte b) (is_blank b) (is_mark b) (b == 34) (b == 47) refl refl refl refl refl refl (omega arith) o (found_below n)
 
 pub spelling_found : (bytes : List ℕ) (ps : List Piece) → lex_of bytes ≡ Ok ps → Found bytes ps
 spelling_found bytes ps o = found_below (length bytes) bytes ps (omega arith) o

@@ -4,7 +4,7 @@ use Rattle.std.specs.Prelude.{codes}
 use Rattle.std.specs.List.{AllByRecursion}
 use Rattle.std.specs.Str.{bytes_eq}
 use Rattle.planus_syntax.specs.Tokens.{Piece}
-use Rattle.planus_syntax.specs.Values.{Name, EnumerationV, UnionV, ItemV, include, namespace, attribute, table, struct, enumeration, union, service, root, identifier, extension, DeclarationV, is_some_of, is_whole_item, is_whole, AreWhole}
+use Rattle.planus_syntax.specs.Values.{Name, EnumerationV, UnionV, ItemV, include, native_include, namespace, attribute, table, struct, enumeration, union, service, root, identifier, extension, DeclarationV, is_some_of, is_whole_item, is_whole, AreWhole}
 use Rattle.planus_syntax.specs.Reading.{Reads, ◌>>=◌, many, list_at, with_items, is_some, begins_next, docs_at, word_at, mark_at, path_at, attributes_at, comma_at, variant_at, next_variant_at, member_at, next_member_at, variants_at, members_at, enumeration_at, union_at, record_at, service_at, quoted_at, rooted_at, namespace_at, declared_at, as_item, statement_at, item_at, declaration_at, schema_at}
 use Rattle.planus_syntax.proofs.Many.{bind_ok, ok_is, joined}
 use Rattle.planus_syntax.proofs.Loops.{chosen}
@@ -95,7 +95,8 @@ statement_whole key left ps x e0 =
     chosen (bytes_eq key (codes "root_type")) _ _ _ x e3 (λ _. any_made root rooted_at ps x (λ a. refl)) (λ e4.
     chosen (bytes_eq key (codes "file_identifier")) _ _ _ x e4 (λ _. any_made identifier quoted_at ps x (λ a. refl)) (λ e5.
     chosen (bytes_eq key (codes "file_extension")) _ _ _ x e5 (λ _. any_made extension quoted_at ps x (λ a. refl)) (λ e6.
-    absurd cc))))))
+    chosen (bytes_eq key (codes "native_include")) _ _ _ x e6 (λ _. any_made native_include quoted_at ps x (λ a. refl)) (λ e7.
+    absurd cc)))))))
 
 item_whole : (key : Name) (left : ℕ) (ps : List Piece) (x : ItemV × List Piece) → item_at key left ps ≡ Ok x → is_whole_item x.0 ≡ true
 unfolding item_at

@@ -146,12 +146,17 @@ pub record MethodCounted (m : Method) (rest : List Piece) : Type 0 where
   pub response : PathCounted m.response (after_response m rest)
   pub attributes : AttributesCounted m.attributes.items (mark 59 ∷ rest)
 
+abbrev pub service_body : Service → List Piece → List Piece
+service_body s rest =
+    mark 123 ∷ each_before method_before (map method_of s.methods.items) (mark 125 ∷ rest)
+
 abbrev pub ServiceCounted : Service → List Piece → Type 0
-ServiceCounted s rest =
-    EachCounted MethodCounted method_of method_before s.methods.items (mark 125 ∷ rest)
+ServiceCounted s rest = AttributesCounted s.attributes.items (service_body s rest)
+    × EachCounted MethodCounted method_of method_before s.methods.items (mark 125 ∷ rest)
 
 abbrev pub ItemCounted : Item → List Piece → Type 0
 ItemCounted (item.Include w) rest = Unit {0}
+ItemCounted (item.NativeInclude w) rest = Unit {0}
 ItemCounted (item.Namespace p) rest = IfAny PathCounted p (mark 59 ∷ rest)
 ItemCounted (item.Attribute l) rest = LabelCounted l (mark 59 ∷ rest)
 ItemCounted (item.Table r) rest = RecordCounted r rest

@@ -44,18 +44,28 @@ is_tight_piece (text w) = false
 is_tight_piece (doc w) = false
 is_tight_piece (mark b) = is_tight b
 
+abbrev pub is_number_piece : Piece → Bool
+is_number_piece (word w) = false
+is_number_piece (number w) = true
+is_number_piece (text w) = false
+is_number_piece (doc w) = false
+is_number_piece (mark b) = false
+
+-- A point is apart from a number, which it would begin.
 abbrev pub is_glued : Piece → Piece → Bool
 is_glued (word w) q = is_tight_piece q || is_mark_of 46 q
 is_glued (number w) q = is_tight_piece q
 is_glued (text w) q = is_tight_piece q
 is_glued (doc w) q = false
-is_glued (mark b) q = is_open b || is_tight_piece q
+is_glued (mark b) q =
+    (is_open b && not (b == 46 && is_number_piece q)) || is_tight_piece q
 
 -- words whose statements follow each other without an empty line
 abbrev pub is_grouped : Piece → Bool
 is_grouped (word w) =
-    bytes_eq w (codes "include") || (bytes_eq w (codes "attribute")
-    || (bytes_eq w (codes "file_identifier") || bytes_eq w (codes "file_extension")))
+    bytes_eq w (codes "include") || (bytes_eq w (codes "native_include")
+    || (bytes_eq w (codes "attribute") || (bytes_eq w (codes "file_identifier")
+    || bytes_eq w (codes "file_extension"))))
 is_grouped (number w) = false
 is_grouped (text w) = false
 is_grouped (doc w) = false

@@ -2,9 +2,12 @@
 use Rattle.std.specs.Prelude.{◌≡◌, ℕ, ◌==◌, ◌+◌, List, [], ◌∷◌, ◌++◌, length, if◌then◌else◌, Result}
 use Rattle.std.specs.Prelude.{Ok, Err}
 use Rattle.std.specs.Global.{Vec}
+use Rattle.std.specs.Char.{is_ascii_digit}
+use Rattle.std.specs.Str.{is_utf8}
 use Rattle.planus_syntax.specs.declared.lexer.LexFault.{LexFault}
 use Rattle.planus_syntax.specs.declared.lexer.LexFault.TheVariants.{BadNumber, OpenString, Escape}
 use Rattle.planus_syntax.specs.declared.lexer.LexFault.TheVariants.{OpenComment, Strange}
+use Rattle.planus_syntax.specs.declared.lexer.LexFault.TheVariants.{Control, NotUtf8}
 use Rattle.planus_syntax.specs.declared.lexer.LexError.{LexError}
 use Rattle.planus_syntax.specs.declared.lexer.LexError.TheVariants as errors
 use Rattle.planus_syntax.specs.declared.token.Token.{Token}
@@ -12,12 +15,14 @@ use Rattle.planus_syntax.specs.Tokens.{Piece, word, number, text, doc, mark, pie
 use Rattle.planus_syntax.specs.Tokens.{is_word_byte, is_number_start, is_number_byte, is_number}
 use Rattle.planus_syntax.specs.Tokens.{is_blank, is_mark, is_string_byte}
 
--- between tokens; in a word, a number, a string or documentation, with the bytes so far; after one
--- or two slashes; in a comment to the end of the line; in a comment to `*/`, and there after a `*`
+-- between tokens; in a word, a number, a string or documentation, with the bytes so far; after a
+-- point, which begins a number or is a mark; after one or two slashes; in a comment to the end of
+-- the line; in a comment to `*/`, and there after a `*`
 pub data State : Type 0 where
   between : State
   run : List ℕ → State
   figures : List ℕ → State
+  point : State
   quoted : List ℕ → State
   slash : State
   slashes : State
@@ -33,11 +38,15 @@ Step = Result (List Piece × State) LexFault
 abbrev pub number_piece : List ℕ → Result Piece LexFault
 number_piece w = if is_number w then Ok (number w) else Err BadNumber
 
+abbrev pub text_piece : List ℕ → Result Piece LexFault
+text_piece w = if is_utf8 w then Ok (text w) else Err NotUtf8
+
 abbrev pub opened : ℕ → Step
 opened b =
     if is_number_start b then Ok ([], figures (b ∷ []))
     else if is_word_byte b then Ok ([], run (b ∷ []))
     else if is_blank b then Ok ([], between)
+    else if b == 46 then Ok ([], point)
     else if is_mark b then Ok (mark b ∷ [], between)
     else if b == 34 then Ok ([], quoted [])
     else if b == 47 then Ok ([], slash)
@@ -53,7 +62,7 @@ closed (Err f) next = Err f
 
 -- why a string does not go on
 abbrev pub string_fault : ℕ → LexFault
-string_fault b = if b == 92 then Escape else OpenString
+string_fault b = if b == 92 then Escape else if b == 10 then OpenString else Control
 
 abbrev pub step : State → ℕ → Step
 step between b = opened b
@@ -61,8 +70,10 @@ step (run w) b =
     if is_word_byte b then Ok ([], run (w ++ b ∷ [])) else closed (Ok (word w)) (opened b)
 step (figures w) b =
     if is_number_byte b then Ok ([], figures (w ++ b ∷ [])) else closed (number_piece w) (opened b)
+step point b =
+    if is_ascii_digit b then Ok ([], figures (46 ∷ b ∷ [])) else closed (Ok (mark 46)) (opened b)
 step (quoted w) b =
-    if b == 34 then Ok (text w ∷ [], between)
+    if b == 34 then closed (text_piece w) (Ok ([], between))
     else if is_string_byte b then Ok ([], quoted (w ++ b ∷ []))
     else Err (string_fault b)
 step slash b =
@@ -85,6 +96,7 @@ abbrev pub finished : State → Step
 finished between = Ok ([], between)
 finished (run w) = Ok (word w ∷ [], between)
 finished (figures w) = closed (number_piece w) (Ok ([], between))
+finished point = Ok (mark 46 ∷ [], between)
 finished (quoted w) = Err OpenString
 finished slash = Err Strange
 finished slashes = Ok ([], between)

@@ -13,7 +13,7 @@ use Rattle.planus_syntax.specs.Layout.{is_mark_of}
 use Rattle.planus_syntax.specs.Values.{Name, PathV, KindV, single, vector, LiteralV, numeral, named}
 use Rattle.planus_syntax.specs.Values.{quote, nothing, LabelV, AttributeV, FieldV, RecordV}
 use Rattle.planus_syntax.specs.Values.{VariantV, EnumerationV, MemberV, UnionV, MethodV, ServiceV}
-use Rattle.planus_syntax.specs.Values.{ItemV, include, namespace, attribute, table, struct}
+use Rattle.planus_syntax.specs.Values.{ItemV, include, native_include, namespace, attribute, table, struct}
 use Rattle.planus_syntax.specs.Values.{enumeration, union, service, root, identifier, extension}
 use Rattle.planus_syntax.specs.Values.{DeclarationV, Before}
 
@@ -333,10 +333,11 @@ method_at ps = do
 unfoldable pub service_at : List Piece → Reads ServiceV
 service_at ps = do
   name ← word_at ps
-  start ← mark_at 123 name.1
+  attributes ← attributes_at name.1
+  start ← mark_at 123 attributes.1
   methods ← list_at inside method_at start
   end ← mark_at 125 methods.1
-  Ok (record { name = name.0; methods = methods.0 }, end)
+  Ok (record { name = name.0; attributes = attributes.0; methods = methods.0 }, end)
 
 unfoldable pub quoted_at : List Piece → Reads (List ℕ)
 quoted_at ps = do
@@ -373,6 +374,7 @@ statement_at key left ps =
     else if bytes_eq key (codes "root_type") then as_item root (rooted_at ps)
     else if bytes_eq key (codes "file_identifier") then as_item identifier (quoted_at ps)
     else if bytes_eq key (codes "file_extension") then as_item extension (quoted_at ps)
+    else if bytes_eq key (codes "native_include") then as_item native_include (quoted_at ps)
     else Err (fault.Declaration, left)
 
 unfoldable pub item_at : Name → ℕ → List Piece → Reads ItemV

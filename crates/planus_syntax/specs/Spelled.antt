@@ -2,6 +2,7 @@
 use Rattle.std.specs.Prelude.{◌≡◌, ℕ, Bool, true, false, ◌==◌, ◌&&◌, not, List, [], ◌∷◌, ◌++◌}
 use Rattle.std.specs.Prelude.{if◌then◌else◌, take, drop}
 use Rattle.std.specs.Str.{bytes_eq}
+use Rattle.std.specs.Char.{is_ascii_digit}
 use Rattle.std.specs.List.{list_all}
 use Rattle.planus_syntax.specs.Tokens.{Piece, word, number, text, doc, mark, begins, bytes_of}
 use Rattle.planus_syntax.specs.Tokens.{is_lawful, is_word_byte, is_number_byte, is_blank}
@@ -40,13 +41,13 @@ is_part (comment w) = list_all is_line_byte w && not (begins (λ b. b == 47) w)
 is_part (block w) = stays_open w
 
 -- bytes that would lengthen a token and so can't follow it: letters and digits a word, these,
--- points and signs a number, any but a line feed documentation and comments
+-- points and signs a number, digits a point, any but a line feed documentation and comments
 abbrev pub goes_on : Part → ℕ → Bool
 goes_on (token (word w)) b = is_word_byte b
 goes_on (token (number w)) b = is_number_byte b
 goes_on (token (text w)) b = false
 goes_on (token (doc w)) b = is_line_byte b
-goes_on (token (mark m)) b = false
+goes_on (token (mark m)) b = m == 46 && is_ascii_digit b
 goes_on (blank c) b = false
 goes_on (comment w) b = is_line_byte b
 goes_on (block w) b = false

@@ -1,8 +1,8 @@
 -- The tokens of a schema, and how each is written.
 use Rattle.std.specs.Prelude.{ℕ, Bool, true, false, ◌==◌, ◌&&◌, ◌||◌, not, List, [], ◌∷◌, ◌++◌, map}
-use Rattle.std.specs.Prelude.{codes, if◌then◌else◌, fold}
+use Rattle.std.specs.Prelude.{codes, if◌then◌else◌, fold, nat_lt}
 use Rattle.std.specs.List.{list_all, list_any}
-use Rattle.std.specs.Str.{str_eq_ignore_ascii_case}
+use Rattle.std.specs.Str.{str_eq_ignore_ascii_case, is_utf8}
 use Rattle.std.specs.Char.{is_ascii_digit, is_ascii_alphabetic, is_ascii_hexdigit}
 use Rattle.planus_syntax.specs.declared.number.NumberState.{NumberState}
 use Rattle.planus_syntax.specs.declared.number.NumberState.TheVariants.{Start, Sign, Zero, Digits}
@@ -45,6 +45,11 @@ is_word_byte b = is_ascii_alphabetic b || (is_ascii_digit b || b == 95)
 abbrev pub is_number_start : ℕ → Bool
 is_number_start b = is_ascii_digit b || (b == 43 || b == 45)
 
+-- a digit or a sign, or a point before a digit
+abbrev pub starts_number : List ℕ → Bool
+starts_number [] = false
+starts_number (b ∷ bs) = is_number_start b || (b == 46 && begins is_ascii_digit bs)
+
 abbrev pub is_number_byte : ℕ → Bool
 is_number_byte b = is_word_byte b || (b == 46 || (b == 43 || b == 45))
 
@@ -54,9 +59,9 @@ is_blank b = b == 32 || (b == 10 || (b == 9 || b == 13))
 abbrev pub is_mark : ℕ → Bool
 is_mark b = list_any (λ m. m == b) (codes "{}()[]:;,=.")
 
--- no quote, no backslash, no line feed
+-- no quote, no backslash, no control character, as a tab and a line feed
 abbrev pub is_string_byte : ℕ → Bool
-is_string_byte b = not (b == 34 || (b == 92 || b == 10))
+is_string_byte b = not (b == 34 || (b == 92 || nat_lt b 32))
 
 abbrev pub is_line_byte : ℕ → Bool
 is_line_byte b = not (b == 10)
@@ -141,8 +146,8 @@ is_some (b ∷ bs) = true
 -- which tokens there are
 abbrev pub is_lawful : Piece → Bool
 is_lawful (word w) = is_some w && (list_all is_word_byte w && not (begins is_number_start w))
-is_lawful (number w) = begins is_number_start w && (list_all is_number_byte w && is_number w)
-is_lawful (text w) = list_all is_string_byte w
+is_lawful (number w) = starts_number w && (list_all is_number_byte w && is_number w)
+is_lawful (text w) = list_all is_string_byte w && is_utf8 w
 is_lawful (doc w) = list_all is_line_byte w
 is_lawful (mark b) = is_mark b
 

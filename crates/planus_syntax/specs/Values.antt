@@ -100,10 +100,12 @@ pub record MethodV : Type 0 where
 
 pub record ServiceV : Type 0 where
   pub name : Name
+  pub attributes : List AttributeV
   pub methods : List MethodV
 
 pub data ItemV : Type 0 where
   include : List ℕ → ItemV
+  native_include : List ℕ → ItemV
   namespace : Option PathV → ItemV
   attribute : LabelV → ItemV
   table : RecordV → ItemV
@@ -219,7 +221,8 @@ method_before m rest =
 
 abbrev pub service_before : Before ServiceV
 service_before s rest =
-    word s.name ∷ mark 123 ∷ each_before method_before s.methods (mark 125 ∷ rest)
+    word s.name ∷ attributes_before s.attributes
+    (mark 123 ∷ each_before method_before s.methods (mark 125 ∷ rest))
 
 abbrev pub quoted_before : Before (List ℕ)
 quoted_before w rest = text w ∷ mark 59 ∷ rest
@@ -236,6 +239,7 @@ declared_before l rest = label_before l (mark 59 ∷ rest)
 
 abbrev pub item_before : Before ItemV
 item_before (include w) rest = word (codes "include") ∷ quoted_before w rest
+item_before (native_include w) rest = word (codes "native_include") ∷ quoted_before w rest
 item_before (namespace p) rest = word (codes "namespace") ∷ namespace_before p rest
 item_before (attribute l) rest = word (codes "attribute") ∷ declared_before l rest
 item_before (table r) rest = word (codes "table") ∷ record_before r rest
@@ -260,6 +264,7 @@ is_some_of (x ∷ xs) = true
 -- an enum has a variant, and a union a member
 abbrev pub is_whole_item : ItemV → Bool
 is_whole_item (include w) = true
+is_whole_item (native_include w) = true
 is_whole_item (namespace p) = true
 is_whole_item (attribute l) = true
 is_whole_item (table r) = true
@@ -370,10 +375,15 @@ method_of m = record {
 }
 
 abbrev pub service_of : Service → ServiceV
-service_of s = record { name = s.name.items; methods = map method_of s.methods.items }
+service_of s = record {
+  name = s.name.items;
+  attributes = map attribute_of s.attributes.items;
+  methods = map method_of s.methods.items;
+}
 
 abbrev pub item_of : Item → ItemV
 item_of (item.Include w) = include w.items
+item_of (item.NativeInclude w) = native_include w.items
 item_of (item.Namespace p) = namespace (option_map path_of p)
 item_of (item.Attribute l) = attribute (label_of l)
 item_of (item.Table r) = table (record_of r)

@@ -4,7 +4,7 @@ ghost use Rattle.std.specs.Prelude.{◌≡◌, ◌++◌, IfOk, OnOk};
 ghost use Rattle.planus_syntax.specs.Tokens.{bytes_of, piece_of, pieces_of, word as word_piece};
 ghost use Rattle.planus_syntax.specs.Layout.{is_mark_of, place_after as place_after_lem, outside};
 ghost use Rattle.planus_syntax.specs.Layout.{is_tight as is_tight_lem, is_open as is_open_lem};
-ghost use Rattle.planus_syntax.specs.Layout.{is_tight_piece, is_glued as is_glued_lem};
+ghost use Rattle.planus_syntax.specs.Layout.{is_tight_piece, is_number_piece, is_glued as is_glued_lem};
 ghost use Rattle.planus_syntax.specs.Layout.{is_grouped as is_grouped_lem};
 ghost use Rattle.planus_syntax.specs.Layout.{new_line as new_line_lem, apart as apart_lem};
 ghost use Rattle.planus_syntax.specs.Layout.{between_declarations as between_declarations_lem};
@@ -78,6 +78,15 @@ fn is_tight(token: &Token) -> bool
     }
 }
 
+fn is_number(token: &Token) -> bool
+    ensures { result ≡ is_number_piece (piece_of token.now) }
+{
+    match token {
+        Token::Number(_) => true,
+        _ => false,
+    }
+}
+
 fn is_glued(first: &Token, second: &Token) -> bool
     ensures { result ≡ is_glued_lem (piece_of first.now) (piece_of second.now) }
 {
@@ -85,7 +94,9 @@ fn is_glued(first: &Token, second: &Token) -> bool
         Token::Word(_) => is_tight(second) || is_mark(second, b'.'),
         Token::Number(_) | Token::Text(_) => is_tight(second),
         Token::Doc(_) => false,
-        Token::Mark(byte) => is_open(*byte) || is_tight(second),
+        Token::Mark(byte) => {
+            (is_open(*byte) && !(*byte == b'.' && is_number(second))) || is_tight(second)
+        }
     }
 }
 
@@ -93,6 +104,7 @@ fn is_grouped_word(word: &[u8]) -> bool
     ensures { result ≡ is_grouped_lem (word_piece word.now) }
 {
     word == b"include".as_slice()
+        || word == b"native_include".as_slice()
         || word == b"attribute".as_slice()
         || word == b"file_identifier".as_slice()
         || word == b"file_extension".as_slice()

@@ -3,11 +3,13 @@
 ghost use Rattle.std.specs.Prelude.{◌≡◌, ◌<◌, ◌≤◌, ◌+◌, length, IfOk, IfErr};
 ghost use Rattle.std.specs.Prelude.{MatchOption};
 ghost use Rattle.std.specs.Prelude.{Ok, false, true, List, [], ◌∷◌, ◌==◌};
+ghost use Rattle.std.specs.Str.{is_utf8 as is_utf8_lem};
 ghost use Rattle.planus_syntax.specs.Tokens.{begins, piece_of};
 ghost use Rattle.planus_syntax.specs.Tokens.{is_word_byte as is_word_byte_lem};
 ghost use Rattle.planus_syntax.specs.Tokens.{is_mark as is_mark_lem};
 ghost use Rattle.planus_syntax.specs.Tokens.{is_number_start as is_number_start_lem};
 ghost use Rattle.planus_syntax.specs.Tokens.{is_number_byte as is_number_byte_lem};
+ghost use Rattle.planus_syntax.specs.Tokens.{starts_number as starts_number_lem};
 ghost use Rattle.planus_syntax.specs.Tokens.{is_blank as is_blank_lem};
 ghost use Rattle.planus_syntax.specs.Lexing.{Answers, block, lex_from, lex_of, slashes, with_front};
 ghost use Rattle.planus_syntax.specs.Cutting.{cut_piece, pieces_in, Cuts, Skips, Splits};
@@ -31,6 +33,10 @@ pub enum LexFault {
     OpenString,
     /// A backslash is in a string.
     Escape,
+    /// A control character, as a tab, is in a string.
+    Control,
+    /// A string is not UTF-8. The place is its end.
+    NotUtf8,
     /// A comment has no `*/`.
     OpenComment,
     /// A byte begins no token.
@@ -78,6 +84,19 @@ fn is_number_start(b: u8) -> bool
     b.is_ascii_digit() || b == b'+' || b == b'-'
 }
 
+fn starts_number(bytes: &[u8]) -> bool
+    ensures { result ≡ starts_number_lem bytes.now }
+{
+    match bytes.split_first() {
+        Some((b'.', rest)) => match rest.split_first() {
+            Some((next, _)) => next.is_ascii_digit(),
+            None => false,
+        },
+        Some((first, _)) => is_number_start(*first),
+        None => false,
+    }
+}
+
 fn is_number_byte(b: u8) -> bool
     ensures { result ≡ is_number_byte_lem b }
 {
@@ -102,7 +121,7 @@ fn goes_on(run: Run, b: u8) -> bool
     match run {
         Run::Word => is_word_byte(b),
         Run::Number => is_number_byte(b),
-        Run::Text => !(b == b'"' || b == b'\\' || b == b'\n'),
+        Run::Text => !(b == b'"' || b == b'\\' || b < b' '),
         Run::Line => b != b'\n',
     }
 }
@@ -149,7 +168,7 @@ fn word_at(bytes: &[u8]) -> (Option<Lexeme>, &[u8])
 }
 
 fn number_at(bytes: &[u8]) -> Result<(Option<Lexeme>, &[u8]), Stop>
-    requires { begins is_number_start_lem bytes.now ≡ true }
+    requires { starts_number_lem bytes.now ≡ true }
     ensures cuts { Cuts bytes.now result }
     ensures starts { IfOk result (λ x. Starts bytes.now x.0 x.1.now) }
     ensures shorter { IfOk result (λ x. length x.1.now < length bytes.now) }
@@ -166,12 +185,22 @@ fn number_at(bytes: &[u8]) -> Result<(Option<Lexeme>, &[u8]), Stop>
     }
 }
 
+fn is_utf8(bytes: &[u8]) -> bool
+    ensures { result ≡ is_utf8_lem bytes.now }
+{
+    match std::str::from_utf8(bytes) {
+        Ok(_) => true,
+        Err(_) => false,
+    }
+}
+
 fn string_fault(bytes: &[u8]) -> LexFault
     ensures { result ≡ string_stop bytes.now }
 {
     match bytes.split_first() {
         Some((b'\\', _)) => LexFault::Escape,
-        _ => LexFault::OpenString,
+        Some((b'\n', _)) | None => LexFault::OpenString,
+        _ => LexFault::Control,
     }
 }
 
@@ -183,7 +212,16 @@ fn string_at(bytes: &[u8]) -> Result<(Option<Lexeme>, &[u8]), Stop>
 {
     let (text, rest) = split(Run::Text, bytes);
     match after(rest, b'"') {
-        Some(rest) => Ok((Some(Lexeme::Text(text)), rest)),
+        Some(end) => {
+            if is_utf8(text) {
+                Ok((Some(Lexeme::Text(text)), end))
+            } else {
+                Err(Stop {
+                    fault: LexFault::NotUtf8,
+                    left: rest.len(),
+                })
+            }
+        }
         None => Err(Stop {
             fault: string_fault(rest),
             left: rest.len(),
@@ -267,7 +305,7 @@ fn token_at(bytes: &[u8]) -> Result<(Option<Lexeme>, &[u8]), Stop>
         return Ok((None, bytes));
     };
     let first = *first;
-    if is_number_start(first) {
+    if starts_number(bytes) {
         number_at(bytes)
     } else if is_word_byte(first) {
         Ok(word_at(bytes))

@@ -120,6 +120,7 @@ pub struct Method {
 #[derive(Drop)]
 pub struct Service {
     pub name: Vec<u8>,
+    pub attributes: Vec<Attribute>,
     pub methods: Vec<Method>,
 }
 
@@ -128,6 +129,8 @@ pub struct Service {
 pub enum Item {
     /// `include "FILE";`.
     Include(Vec<u8>),
+    /// `native_include "FILE";`, of which only generated code of other languages makes something.
+    NativeInclude(Vec<u8>),
     /// `namespace NAME;`, or `namespace;`.
     Namespace(Option<Path>),
     /// `attribute NAME;`.

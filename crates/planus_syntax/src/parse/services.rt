@@ -69,8 +69,16 @@ pub(crate) fn service_at(alloc: Global, tokens: &[Token]) -> Result<(Item, &[Tok
         (as_item service_item (service_at_lem (pieces_of tokens.now))) }
 {
     let (name, rest) = or_return!(word_at(alloc, tokens));
+    let (attributes, rest) = or_return!(attributes_at(alloc, rest));
     let rest = or_return!(mark_at(rest, b'{'));
     let (methods, rest) = or_return!(list_of::<Methods>(alloc, rest));
     let rest = or_return!(mark_at(rest, b'}'));
-    Ok((Item::Service(Service { name, methods }), rest))
+    Ok((
+        Item::Service(Service {
+            name,
+            attributes,
+            methods,
+        }),
+        rest,
+    ))
 }

@@ -103,6 +103,9 @@ fn statement_at<'a>(
     } else if is_word(key, b"file_extension") {
         let (held, rest) = or_return!(quoted_at(alloc, tokens));
         Ok((Item::FileExtension(held), rest))
+    } else if is_word(key, b"native_include") {
+        let (held, rest) = or_return!(quoted_at(alloc, tokens));
+        Ok((Item::NativeInclude(held), rest))
     } else {
         Err(ReadError::Fault {
             fault: ParseFault::Declaration,

@@ -12,6 +12,7 @@ use Rattle.planus_schema.proofs.checks.add_customs.Goals as goal
 
 no_custom : (i : Item) → ((l : Label) → i ≡ item.Attribute l → ⊥) → customs_at i ≡ []
 no_custom (item.Include w) other = refl
+no_custom (item.NativeInclude w) other = refl
 no_custom (item.Namespace p) other = refl
 no_custom (item.Attribute l) other = absurd (other l refl)
 no_custom (item.Table r) other = refl

@@ -14,6 +14,7 @@ use Rattle.planus_schema.proofs.statements.state.Goals as goal
 
 nothing_said : (hs : List HeadV) (space : SpaceV) (x : StatementsV) (i : Item) → ((p : Path) → i ≡ item.RootType p → ⊥) → ((w : Vec ℕ) → i ≡ item.FileIdentifier w → ⊥) → ((w : Vec ℕ) → i ≡ item.FileExtension w → ⊥) → after hs space x (item_of i) ≡ x
 nothing_said hs space x (item.Include w) a b c = refl
+nothing_said hs space x (item.NativeInclude w) a b c = refl
 nothing_said hs space x (item.Namespace p) a b c = refl
 nothing_said hs space x (item.Attribute l) a b c = refl
 nothing_said hs space x (item.Table r) a b c = refl
@@ -27,6 +28,7 @@ nothing_said hs space x (item.FileExtension w) a b c = absurd (c w refl)
 
 nothing_wrong : (hs : List HeadV) (space : SpaceV) (x : ℕ) (i : Item) → ((p : Path) → i ≡ item.RootType p → ⊥) → ((w : Vec ℕ) → i ≡ item.FileIdentifier w → ⊥) → ((w : Vec ℕ) → i ≡ item.FileExtension w → ⊥) → wrong_statement hs space x i ≡ None
 nothing_wrong hs space x (item.Include w) a b c = refl
+nothing_wrong hs space x (item.NativeInclude w) a b c = refl
 nothing_wrong hs space x (item.Namespace p) a b c = refl
 nothing_wrong hs space x (item.Attribute l) a b c = refl
 nothing_wrong hs space x (item.Table r) a b c = refl

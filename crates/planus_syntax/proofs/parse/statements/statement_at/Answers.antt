@@ -55,6 +55,17 @@ returns-in-Ok-quoted_at-2 c = (
   tt,
 )
 
-pub returns-else-is_word-6 : goal.returns-else-is_word-6
+pub returns-in-Err-quoted_at-3 : goal.returns-in-Err-quoted_at-3
 unfolding statement_at
-returns-else-is_word-6 c = other_way _ _ _ (sym c.is_word.ensures ∙ c.if-is_word.false) ∙ other_way _ _ _ (sym c.is_word-else-is_word.ensures ∙ c.if-is_word-2.false) ∙ other_way _ _ _ (sym c.is_word-else-is_word-2.ensures ∙ c.if-is_word-3.false) ∙ other_way _ _ _ (sym c.is_word-else-is_word-3.ensures ∙ c.if-is_word-4.false) ∙ other_way _ _ _ (sym c.is_word-else-is_word-4.ensures ∙ c.if-is_word-5.false) ∙ other_way _ _ _ (sym c.is_word-else-is_word-5.ensures ∙ c.if-is_word-6.false)
+returns-in-Err-quoted_at-3 c = fails_other _ _ _ _ (sym c.is_word.ensures ∙ c.if-is_word.false) (fails_other _ _ _ _ (sym c.is_word-else-is_word.ensures ∙ c.if-is_word-2.false) (fails_other _ _ _ _ (sym c.is_word-else-is_word-2.ensures ∙ c.if-is_word-3.false) (fails_other _ _ _ _ (sym c.is_word-else-is_word-3.ensures ∙ c.if-is_word-4.false) (fails_other _ _ _ _ (sym c.is_word-else-is_word-4.ensures ∙ c.if-is_word-5.false) (fails_other _ _ _ _ (sym c.is_word-else-is_word-5.ensures ∙ c.if-is_word-6.false) (fails_first _ _ _ _ (sym c.is_word-else-is_word-6.ensures ∙ c.if-is_word-7.true) (fails_here _ _ _ c.in-Err-quoted_at-3.ensures)))))))
+
+pub returns-in-Ok-quoted_at-3 : goal.returns-in-Ok-quoted_at-3
+unfolding statement_at
+returns-in-Ok-quoted_at-3 c = (
+  other_way _ _ _ (sym c.is_word.ensures ∙ c.if-is_word.false) ∙ other_way _ _ _ (sym c.is_word-else-is_word.ensures ∙ c.if-is_word-2.false) ∙ other_way _ _ _ (sym c.is_word-else-is_word-2.ensures ∙ c.if-is_word-3.false) ∙ other_way _ _ _ (sym c.is_word-else-is_word-3.ensures ∙ c.if-is_word-4.false) ∙ other_way _ _ _ (sym c.is_word-else-is_word-4.ensures ∙ c.if-is_word-5.false) ∙ other_way _ _ _ (sym c.is_word-else-is_word-5.ensures ∙ c.if-is_word-6.false) ∙ first_way _ _ _ (sym c.is_word-else-is_word-6.ensures ∙ c.if-is_word-7.true) ∙ reads_on _ _ _ _ c.in-Ok-quoted_at-3.ensures refl,
+  tt,
+)
+
+pub returns-else-is_word-7 : goal.returns-else-is_word-7
+unfolding statement_at
+returns-else-is_word-7 c = other_way _ _ _ (sym c.is_word.ensures ∙ c.if-is_word.false) ∙ other_way _ _ _ (sym c.is_word-else-is_word.ensures ∙ c.if-is_word-2.false) ∙ other_way _ _ _ (sym c.is_word-else-is_word-2.ensures ∙ c.if-is_word-3.false) ∙ other_way _ _ _ (sym c.is_word-else-is_word-3.ensures ∙ c.if-is_word-4.false) ∙ other_way _ _ _ (sym c.is_word-else-is_word-4.ensures ∙ c.if-is_word-5.false) ∙ other_way _ _ _ (sym c.is_word-else-is_word-5.ensures ∙ c.if-is_word-6.false) ∙ other_way _ _ _ (sym c.is_word-else-is_word-6.ensures ∙ c.if-is_word-7.false)
