@@ -10,3 +10,4 @@ pub mod Composed
 pub mod Placed
 pub mod Whole
 pub mod Steps
+pub mod Unique

@@ -26,7 +26,7 @@ begins_same : (rest : List ℕ) → begins (λ b. true && is_ascii_digit b) rest
 begins_same [] h = refl
 begins_same (b ∷ rest) h = h
 
-no_digit : (v : Bool) (rest : List ℕ) → v ≡ true → begins (λ b. v && is_ascii_digit b) rest ≡ false → begins is_ascii_digit rest ≡ false
+pub no_digit : (v : Bool) (rest : List ℕ) → v ≡ true → begins (λ b. v && is_ascii_digit b) rest ≡ false → begins is_ascii_digit rest ≡ false
 no_digit true rest e h = begins_same rest h
 no_digit false rest e h = absurd cc
 

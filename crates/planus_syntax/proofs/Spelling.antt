@@ -17,7 +17,7 @@ use Rattle.planus_syntax.specs.Spelled.{Part, token, blank, comment, block, part
 use Rattle.planus_syntax.proofs.Scanning.{both, no_front, digit_goes, a_word, a_number, started, a_string, bad_string, third_slash, two_slashes, slash_slash, slash_star, block_closes, block_goes, no_number, no_string, one_slash}
 use Rattle.planus_syntax.proofs.Marks.{a_mark, point_stops, neither, word_front, front_says, not_true, never}
 
-blank_at : (P : ℕ → Type 0) (b : ℕ) (u v w x : Bool) → (b == 32) ≡ u → (b == 10) ≡ v → (b == 9) ≡ w → (b == 13) ≡ x → (u || (v || (w || x))) ≡ true → P 32 → P 10 → P 9 → P 13 → P b
+pub blank_at : (P : ℕ → Type 0) (b : ℕ) (u v w x : Bool) → (b == 32) ≡ u → (b == 10) ≡ v → (b == 9) ≡ w → (b == 13) ≡ x → (u || (v || (w || x))) ≡ true → P 32 → P 10 → P 9 → P 13 → P b
 blank_at P b true v w x e f g h t p q r s = subst P (sym (eqb-true b 32 e)) p
 blank_at P b false true w x e f g h t p q r s = subst P (sym (eqb-true b 10 f)) q
 blank_at P b false false true x e f g h t p q r s = subst P (sym (eqb-true b 9 g)) r
@@ -31,7 +31,7 @@ feed : (b : ℕ) (v : Bool) → (b == 10) ≡ v → not v ≡ false → b ≡ 10
 feed b true e h = eqb-true b 10 e
 feed b false e h = absurd cc
 
-no_third : (w rest : List ℕ) → begins (λ b. b == 47) w ≡ false → begins is_line_byte rest ≡ false → begins (λ b. b == 47) (w ++ rest) ≡ false
+pub no_third : (w rest : List ℕ) → begins (λ b. b == 47) w ≡ false → begins is_line_byte rest ≡ false → begins (λ b. b == 47) (w ++ rest) ≡ false
 no_third (c ∷ w) rest h s = h
 no_third [] [] h s = refl
 no_third [] (b ∷ rest) h s = subst (λ x. (x == 47) ≡ false) (sym (feed b (b == 10) refl s)) refl
@@ -45,7 +45,7 @@ starts_on_at : (v x : Bool) (w rest : List ℕ) → (v || (x && begins is_ascii_
 starts_on_at true x w rest h = refl
 starts_on_at false x w rest h = digit_on x w rest h
 
-starts_on : (w rest : List ℕ) → starts_number w ≡ true → starts_number (w ++ rest) ≡ true
+pub starts_on : (w rest : List ℕ) → starts_number w ≡ true → starts_number (w ++ rest) ≡ true
 starts_on [] rest h = absurd cc
 starts_on (c ∷ w) rest h = starts_on_at (is_number_start c) (c == 46) w rest h
 
@@ -79,7 +79,7 @@ and_false : (a : Bool) → (a && false) ≡ false
 and_false true = refl
 and_false false = refl
 
-closes_on : (b : ℕ) (w rest : List ℕ) → closes (b ∷ w) ≡ false → closes (b ∷ (w ++ 42 ∷ 47 ∷ rest)) ≡ false
+pub closes_on : (b : ℕ) (w rest : List ℕ) → closes (b ∷ w) ≡ false → closes (b ∷ (w ++ 42 ∷ 47 ∷ rest)) ≡ false
 closes_on b [] rest h = and_false (b == 42)
 closes_on b (c ∷ w) rest h = h
 

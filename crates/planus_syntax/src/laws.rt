@@ -8,6 +8,7 @@ ghost use Rattle.planus_syntax.specs.Lexing.{lex_of};
 ghost use Rattle.planus_syntax.specs.Values.{DeclarationV, IsSchema, AreWhole};
 ghost use Rattle.planus_syntax.specs.Values.{schema_pieces, text_of};
 ghost use Rattle.planus_syntax.specs.Reading.{schema_at};
+ghost use Rattle.planus_syntax.specs.Placing.{StandsAt};
 ghost use Rattle.planus_syntax.specs.Spelled.{Part, AreParts, spelled, tokens_in};
 
 /// The canonical layout of tokens is a spelling of them.
@@ -40,4 +41,10 @@ pub fn spelling_found()
     ensures { (bytes : List ℕ) (pieces : List Piece) → lex_of bytes ≡ Ok pieces
         → (parts : List Part) × AreParts parts × (bytes ≡ spelled parts)
         × (pieces ≡ tokens_in parts) }
+{}
+
+/// A token has one place in a text: no other byte, as one in a comment, is the place of its index.
+pub fn one_place()
+    ensures { (bytes : List ℕ) (pieces : List Piece) (index a b : ℕ)
+        → StandsAt bytes pieces index a → StandsAt bytes pieces index b → a ≡ b }
 {}

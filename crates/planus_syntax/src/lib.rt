@@ -15,7 +15,9 @@ mod text;
 mod token;
 mod value;
 
-pub use laws::{declarations_again, layout_spells, one_schema, spelling_found, spelling_read};
+pub use laws::{
+    declarations_again, layout_spells, one_place, one_schema, spelling_found, spelling_read,
+};
 pub use lexer::LexFault;
 pub use parse_fault::ParseFault;
 pub use text::{SchemaError, after_order_mark, format_text, parse_text, place_from_end};
