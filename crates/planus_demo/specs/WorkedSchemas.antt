@@ -3,7 +3,7 @@ use Rattle.std.specs.Prelude.{ℕ, List, [], ◌∷◌, codes, None}
 use Rattle.planus.specs.Steps.{Step, text, bytes, refs, unions, table, finish, root_first}
 use Rattle.planus.specs.Steps.{number_field, ref_field, tags_field, values_field}
 use Rattle.planus_dump.specs.Describes.{Fits}
-use Rattle.planus_dump.specs.Shapes.{TableShape, HasShape, field_of}
+use Rattle.planus_dump.specs.Shapes.{TableShape, VariantShape, HasShape, field_of}
 use Rattle.planus_dump.specs.declared.schemas.Schema.{Schema}
 use Rattle.planus_dump.specs.declared.schemas.Kind.TheVariants.{One, List as ListOf, Union}
 use Rattle.planus_dump.specs.declared.schemas.Kind.TheVariants.{UnionVector, Bytes}
@@ -30,8 +30,12 @@ monster_shape =
 abbrev pub worked_tables : List TableShape
 worked_tables = weapon_shape ∷ monster_shape ∷ []
 
-abbrev pub worked_unions : List (List (ℕ × ℕ))
-worked_unions = ((1, 0) ∷ []) ∷ []
+-- one variant, of no name, for weapons
+abbrev pub equipment_shape : List VariantShape
+equipment_shape = record { tag = 1; name = []; table = 0 } ∷ []
+
+abbrev pub worked_unions : List (List VariantShape)
+worked_unions = equipment_shape ∷ []
 
 -- Step 1 is the axe, step 6 the monster, which has it as weapon, equipment and loot.
 abbrev pub worked_steps : List Step

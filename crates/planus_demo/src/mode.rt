@@ -1,12 +1,13 @@
 ghost use Rattle.std.specs.Prelude.{◌≡◌, ◌++◌, [], ◌∷◌, map, IfOk, OnOk};
 ghost use Rattle.std.specs.String.{string_bytes};
-ghost use Rattle.planus_dump.specs.Shapes.{field_shape, field_of, table_shape, HasShape};
+ghost use Rattle.planus_dump.specs.Shapes.{field_shape, field_of, table_shape, union_shape};
+ghost use Rattle.planus_dump.specs.Shapes.{HasShape};
 ghost use Rattle.planus_demo.specs.WorkedSchemas.{weapon_shape, monster_shape, worked_tables};
-ghost use Rattle.planus_demo.specs.WorkedSchemas.{worked_unions};
+ghost use Rattle.planus_demo.specs.WorkedSchemas.{equipment_shape, worked_unions};
 ghost use Rattle.planus_demo.specs.ModeWords.{IsMode};
 
 use crate::modes::Mode;
-use planus_dump::{FieldSchema, Item, Kind, Schema, TableSchema};
+use planus_dump::{FieldSchema, Item, Kind, Schema, TableSchema, VariantSchema};
 use std::alloc::{AllocError, Global};
 
 /// Returns the mode of these arguments, or `None` for others.
@@ -34,6 +35,7 @@ pub fn field(alloc: Global, slot: usize, name: &str, kind: Kind) -> Result<Field
         name,
         kind,
         deprecated: false,
+        required: false,
     })
 }
 
@@ -89,6 +91,20 @@ fn monster(alloc: Global) -> Result<TableSchema, AllocError>
     Ok(TableSchema { name, fields })
 }
 
+// Its variant has no name, so that none is printed.
+fn equipment(alloc: Global) -> Result<Vec<VariantSchema>, AllocError>
+    ensures { IfOk result (λ variants. union_shape variants ≡ equipment_shape) }
+{
+    let mut variants = Vec::new(alloc);
+    let name = String::new(alloc);
+    variants.push(VariantSchema {
+        tag: 1,
+        name,
+        table: 0,
+    })?;
+    Ok(variants)
+}
+
 /// Returns the schema of weapons and monsters with the root 0, a weapon, or 1, a monster.
 pub fn schema(alloc: Global, root: usize) -> Result<Schema, AllocError>
     ensures { IfOk result (λ schema. HasShape schema worked_tables worked_unions root) }
@@ -97,7 +113,7 @@ pub fn schema(alloc: Global, root: usize) -> Result<Schema, AllocError>
     tables.push(weapon(alloc)?)?;
     tables.push(monster(alloc)?)?;
     let mut unions = Vec::new(alloc);
-    unions.push(Vec::from_slice(alloc, &[(1, 0)])?)?;
+    unions.push(equipment(alloc)?)?;
     Ok(Schema {
         tables,
         unions,

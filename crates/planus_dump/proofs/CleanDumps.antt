@@ -13,14 +13,14 @@ use Rattle.planus_dump.specs.FaultLines.{is_fault_line, IsNoFault, HaveNoFault}
 use Rattle.planus_dump.specs.Events.{Event, line, deep, float}
 use Rattle.planus_dump.specs.Dumped.{greatest_depth, Shows, AreShown}
 use Rattle.planus_dump.specs.Laws.{FinishesHaveNoFault, DumpsHaveNoFault}
-use Rattle.planus_dump.proofs.FaultLines.{good_names, lines_told}
+use Rattle.planus_dump.proofs.FaultLines.{good_names, good_tags, lines_told}
 use Rattle.planus_dump.proofs.NoFaults.{tables_no_fault}
 
 pub finishes_have_no_fault : FinishesHaveNoFault
 finishes_have_no_fault settings steps given holds schema good fits =
     let leads : Leads given.bytes (root_at holds.front) (position_of given.bytes holds.leads.0) = references_lead given.bytes (root_at holds.front) holds.leads.0 holds.leads.2 in
     let at_zero : root_at holds.front ≡ root_at holds.front + 0 = omega arith in
-    tables_no_fault steps given holds.values schema (good_names schema good) greatest_depth schema.root holds.root holds.leads.0 (root_at holds.front) 0 (codes "root") fits holds.leads.1
+    tables_no_fault steps given holds.values schema (good_names schema good) (good_tags schema good) greatest_depth schema.root holds.root holds.leads.0 (root_at holds.front) 0 (codes "root") fits holds.leads.1
     (subst (λ n. Leads given.bytes n (position_of given.bytes holds.leads.0)) at_zero leads) (refl, (refl, (refl, (refl, tt))))
 
 line_no_fault : (e : Event) (l : List ℕ) → Shows e l → IsNoFault e → is_fault_line l ≡ false

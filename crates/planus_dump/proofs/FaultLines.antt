@@ -1,18 +1,20 @@
 -- Lines at paths without spaces.
 use Rattle.std.proofs.Common.{◌≡◌, ℕ, zero, suc, ◌+◌, ◌/◌, ◌%◌, ◌==◌, List, [], ◌∷◌, ◌++◌, refl, ap, subst, ◌∙◌, arith, Bool, true, false, if◌then◌else◌}
-use Rattle.std.specs.Prelude.{nat_lt, not, ◌&&◌, length, codes, slice_get, Some}
+use Rattle.std.specs.Prelude.{nat_lt, not, ◌&&◌, length, codes, slice_get, Some, None, Vec}
+use Rattle.std.specs.declared.alloc.Global.{Global}
 use Rattle.std.specs.List.{AllByRecursion, list_all}
 use Rattle.std.specs.Fmt.{decimal, digits, digits_onto, digit_glyph}
 use Rattle.std.proofs.lemmas.Bool.Decides.{nat_tests}
 use Rattle.std.specs.String.{string_bytes}
-use Rattle.planus_dump.specs.Lines.{field_path, item_path}
+use Rattle.planus_dump.specs.Lines.{field_path, item_path, variant_text}
 use Rattle.planus_dump.specs.FaultLines.{is_fault_line, begins_with, HasNoSpace}
-use Rattle.planus_dump.specs.Events.{field_label}
+use Rattle.planus_dump.specs.Events.{field_label, variant_of}
 use Rattle.planus_dump.specs.Laws.{FaultLinesAreTold, PathsHaveNoSpace}
-use Rattle.planus_dump.specs.Schemas.{is_name, is_name_byte, is_good, table_fits, field_fits, union_fits, table_count, union_count, fixed_values_fit}
+use Rattle.planus_dump.specs.Schemas.{is_name, is_name_byte, is_good, table_fits, field_fits, union_fits, variant_fits, variants_fit, table_count, union_count, fixed_values_fit}
 use Rattle.planus_dump.specs.declared.schemas.Schema.{Schema}
 use Rattle.planus_dump.specs.declared.schemas.TableSchema.{TableSchema}
 use Rattle.planus_dump.specs.declared.schemas.FieldSchema.{FieldSchema}
+use Rattle.planus_dump.specs.declared.schemas.VariantSchema.{VariantSchema}
 
 pub all_append : {X : Type 0} (P : X → Type 0) (xs ys : List X) → AllByRecursion P xs → AllByRecursion P ys → AllByRecursion P (xs ++ ys)
 all_append P [] ys h k = k
@@ -28,7 +30,7 @@ lines_told path h = record {
   value = λ text. behind_path path (codes " = " ++ text) h;
   table = λ name. behind_path path (codes ": table " ++ name) h;
   list = λ count. behind_path path (codes ": list " ++ decimal count) h;
-  union = λ tag. behind_path path (codes ": union " ++ decimal tag) h;
+  union = λ tag name. behind_path path (codes ": union " ++ (decimal tag ++ variant_text name)) h;
   unions = λ count. behind_path path (codes ": unions " ++ decimal count) h;
   structs = λ name. behind_path path (codes ": struct " ++ name) h;
 }
@@ -122,6 +124,28 @@ good_parts schema e =
     let most = both_true (root && tables) unions all.0 in
     let first = both_true root tables most.0 in
     record { root = first.0; tables = first.1; unions = most.1; fixed = all.1 }
+
+-- no union's variant has tag 0
+abbrev pub HasTags : Vec VariantSchema Global → Type 0
+HasTags variants = variant_of variants.items 0 ≡ None
+
+zero_tag : (tables : ℕ) (variants : List VariantSchema) → variants_fit tables variants ≡ true → variant_of variants 0 ≡ None
+zero_tag tables [] e = refl
+zero_tag tables (variant ∷ rest) e =
+    let all = both_true (variant_fits tables variant rest) (variants_fit tables rest) e in
+    by_test (variant.tag == 0) (first (not (variant.tag == 0)) _ _ _ all.0) (zero_tag tables rest all.1)
+  where
+    first : (a b c d : Bool) → (a && b && c && d) ≡ true → a ≡ true
+    first true b c d e = refl
+    first false b c d e = e
+
+    by_test : (zero_is : Bool) → not zero_is ≡ true → variant_of rest 0 ≡ None → (if zero_is then Some variant else variant_of rest 0) ≡ None
+    by_test true some later = cc
+    by_test false some later = later
+
+pub good_tags : (schema : Schema) → is_good schema ≡ true → AllByRecursion HasTags schema.unions.items
+good_tags schema e =
+    all_true (union_fits (table_count schema)) HasTags (λ variants. zero_tag (table_count schema) variants.items) schema.unions.items (good_parts schema e).unions
 
 pub good_names : (schema : Schema) → is_good schema ≡ true → AllByRecursion HasNames schema.tables.items
 good_names schema e =

@@ -27,6 +27,7 @@ use Rattle.planus_dump.specs.declared.line_sink.LineSink.{LineSink}
 use Rattle.planus_dump.specs.declared.line_sink.Stop.TheVariants.{Going, TooDeep, TooMany, TooLong}
 use Rattle.planus_dump.specs.declared.schemas.Schema.{Schema}
 use Rattle.planus_dump.specs.declared.schemas.FieldSchema.{FieldSchema}
+use Rattle.planus_dump.specs.declared.schemas.VariantSchema.{VariantSchema}
 use Rattle.planus_dump.specs.declared.schemas.Item.{Item}
 
 pub feed-append : (s : Shown) (xs ys : List Event) → feed s (xs ++ ys) ≡ feed (feed s xs) ys
@@ -65,7 +66,7 @@ pub fed_on : (s t : Shown) (xs ys all : List Event) (done : Shown) → all ≡ x
 fed_on s t xs ys all done split fed whole = ap (λ u. feed u ys) fed ∙ sym (feed-append s xs ys) ∙ ap (feed s) (sym split) ∙ whole
 
 fields-split : (E : TableEvents) (schema : Schema) (table : Seen) (path : List ℕ) (fields : List FieldSchema) (i : ℕ) (field : FieldSchema) → i < length fields
-    → fields_events E schema table path (drop i fields) ≡ kind_events E schema (get_or fields i field).kind (get_or fields i field).slot table (field_path path (field_label (get_or fields i field))) ++ fields_events E schema table path (drop (i + 1) fields)
+    → fields_events E schema table path (drop i fields) ≡ kind_events E schema (get_or fields i field).required (get_or fields i field).kind (get_or fields i field).slot table (field_path path (field_label (get_or fields i field))) ++ fields_events E schema table path (drop (i + 1) fields)
 fields-split E schema table path fields i field h = ap (fields_events E schema table path) (drop_more fields i field h)
 
 pub fields-none : (E : TableEvents) (schema : Schema) (table : Seen) (path : List ℕ) (fields : List FieldSchema) (i : ℕ) → length fields ≤ i → fields_events E schema table path (drop i fields) ≡ []
@@ -76,13 +77,13 @@ fields-none E schema table path (field ∷ fields) (suc i) h = fields-none E sch
 
 pub field_fed : (E : TableEvents) (schema : Schema) (table : Seen) (path : List ℕ) (fields : List FieldSchema) (i : ℕ) (field : FieldSchema) (s t done : Shown) → i < length fields
     → field ≡ get_or fields i field
-    → t ≡ feed s (kind_events E schema field.kind field.slot table (field_path path (field_label field)))
+    → t ≡ feed s (kind_events E schema field.required field.kind field.slot table (field_path path (field_label field)))
     → feed s (fields_events E schema table path (drop i fields)) ≡ done
     → feed t (fields_events E schema table path (drop (i + 1) fields)) ≡ done
 field_fed E schema table path fields i field s t done h is fed whole =
-    let first : List Event = kind_events E schema (get_or fields i field).kind (get_or fields i field).slot table (field_path path (field_label (get_or fields i field))) in
+    let first : List Event = kind_events E schema (get_or fields i field).required (get_or fields i field).kind (get_or fields i field).slot table (field_path path (field_label (get_or fields i field))) in
     fed_on s t first (fields_events E schema table path (drop (i + 1) fields)) (fields_events E schema table path (drop i fields)) done (fields-split E schema table path fields i field h)
-    (fed ∙ ap (λ (x : FieldSchema). feed s (kind_events E schema x.kind x.slot table (field_path path (field_label x)))) is) whole
+    (fed ∙ ap (λ (x : FieldSchema). feed s (kind_events E schema x.required x.kind x.slot table (field_path path (field_label x)))) is) whole
 
 items-split : (E : TableEvents) (item : Item) (S path : List ℕ) (n i : ℕ) → 0 < n
     → items_events E item S path n i ≡ item_events E item S (i * stride_of item) (item_path path i) ++ items_events E item S path (n - 1) (i + 1)
@@ -336,7 +337,7 @@ too_many es budget lines (l, rest, is, t, n) =
 pub not_too_long : (es : List Event) (budget : ℕ) (lines : List Event) → Answered [] None es budget lines TooLong → ⊥
 not_too_long es budget lines (l, rest, is, t, n) = n
 
-pub union_unknown : (E : TableEvents) (o : Option (Vec (ℕ × ℕ) Global)) (variants : Vec (ℕ × ℕ) Global) (tag : ℕ) (S : List ℕ) (f : ℕ) (path : List ℕ) → o ≡ Some variants → variant_of variants.items tag ≡ None
+pub union_unknown : (E : TableEvents) (o : Option (Vec VariantSchema Global)) (variants : Vec VariantSchema Global) (tag : ℕ) (S : List ℕ) (f : ℕ) (path : List ℕ) → o ≡ Some variants → variant_of variants.items tag ≡ None
     → union_events E o tag S f path ≡ fault_event path (fault_text (UnknownUnionTag tag)) ∷ []
 union_unknown E o variants tag S f path some none = ap (λ v. union_events E v tag S f path) some ∙ ap (variant_events E tag S f path) none
 

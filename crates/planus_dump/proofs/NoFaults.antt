@@ -6,7 +6,7 @@ use Rattle.std.specs.List.{AllByRecursion, list_all}
 use Rattle.std.specs.Int.{Width, w8, w16, w32, byte_len, from_le_bytes, to_le_bytes}
 use Rattle.std.specs.String.{string_bytes}
 use Rattle.std.specs.declared.alloc.Global.{Global}
-use Rattle.std.proofs.lemmas.Bool.{le-leb, eq-eqb}
+use Rattle.std.proofs.lemmas.Bool.{le-leb, eq-eqb, eqb-true}
 use Rattle.std.proofs.lemmas.List.{drop-drop}
 use Rattle.std.proofs.Math.Nat.{suc-mul, mul-le-mul_right}
 use Rattle.planus_read.specs.Bytes.{Num, BytesStand, position_of}
@@ -29,12 +29,13 @@ use Rattle.planus.proofs.Lists.{made_of}
 use Rattle.planus_dump.specs.Lines.{item_path, field_path}
 use Rattle.planus_dump.specs.Tests.{table_tests}
 use Rattle.planus_dump.specs.Answers.{Seen, SeenItems, SeenUnion, SeenUnions, table_at, union_at, unions_at, tagged_union, union_vector_by, union_vector_at, some_of}
-use Rattle.planus_dump.specs.Events.{Event, field_label, TableEvents, stride_of, variant_of, item_events, items_events, list_events, place_events, variant_events, union_events, union_field_events, union_items_events, unions_events, present, kind_events, fields_events, table_events, shape_events, events, leaf_events}
+use Rattle.planus_dump.specs.Events.{Event, field_label, absent_events, TableEvents, stride_of, variant_of, item_events, items_events, list_events, place_events, variant_events, union_events, union_field_events, union_items_events, unions_events, present, kind_events, fields_events, table_events, shape_events, events, leaf_events}
 use Rattle.planus_dump.specs.FaultLines.{HasNoSpace, HaveNoFault, IsNoFault}
 use Rattle.planus_dump.specs.Describes.{plain_size, plain_field_size, IsText, IsByteList, held_at, IsItem, IsListOf, IsReferred, IsField, IsVariant, IsTagged, IsUnion, IsVectorOfUnions, IsUnionVector, HasKind, IsTableOf, Describes}
 use Rattle.planus_dump.specs.declared.schemas.Schema.{Schema}
 use Rattle.planus_dump.specs.declared.schemas.TableSchema.{TableSchema}
 use Rattle.planus_dump.specs.declared.schemas.FieldSchema.{FieldSchema}
+use Rattle.planus_dump.specs.declared.schemas.VariantSchema.{VariantSchema}
 use Rattle.planus_dump.specs.declared.schemas.Kind.{Kind}
 use Rattle.planus_dump.specs.declared.schemas.Kind.TheVariants.{One, List as ListOf, Union, UnionVector, U8, I8, Bytes, Fixed, FixedList, Nested}
 use Rattle.planus_dump.specs.declared.schemas.Item.{Item}
@@ -42,9 +43,13 @@ use Rattle.planus_dump.specs.declared.schemas.Item.TheVariants.{Text, Table}
 use Rattle.planus_dump.specs.declared.values.Leaf.TheVariants.{Text as LeafText, Bytes as LeafBytes}
 use Rattle.planus_dump.proofs.Matching.{all_pass, le_false, lt_false, eq_false}
 use Rattle.planus_dump.proofs.Answering.{table_matches}
-use Rattle.planus_dump.proofs.FaultLines.{all_append, all_at, lines_told, item_path_no_space, field_path_no_space, HasNames}
+use Rattle.planus_dump.proofs.FaultLines.{all_append, all_at, lines_told, item_path_no_space, field_path_no_space, HasNames, HasTags}
 use Rattle.planus_dump.proofs.Written.{list_width, IsNumber, field_number, SameSlot, same_slots, Held, value_held, lists_held, Referred, referred_at, Tagged, tagged_at}
 use Rattle.planus_dump.proofs.Leaves.{plain_item_event, plain_field_event, plain_stride, reference_stride, text_event, byte_list_event, VectorIs, answered_vector, bytes_vector, answered_unions, byte_at}
+
+absent_is : (required : Bool) (path : List ℕ) → required ≡ false → HaveNoFault (absent_events required path)
+absent_is true path e = cc
+absent_is false path e = tt
 
 items_no_fault : (E : TableEvents) (item : Item) (S path : List ℕ) (n i : ℕ) → ((j : ℕ) → i ≤ j → j < i + n → HaveNoFault (item_events E item S (j * stride_of item) (item_path path j)))
     → HaveNoFault (items_events E item S path n i)
@@ -170,37 +175,37 @@ module _ (steps : List Step) (given : Finish) (values : AllByRecursion (ValueHol
       list_by item d start f path held.step held.value (subst (IsListOf steps IsTable item) held.there is) held.is_value held.reads_back leads h
   referred_no_fault _ n d start f path is e leads h = absurd is
 
-  field_no_fault : (kind : Kind) (content : FieldStep) (field : Field) (k q : ℕ) (path : List ℕ) → IsField steps IsTable kind (Some content) → field_of given.places content ≡ Some field
+  field_no_fault : (required : Bool) (kind : Kind) (content : FieldStep) (field : Field) (k q : ℕ) (path : List ℕ) → IsField steps IsTable required kind (Some content) → field_of given.places content ≡ Some field
       → FieldStands given.bytes (k + q) field → HasNoSpace path → HaveNoFault (place_events E kind (drop k given.bytes) q path)
-  field_no_fault kind (number_field size number) field k q path is e stands h =
+  field_no_fault required kind (number_field size number) field k q path is e stands h =
       let one : IsNumber size number field = field_number given.places size number field e in
       let there : BytesStand given.bytes (k + q) one.item.bytes = subst (FieldStands given.bytes (k + q)) one.is stands in
       let within : length one.item.bytes ≤ length (drop q (drop k given.bytes)) = stood_inside (drop q (drop k given.bytes)) one.item.bytes (bytes_in_slice given.bytes k q one.item.bytes there) in
       plain_field_event E kind size (drop k given.bytes) q path is (omega (arith, one.sized, one.some, length-drop q (drop k given.bytes))) h
-  field_no_fault kind (ref_field n) field k q path is e stands h =
+  field_no_fault required kind (ref_field n) field k q path is e stands h =
       let made = made_of value.reference (value_at given.places n) field e in
       let there : ReferenceStands given.bytes (k + q) made.0 = subst (FieldStands given.bytes (k + q)) (sym made.2) stands in
       referred_no_fault kind n made.0 k q path is made.1 (references_lead given.bytes (k + q) made.0 there) h
-  field_no_fault kind (tags_field n) field k q path is e stands h = absurd is
-  field_no_fault kind (values_field n) field k q path is e stands h = absurd is
+  field_no_fault required kind (tags_field n) field k q path is e stands h = absurd is
+  field_no_fault required kind (values_field n) field k q path is e stands h = absurd is
 
-  present_no_fault : (schema : Schema) (kind : Kind) (o : Option FieldStep) (p : Option Field) (k q : ℕ) (path : List ℕ) → IsField steps IsTable kind o → SameSlot given.places o p
-      → SlotReads given.bytes k q p → HasNoSpace path → HaveNoFault (present E schema q (place_events E kind (drop k given.bytes) q path))
-  present_no_fault schema kind None p k q path is same reads h =
+  present_no_fault : (schema : Schema) (required : Bool) (kind : Kind) (o : Option FieldStep) (p : Option Field) (k q : ℕ) (path : List ℕ) → IsField steps IsTable required kind o → SameSlot given.places o p
+      → SlotReads given.bytes k q p → HasNoSpace path → HaveNoFault (present E schema required path q (place_events E kind (drop k given.bytes) q path))
+  present_no_fault schema required kind None p k q path is same reads h =
       let zero_here : q ≡ 0 = subst (SlotReads given.bytes k q) same reads in
-      let test : (q == 0) ≡ true = eq-eqb q 0 zero_here in rw test tt
-  present_no_fault schema kind (Some content) p k q path is (field, same, e) reads h =
+      let test : (q == 0) ≡ true = eq-eqb q 0 zero_here in rw test (absent_is required path is)
+  present_no_fault schema required kind (Some content) p k q path is (field, same, e) reads h =
       let here : (4 ≤ q) × FieldStands given.bytes (k + q) field = subst (SlotReads given.bytes k q) same reads in
       let least : 4 ≤ q = here.0 in
       let test : (q == 0) ≡ false = eq_false q 0 (λ z. absurd (omega arith)) in
-      rw test (field_no_fault kind content field k q path is e here.1 h)
+      rw test (field_no_fault required kind content field k q path is e here.1 h)
 
-  variant_no_fault : (o : Option ℕ) (tag n d start f : ℕ) (path : List ℕ) → IsVariant steps IsTable o n → value_at given.places n ≡ Some d → Leads given.bytes (start + f) (position_of given.bytes d)
+  variant_no_fault : (o : Option VariantSchema) (tag n d start f : ℕ) (path : List ℕ) → IsVariant steps IsTable o n → value_at given.places n ≡ Some d → Leads given.bytes (start + f) (position_of given.bytes d)
       → HasNoSpace path → HaveNoFault (variant_events E tag (drop start given.bytes) f path o)
-  variant_no_fault (Some index) tag n d start f path is e leads h = ((lines_told path h).union tag, tables index n d start f path is e leads h)
+  variant_no_fault (Some variant) tag n d start f path is e leads h = ((lines_told path h).union tag (string_bytes variant.name), tables variant.table n d start f path is e leads h)
   variant_no_fault None tag n d start f path is e leads h = absurd is
 
-  tagged_no_fault : (variants : Option (Vec (ℕ × ℕ) Global)) (tag n d start f : ℕ) (path : List ℕ) → IsTagged steps IsTable variants tag n → value_at given.places n ≡ Some d
+  tagged_no_fault : (variants : Option (Vec VariantSchema Global)) (tag n d start f : ℕ) (path : List ℕ) → IsTagged steps IsTable variants tag n → value_at given.places n ≡ Some d
       → Leads given.bytes (start + f) (position_of given.bytes d) → HasNoSpace path → HaveNoFault (union_events E variants tag (drop start given.bytes) f path)
   tagged_no_fault (Some variants) tag n d start f path is e leads h = variant_no_fault (variant_of variants.items tag) tag n d start f path is e leads h
   tagged_no_fault None tag n d start f path is e leads h = absurd is
@@ -310,13 +315,13 @@ module _ (B : List ℕ) (k : ℕ) (entries : List (ℕ × Field)) (seen : Seen) 
           let second : (Slot seen.slots (i + 1) == 0) ≡ true = eq-eqb (Slot seen.slots (i + 1)) 0 next_zero in
           rw (first, second) refl
 
-union_field_by : (E : TableEvents) (schema : Schema) (index : ℕ) (object path : List ℕ) (r : Result (Option SeenUnion) (List ℕ)) (o : Option SeenUnion) → r ≡ Ok o
-    → HaveNoFault (union_field_events E schema index object path (Ok o)) → HaveNoFault (union_field_events E schema index object path r)
-union_field_by E schema index object path r o e h = subst (λ (a : Result (Option SeenUnion) (List ℕ)). HaveNoFault (union_field_events E schema index object path a)) (sym e) h
+union_field_by : (E : TableEvents) (schema : Schema) (required : Bool) (index : ℕ) (object path : List ℕ) (r : Result (Option SeenUnion) (List ℕ)) (o : Option SeenUnion) → r ≡ Ok o
+    → HaveNoFault (union_field_events E schema required index object path (Ok o)) → HaveNoFault (union_field_events E schema required index object path r)
+union_field_by E schema required index object path r o e h = subst (λ (a : Result (Option SeenUnion) (List ℕ)). HaveNoFault (union_field_events E schema required index object path a)) (sym e) h
 
-unions_by : (E : TableEvents) (schema : Schema) (index : ℕ) (path : List ℕ) (r : Result (Option SeenUnions) (List ℕ)) (o : Option SeenUnions) → r ≡ Ok o
-    → HaveNoFault (unions_events E schema index path (Ok o)) → HaveNoFault (unions_events E schema index path r)
-unions_by E schema index path r o e h = subst (λ (a : Result (Option SeenUnions) (List ℕ)). HaveNoFault (unions_events E schema index path a)) (sym e) h
+unions_by : (E : TableEvents) (schema : Schema) (required : Bool) (index : ℕ) (path : List ℕ) (r : Result (Option SeenUnions) (List ℕ)) (o : Option SeenUnions) → r ≡ Ok o
+    → HaveNoFault (unions_events E schema required index path (Ok o)) → HaveNoFault (unions_events E schema required index path r)
+unions_by E schema required index path r o e h = subst (λ (a : Result (Option SeenUnions) (List ℕ)). HaveNoFault (unions_events E schema required index path a)) (sym e) h
 
 union_items_no_fault : (E : TableEvents) (schema : Schema) (index : ℕ) (items : SeenUnions) (path : List ℕ) (n i : ℕ)
     → ((j : ℕ) → i ≤ j → j < i + n → HaveNoFault (union_events E (slice_get schema.unions.items index) (slice_index items.tags j) items.references (j * 4) (item_path path j)))
@@ -328,7 +333,7 @@ union_items_no_fault E schema index items path (suc n) i each =
     (each i (omega arith) (omega arith)) (union_items_no_fault E schema index items path n (i + 1) (λ j least below. each j (omega arith) (omega arith)))
 
 union_is : (seen : Seen) (i tag q p : ℕ) → 2 * i + 4 ≤ length seen.slots → Slot seen.slots i ≡ q → Slot seen.slots (i + 1) ≡ p → q ≢ 0 → p ≢ 0 → Num seen.object q w8 ≡ Some tag
-    → (union_at seen i ≡ Ok None) ⊎ (union_at seen i ≡ Ok (Some (record { tag = tag; offset = p })))
+    → ((tag ≡ 0) × (union_at seen i ≡ Ok None)) ⊎ (union_at seen i ≡ Ok (Some (record { tag = tag; offset = p })))
 union_is seen i tag q p both slot next some more byte =
     let first : nat_le (length seen.slots) (2 * i) ≡ false = le_false (length seen.slots) (2 * i) (omega arith) in
     let second : nat_lt (length seen.slots) (2 * i + 4) ≡ false = lt_false (length seen.slots) (2 * i + 4) both in
@@ -337,8 +342,8 @@ union_is seen i tag q p both slot next some more byte =
     by_tag (tag == 0) refl known
   where
     by_tag : (none : Bool) → (tag == 0) ≡ none → union_at seen i ≡ tagged_union seen i (Some tag)
-        → (union_at seen i ≡ Ok None) ⊎ (union_at seen i ≡ Ok (Some (record { tag = tag; offset = p })))
-    by_tag true is known = inl (known ∙ rw is refl)
+        → ((tag ≡ 0) × (union_at seen i ≡ Ok None)) ⊎ (union_at seen i ≡ Ok (Some (record { tag = tag; offset = p })))
+    by_tag true is known = inl (eqb-true tag 0 is, known ∙ rw is refl)
     by_tag false is known =
         let one : (Slot seen.slots i == 0) ≡ false = ap (λ n. n == 0) slot ∙ eq_false q 0 some in
         let two : (Slot seen.slots (i + 1) == 0) ≡ false = ap (λ n. n == 0) next ∙ eq_false p 0 more in
@@ -361,26 +366,35 @@ least_is_some q least z = absurd (omega arith)
 module _ (steps : List Step) (given : Finish) (values : AllByRecursion (ValueHolds steps given) given.places) (E : TableEvents) (IsTable : ℕ → ℕ → Type 0)
     (tables : (index n d start f : ℕ) (path : List ℕ) → IsTable index n → value_at given.places n ≡ Some d → Leads given.bytes (start + f) (position_of given.bytes d) → HasNoSpace path
     → HaveNoFault (E index (drop start given.bytes) f path))
-    (schema : Schema) (k : ℕ) (entries : List (ℕ × Field)) (seen : Seen) (sees : Sees given.bytes k entries seen) (path : List ℕ) (h : HasNoSpace path) (i : ℕ) where
-  place_no_fault : (kind : Kind) (o : Option FieldStep) → IsField steps IsTable kind o → SameSlot given.places o (field_at entries i)
-      → HaveNoFault (present E schema (Slot seen.slots i) (place_events E kind seen.object (Slot seen.slots i) path))
+    (schema : Schema) (k : ℕ) (entries : List (ℕ × Field)) (seen : Seen) (sees : Sees given.bytes k entries seen) (path : List ℕ) (h : HasNoSpace path) (i : ℕ) (required : Bool)
+    (tags_are : AllByRecursion HasTags schema.unions.items) where
+  place_no_fault : (kind : Kind) (o : Option FieldStep) → IsField steps IsTable required kind o → SameSlot given.places o (field_at entries i)
+      → HaveNoFault (present E schema required path (Slot seen.slots i) (place_events E kind seen.object (Slot seen.slots i) path))
   place_no_fault kind o is same =
-      subst (λ bytes. HaveNoFault (present E schema (Slot seen.slots i) (place_events E kind bytes (Slot seen.slots i) path))) (sym sees.object)
-      (present_no_fault steps given values E IsTable tables schema kind o (field_at entries i) k (Slot seen.slots i) path is same (sees.slots i) h)
+      subst (λ bytes. HaveNoFault (present E schema required path (Slot seen.slots i) (place_events E kind bytes (Slot seen.slots i) path))) (sym sees.object)
+      (present_no_fault steps given values E IsTable tables schema required kind o (field_at entries i) k (Slot seen.slots i) path is same (sees.slots i) h)
 
   absent_no_fault : (kind : Kind) (o : Option FieldStep) (es : List Event) → plain_field_size kind ≡ None → ((n : ℕ) → IsReferred steps IsTable kind n → ⊥)
-      → IsField steps IsTable kind o → SameSlot given.places o (field_at entries i) → HaveNoFault (present E schema (Slot seen.slots i) es)
+      → IsField steps IsTable required kind o → SameSlot given.places o (field_at entries i) → HaveNoFault (present E schema required path (Slot seen.slots i) es)
   absent_no_fault kind None es none refers is same =
       let zero_here : Slot seen.slots i ≡ 0 = subst (SlotReads given.bytes k (Slot seen.slots i)) same (sees.slots i) in
-      let test : (Slot seen.slots i == 0) ≡ true = eq-eqb (Slot seen.slots i) 0 zero_here in rw test tt
+      let test : (Slot seen.slots i == 0) ≡ true = eq-eqb (Slot seen.slots i) 0 zero_here in rw test (absent_is required path is)
   absent_no_fault kind (Some (number_field width value)) es none refers is same = cc
   absent_no_fault kind (Some (ref_field n)) es none refers is same = absurd (refers n is)
   absent_no_fault kind (Some (tags_field n)) es none refers is same = absurd is
   absent_no_fault kind (Some (values_field n)) es none refers is same = absurd is
 
-  union_no_fault : (index : ℕ) (o p : Option FieldStep) → IsUnion steps IsTable (slice_get schema.unions.items index) o p → SameSlot given.places o (field_at entries i)
-      → SameSlot given.places p (field_at entries (i + 1)) → HaveNoFault (kind_events E schema (Union index) i seen path)
-  union_no_fault index None None is same next = union_field_by E schema index seen.object path (union_at seen i) None (union_none given.bytes k entries seen sees i same next) tt
+  zero_tagged : (index tag n : ℕ) → tag ≡ 0 → IsTagged steps IsTable (slice_get schema.unions.items index) tag n → ⊥
+  zero_tagged index tag n zero_is is = by_union (slice_get schema.unions.items index) (λ variants there. all_at HasTags schema.unions.items index variants tags_are there) (subst (λ t. IsTagged steps IsTable (slice_get schema.unions.items index) t n) zero_is is)
+    where
+      by_union : (o : Option (Vec VariantSchema Global)) → ((variants : Vec VariantSchema Global) → o ≡ Some variants → HasTags variants) → IsTagged steps IsTable o 0 n → ⊥
+      by_union None tagged is = is
+      by_union (Some variants) tagged is = subst (λ (v : Option VariantSchema). IsVariant steps IsTable v n) (tagged variants refl) is
+
+  union_no_fault : (index : ℕ) (o p : Option FieldStep) → IsUnion steps IsTable required (slice_get schema.unions.items index) o p → SameSlot given.places o (field_at entries i)
+      → SameSlot given.places p (field_at entries (i + 1)) → HaveNoFault (kind_events E schema required (Union index) i seen path)
+  union_no_fault index None None is same next =
+      union_field_by E schema required index seen.object path (union_at seen i) None (union_none given.bytes k entries seen sees i same next) (absent_is required path is)
   union_no_fault index (Some (number_field width tag)) (Some (ref_field n)) is (field, same, e) (referred, next, r) =
       let one : IsNumber width tag field = field_number given.places width tag field e in
       let made = made_of value.reference (value_at given.places n) referred r in
@@ -396,11 +410,11 @@ module _ (steps : List Step) (given : Finish) (values : AllByRecursion (ValueHol
       (union_is seen i tag (Slot seen.slots i) (Slot seen.slots (i + 1)) (omega arith) refl refl (least_is_some (Slot seen.slots i) first.0) (least_is_some (Slot seen.slots (i + 1)) second.0) tagged)
     where
       by_tag : (n tag d : ℕ) → IsTagged steps IsTable (slice_get schema.unions.items index) tag n → value_at given.places n ≡ Some d → ReferenceStands given.bytes (k + Slot seen.slots (i + 1)) d
-          → (union_at seen i ≡ Ok None) ⊎ (union_at seen i ≡ Ok (Some (record { tag = tag; offset = Slot seen.slots (i + 1) })))
-          → HaveNoFault (kind_events E schema (Union index) i seen path)
-      by_tag n tag d is e leads (inl none) = union_field_by E schema index seen.object path (union_at seen i) None none tt
+          → ((tag ≡ 0) × (union_at seen i ≡ Ok None)) ⊎ (union_at seen i ≡ Ok (Some (record { tag = tag; offset = Slot seen.slots (i + 1) })))
+          → HaveNoFault (kind_events E schema required (Union index) i seen path)
+      by_tag n tag d is e leads (inl (zero_is, none)) = absurd (zero_tagged index tag n zero_is is)
       by_tag n tag d is e leads (inr some) =
-          union_field_by E schema index seen.object path (union_at seen i) (Some (record { tag = tag; offset = Slot seen.slots (i + 1) })) some
+          union_field_by E schema required index seen.object path (union_at seen i) (Some (record { tag = tag; offset = Slot seen.slots (i + 1) })) some
           (subst (λ bytes. HaveNoFault (union_events E (slice_get schema.unions.items index) tag bytes (Slot seen.slots (i + 1)) path)) (sym sees.object)
           (tagged_no_fault steps given values E IsTable tables (slice_get schema.unions.items index) tag n d k (Slot seen.slots (i + 1)) path is e
           (references_lead given.bytes (k + Slot seen.slots (i + 1)) d leads) h))
@@ -409,7 +423,7 @@ module _ (steps : List Step) (given : Finish) (values : AllByRecursion (ValueHol
   union_vector_items_no_fault : (index q p t d : ℕ) (step : Step) (v : Value) → IsVectorOfUnions steps IsTable (slice_get schema.unions.items index) (Some step) → value_of given.places step ≡ Some v
       → ReadsBack given.bytes (at_both (position_of given.bytes t) (position_of given.bytes d)) v
       → Leads given.bytes (k + q) (position_of given.bytes t) → Leads given.bytes (k + p) (position_of given.bytes d)
-      → HaveNoFault (unions_events E schema index path (some_of (union_vector_at seen.object q p)))
+      → HaveNoFault (unions_events E schema required index path (some_of (union_vector_at seen.object q p)))
   union_vector_items_no_fault index q p t d (unions items) v is e reads tags references =
       let B = given.bytes in
       let kt : ℕ = position_of given.bytes t in
@@ -423,7 +437,7 @@ module _ (steps : List Step) (given : Finish) (values : AllByRecursion (ValueHol
       let tags_here : drop (items_at S q) S ≡ drop (kt + 4) given.bytes = drop-drop (items_at S q) k given.bytes ∙ ap (λ n. drop n given.bytes) (omega (arith, list.first_tag, found.tags)) in
       let references_here : drop (items_at S p) S ≡ drop (kv + 4) given.bytes = drop-drop (items_at S p) k given.bytes ∙ ap (λ n. drop n given.bytes) (omega (arith, list.first_reference, found.references)) in
       let answered : some_of (union_vector_at seen.object q p) ≡ Ok (Some vector) = ap (λ bytes. some_of (union_vector_at bytes q p)) sees.object ∙ ap some_of found.is in
-      unions_by E schema index path (some_of (union_vector_at seen.object q p)) (Some vector) answered (
+      unions_by E schema required index path (some_of (union_vector_at seen.object q p)) (Some vector) answered (
         (lines_told path h).unions (count_at S q),
         union_items_no_fault E schema index vector path (count_at S q) 0
             (λ j least below.
@@ -437,9 +451,10 @@ module _ (steps : List Step) (given : Finish) (values : AllByRecursion (ValueHol
       )
   union_vector_items_no_fault index q p t d _ v is e reads tags references = absurd is
 
-  union_vector_no_fault : (index : ℕ) (o p : Option FieldStep) → IsUnionVector steps IsTable (slice_get schema.unions.items index) o p → SameSlot given.places o (field_at entries i)
-      → SameSlot given.places p (field_at entries (i + 1)) → HaveNoFault (kind_events E schema (UnionVector index) i seen path)
-  union_vector_no_fault index None None is same next = unions_by E schema index path (unions_at seen i) None (unions_none given.bytes k entries seen sees i same next) tt
+  union_vector_no_fault : (index : ℕ) (o p : Option FieldStep) → IsUnionVector steps IsTable required (slice_get schema.unions.items index) o p → SameSlot given.places o (field_at entries i)
+      → SameSlot given.places p (field_at entries (i + 1)) → HaveNoFault (kind_events E schema required (UnionVector index) i seen path)
+  union_vector_no_fault index None None is same next =
+      unions_by E schema required index path (unions_at seen i) None (unions_none given.bytes k entries seen sees i same next) (absent_is required path is)
   union_vector_no_fault index (Some (tags_field n)) (Some (values_field m)) is (tags_there, same, e) (values_there, next, r) =
       let first : (4 ≤ Slot seen.slots i) × FieldStands given.bytes (k + Slot seen.slots i) tags_there = subst (SlotReads given.bytes k (Slot seen.slots i)) same (sees.slots i) in
       let second : (4 ≤ Slot seen.slots (i + 1)) × FieldStands given.bytes (k + Slot seen.slots (i + 1)) values_there = subst (SlotReads given.bytes k (Slot seen.slots (i + 1))) next (sees.slots (i + 1)) in
@@ -452,14 +467,14 @@ module _ (steps : List Step) (given : Finish) (values : AllByRecursion (ValueHol
       = lists_held steps given values n made_tags.0 made.0 made_tags.1 (ap (distance_at references_distance given.places) is.0 ∙ made.1) in
       let whole : unions_at seen i ≡ some_of (union_vector_at seen.object (Slot seen.slots i) (Slot seen.slots (i + 1)))
       = unions_is seen i (Slot seen.slots i) (Slot seen.slots (i + 1)) (omega arith) refl refl (least_is_some (Slot seen.slots i) first.0) (least_is_some (Slot seen.slots (i + 1)) second.0) in
-      subst (λ (a : Result (Option SeenUnions) (List ℕ)). HaveNoFault (unions_events E schema index path a)) (sym whole)
+      subst (λ (a : Result (Option SeenUnions) (List ℕ)). HaveNoFault (unions_events E schema required index path a)) (sym whole)
       (union_vector_items_no_fault index (Slot seen.slots i) (Slot seen.slots (i + 1)) made_tags.0 made.0 held.step held.value
       (subst (IsVectorOfUnions steps IsTable (slice_get schema.unions.items index)) held.there is.1) held.is_value held.reads_back
       (references_lead given.bytes (k + Slot seen.slots i) made_tags.0 there) (references_lead given.bytes (k + Slot seen.slots (i + 1)) made.0 behind))
   union_vector_no_fault index _ _ is same next = absurd is
 
-  kind_no_fault : (fields : List (ℕ × FieldStep)) → ((j : ℕ) → SameSlot given.places (held_at fields j) (field_at entries j)) → (kind : Kind) → HasKind steps IsTable schema fields i kind
-      → HaveNoFault (kind_events E schema kind i seen path)
+  kind_no_fault : (fields : List (ℕ × FieldStep)) → ((j : ℕ) → SameSlot given.places (held_at fields j) (field_at entries j)) → (kind : Kind) → HasKind steps IsTable schema fields i required kind
+      → HaveNoFault (kind_events E schema required kind i seen path)
   kind_no_fault fields same (Union index) is = union_no_fault index (held_at fields i) (held_at fields (i + 1)) is (same i) (same (i + 1))
   kind_no_fault fields same (UnionVector index) is = union_vector_no_fault index (held_at fields i) (held_at fields (i + 1)) is (same i) (same (i + 1))
   kind_no_fault fields same (One item) is = place_no_fault (One item) (held_at fields i) is (same i)
@@ -471,18 +486,19 @@ module _ (steps : List Step) (given : Finish) (values : AllByRecursion (ValueHol
   kind_no_fault fields same (Fixed value) is = absent_no_fault (Fixed value) (held_at fields i) _ refl (λ n refers. refers) is (same i)
   kind_no_fault fields same (FixedList value) is = absent_no_fault (FixedList value) (held_at fields i) _ refl (λ n refers. refers) is (same i)
 
-module _ (steps : List Step) (given : Finish) (values : AllByRecursion (ValueHolds steps given) given.places) (schema : Schema) (names : AllByRecursion HasNames schema.tables.items) where
+module _ (steps : List Step) (given : Finish) (values : AllByRecursion (ValueHolds steps given) given.places) (schema : Schema) (names : AllByRecursion HasNames schema.tables.items)
+    (tags_are : AllByRecursion HasTags schema.unions.items) where
   module _ (E : TableEvents) (IsTable : ℕ → ℕ → Type 0)
       (tables : (index n d start f : ℕ) (path : List ℕ) → IsTable index n → value_at given.places n ≡ Some d → Leads given.bytes (start + f) (position_of given.bytes d) → HasNoSpace path
       → HaveNoFault (E index (drop start given.bytes) f path)) where
     fields_no_fault : (k : ℕ) (entries : List (ℕ × Field)) (seen : Seen) → Sees given.bytes k entries seen → (path : List ℕ) → HasNoSpace path → (fields : List (ℕ × FieldStep))
         → ((j : ℕ) → SameSlot given.places (held_at fields j) (field_at entries j)) → (shape : List FieldSchema) → AllByRecursion (λ field. HasNoSpace (field_label field)) shape
-        → AllByRecursion (λ field. HasKind steps IsTable schema fields field.slot field.kind) shape → HaveNoFault (fields_events E schema seen path shape)
+        → AllByRecursion (λ field. HasKind steps IsTable schema fields field.slot field.required field.kind) shape → HaveNoFault (fields_events E schema seen path shape)
     fields_no_fault k entries seen sees path h fields same [] named is = tt
     fields_no_fault k entries seen sees path h fields same (field ∷ shape) named is =
-        all_append IsNoFault (kind_events E schema field.kind field.slot seen (field_path path (field_label field))) (fields_events E schema seen path shape)
+        all_append IsNoFault (kind_events E schema field.required field.kind field.slot seen (field_path path (field_label field))) (fields_events E schema seen path shape)
         (kind_no_fault steps given values E IsTable tables schema k entries seen sees (field_path path (field_label field)) (field_path_no_space path (field_label field) h named.0)
-        field.slot fields same field.kind is.0)
+        field.slot field.required tags_are fields same field.kind is.0)
         (fields_no_fault k entries seen sees path h fields same shape named.1 is.1)
 
     table_by : (shape : TableSchema) (d start f : ℕ) (path : List ℕ) (step : Step) (v : Value) → HasNames shape → IsTableOf steps IsTable schema (Some shape) (Some step)

@@ -1,5 +1,6 @@
 -- When a schema describes the steps of a run.
-use Rattle.std.specs.Prelude.{◌≡◌, ℕ, zero, suc, ◌+◌, ◌==◌, List, [], ◌∷◌, Vec, ⊤}
+use Rattle.std.specs.Prelude.{◌≡◌, ℕ, zero, suc, ◌+◌, ◌==◌, List, [], ◌∷◌, Vec, ⊤, false}
+use Rattle.std.specs.Prelude.{Bool as Truth}
 use Rattle.std.specs.Prelude.{Option, Some, None, slice_get, if◌then◌else◌}
 use Rattle.std.specs.List.{AllByRecursion}
 use Rattle.std.specs.declared.alloc.Global.{Global}
@@ -9,6 +10,7 @@ use Rattle.planus_dump.specs.Dumped.{greatest_depth}
 use Rattle.planus_dump.specs.Events.{variant_of}
 use Rattle.planus_dump.specs.declared.schemas.Schema.{Schema}
 use Rattle.planus_dump.specs.declared.schemas.TableSchema.{TableSchema}
+use Rattle.planus_dump.specs.declared.schemas.VariantSchema.{VariantSchema}
 use Rattle.planus_dump.specs.declared.schemas.Kind.{Kind}
 use Rattle.planus_dump.specs.declared.schemas.Kind.TheVariants.{One, List as ListOf, Union}
 use Rattle.planus_dump.specs.declared.schemas.Kind.TheVariants.{UnionVector, U8, I8, Bytes}
@@ -67,55 +69,58 @@ module _ (steps : List Step) (IsTable : ℕ → ℕ → Type 0) where
   IsReferred (ListOf item) n = IsListOf item (slice_get steps n)
   IsReferred _ n = ⊥
 
-  -- the field is absent, a number of its size, or a reference to a value of the kind
-  abbrev pub IsField : Kind → Option FieldStep → Type 0
-  IsField kind None = ⊤
-  IsField kind (Some (number_field width value)) = plain_field_size kind ≡ Some width
-  IsField kind (Some (ref_field n)) = IsReferred kind n
-  IsField kind (Some (tags_field n)) = ⊥
-  IsField kind (Some (values_field n)) = ⊥
+  -- the field isn't required and is absent, a number of its size, or a reference to a value of the
+  -- kind
+  abbrev pub IsField : Truth → Kind → Option FieldStep → Type 0
+  IsField required kind None = required ≡ false
+  IsField required kind (Some (number_field width value)) = plain_field_size kind ≡ Some width
+  IsField required kind (Some (ref_field n)) = IsReferred kind n
+  IsField required kind (Some (tags_field n)) = ⊥
+  IsField required kind (Some (values_field n)) = ⊥
 
-  abbrev pub IsVariant : Option ℕ → ℕ → Type 0
-  IsVariant (Some index) n = IsTable index n
+  abbrev pub IsVariant : Option VariantSchema → ℕ → Type 0
+  IsVariant (Some variant) n = IsTable variant.table n
   IsVariant None n = ⊥
 
-  abbrev pub IsTagged : Option (Vec (ℕ × ℕ) Global) → ℕ → ℕ → Type 0
+  abbrev pub IsTagged : Option (Vec VariantSchema Global) → ℕ → ℕ → Type 0
   IsTagged (Some variants) tag n = IsVariant (variant_of variants.items tag) n
   IsTagged None tag n = ⊥
 
   -- both slots are absent, or hold a tag of one byte and a reference to its table
   abbrev pub IsUnion :
-      Option (Vec (ℕ × ℕ) Global) → Option FieldStep → Option FieldStep → Type 0
-  IsUnion variants None None = ⊤
-  IsUnion variants (Some (number_field width tag)) (Some (ref_field n)) =
+      Truth → Option (Vec VariantSchema Global) → Option FieldStep → Option FieldStep → Type 0
+  IsUnion required variants None None = required ≡ false
+  IsUnion required variants (Some (number_field width tag)) (Some (ref_field n)) =
       (width ≡ 1) × IsTagged variants tag n
-  IsUnion variants _ _ = ⊥
+  IsUnion required variants _ _ = ⊥
 
-  abbrev pub IsVectorOfUnions : Option (Vec (ℕ × ℕ) Global) → Option Step → Type 0
+  abbrev pub IsVectorOfUnions : Option (Vec VariantSchema Global) → Option Step → Type 0
   IsVectorOfUnions variants (Some (unions items)) =
       AllByRecursion (λ item. IsTagged variants item.0 item.1) items
   IsVectorOfUnions variants _ = ⊥
 
   -- both slots are absent, or hold the tags and the values of one such vector
   abbrev pub IsUnionVector :
-      Option (Vec (ℕ × ℕ) Global) → Option FieldStep → Option FieldStep → Type 0
-  IsUnionVector variants None None = ⊤
-  IsUnionVector variants (Some (tags_field n)) (Some (values_field m)) =
+      Truth → Option (Vec VariantSchema Global) → Option FieldStep → Option FieldStep → Type 0
+  IsUnionVector required variants None None = required ≡ false
+  IsUnionVector required variants (Some (tags_field n)) (Some (values_field m)) =
       (n ≡ m) × IsVectorOfUnions variants (slice_get steps n)
-  IsUnionVector variants _ _ = ⊥
+  IsUnionVector required variants _ _ = ⊥
 
   module _ (schema : Schema) where
-    abbrev pub HasKind : List (ℕ × FieldStep) → ℕ → Kind → Type 0
-    HasKind fields i (Union index) =
-        IsUnion (slice_get schema.unions.items index) (held_at fields i) (held_at fields (i + 1))
-    HasKind fields i (UnionVector index) =
-        IsUnionVector (slice_get schema.unions.items index) (held_at fields i)
+    abbrev pub HasKind : List (ℕ × FieldStep) → ℕ → Truth → Kind → Type 0
+    HasKind fields i required (Union index) =
+        IsUnion required (slice_get schema.unions.items index) (held_at fields i)
         (held_at fields (i + 1))
-    HasKind fields i kind = IsField kind (held_at fields i)
+    HasKind fields i required (UnionVector index) =
+        IsUnionVector required (slice_get schema.unions.items index) (held_at fields i)
+        (held_at fields (i + 1))
+    HasKind fields i required kind = IsField required kind (held_at fields i)
 
     abbrev pub IsTableOf : Option TableSchema → Option Step → Type 0
     IsTableOf (Some shape) (Some (table fields)) =
-        AllByRecursion (λ field. HasKind fields field.slot field.kind) shape.fields.items
+        AllByRecursion (λ field. HasKind fields field.slot field.required field.kind)
+        shape.fields.items
     IsTableOf _ _ = ⊥
 
 -- the schema's table with this index describes step n, down to this depth

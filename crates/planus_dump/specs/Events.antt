@@ -8,11 +8,12 @@ use Rattle.std.specs.String.{string_bytes}
 use Rattle.std.specs.declared.alloc.Global.{Global}
 use Rattle.planus_read.specs.declared.errors.ErrorKind.TheVariants.{UnknownUnionTag}
 use Rattle.planus_read.specs.declared.errors.ErrorKind.TheVariants.{InvalidOffset}
+use Rattle.planus_read.specs.declared.errors.ErrorKind.TheVariants.{MissingRequired}
 use Rattle.planus_read.specs.Reading.{number}
 use Rattle.planus_read.specs.Tables.{Slot}
 use Rattle.planus_dump.specs.Lines.{field_path, item_path, value_line, fault_line, table_line}
 use Rattle.planus_dump.specs.Lines.{list_line, union_line, unions_line, struct_line, names_text}
-use Rattle.planus_dump.specs.Lines.{bytes_text}
+use Rattle.planus_dump.specs.Lines.{bytes_text, unknown_enum_text}
 use Rattle.planus_dump.specs.Tests.{fault_text, answered, byte_list_tests, content_at}
 use Rattle.planus_dump.specs.Answers.{leaf_at, bits_at, Seen, table_at, SeenItems, vector_at}
 use Rattle.planus_dump.specs.Answers.{SeenUnion, SeenUnions, union_at, unions_at}
@@ -28,6 +29,7 @@ use Rattle.planus_dump.specs.declared.schemas.Fixed.TheVariants as fixed
 use Rattle.planus_dump.specs.declared.schemas.Schema.{Schema}
 use Rattle.planus_dump.specs.declared.schemas.TableSchema.{TableSchema}
 use Rattle.planus_dump.specs.declared.schemas.FieldSchema.{FieldSchema}
+use Rattle.planus_dump.specs.declared.schemas.VariantSchema.{VariantSchema}
 use Rattle.planus_dump.specs.declared.schemas.Kind.{Kind}
 use Rattle.planus_dump.specs.declared.schemas.Kind.TheVariants.{One, List as ListOf, Union}
 use Rattle.planus_dump.specs.declared.schemas.Kind.TheVariants.{UnionVector, U8, I8, Bytes}
@@ -59,6 +61,11 @@ field_label field =
 abbrev pub fault_event : List ℕ → List ℕ → Event
 fault_event path fault = line (fault_line path fault)
 
+-- the line for a field that is required and absent; none for another
+abbrev pub absent_events : Truth → List ℕ → List Event
+absent_events true path = fault_event path (fault_text MissingRequired) ∷ []
+absent_events false path = []
+
 -- a scalar, or its error
 abbrev pub answer_event : List ℕ → Result (List ℕ) (List ℕ) → Event
 answer_event path (Ok text) = line (value_line path text)
@@ -80,10 +87,11 @@ stride_of Bool = 1
 stride_of Text = 4
 stride_of (Table index) = 4
 
--- the table of the variant with this tag
-abbrev pub variant_of : List (ℕ × ℕ) → ℕ → Option ℕ
+-- the variant with this tag
+abbrev pub variant_of : List VariantSchema → ℕ → Option VariantSchema
 variant_of [] tag = None
-variant_of (variant ∷ rest) tag = if variant.0 == tag then Some variant.1 else variant_of rest tag
+variant_of (variant ∷ rest) tag =
+    if variant.tag == tag then Some variant else variant_of rest tag
 
 -- by a table's index in the schema, bytes, the offset of its reference, and its path
 abbrev pub TableEvents : Type 0
@@ -128,14 +136,20 @@ names_in flags number (value ∷ values) =
     if has_value flags number value.0 then string_bytes value.1 ∷ names_in flags number values
     else names_in flags number values
 
-abbrev pub named : Result (List ℕ) (List ℕ) → List (List ℕ) → Result (List ℕ) (List ℕ)
-named (Ok text) names = Ok (text ++ names_text names)
-named (Err fault) names = Err fault
+-- A number and its names. None is an error, unless a number is a set of flags.
+abbrev pub text_named : Truth → List ℕ → List (List ℕ) → Result (List ℕ) (List ℕ)
+text_named true text names = Ok (text ++ names_text names)
+text_named false text [] = Err (unknown_enum_text text)
+text_named false text (name ∷ names) = Ok (text ++ names_text (name ∷ names))
+
+abbrev pub named : Truth → Result (List ℕ) (List ℕ) → List (List ℕ) → Result (List ℕ) (List ℕ)
+named flags (Ok text) names = text_named flags text names
+named flags (Err fault) names = Err fault
 
 -- the number of an enum at f of S
 abbrev pub enum_at : EnumSchema → List ℕ → ℕ → Result (List ℕ) (List ℕ)
 enum_at shape S f =
-    named (leaf_at (number_leaf shape.number) S f)
+    named shape.flags (leaf_at (number_leaf shape.number) S f)
     (names_in shape.flags (number S f (number_width shape.number)) shape.values.items)
 
 abbrev pub enum_events : Option EnumSchema → List ℕ → ℕ → List ℕ → List Event
@@ -260,23 +274,25 @@ module _ (E : TableEvents) where
   place_events (Nested index) S f path =
       nested_events index path (answered (byte_list_tests S f) (content_at S f))
 
-  abbrev pub variant_events : ℕ → List ℕ → ℕ → List ℕ → Option ℕ → List Event
-  variant_events tag S f path (Some index) = line (union_line path tag) ∷ E index S f path
+  abbrev pub variant_events : ℕ → List ℕ → ℕ → List ℕ → Option VariantSchema → List Event
+  variant_events tag S f path (Some variant) =
+      line (union_line path tag (string_bytes variant.name)) ∷ E variant.table S f path
   variant_events tag S f path None = fault_event path (fault_text (UnknownUnionTag tag)) ∷ []
 
   -- a union of these variants, if the schema has them
-  abbrev pub union_events : Option (Vec (ℕ × ℕ) Global) → ℕ → List ℕ → ℕ → List ℕ → List Event
+  abbrev pub union_events :
+      Option (Vec VariantSchema Global) → ℕ → List ℕ → ℕ → List ℕ → List Event
   union_events None tag S f path = []
   union_events (Some variants) tag S f path =
       variant_events tag S f path (variant_of variants.items tag)
 
   module _ (schema : Schema) where
     abbrev pub union_field_events :
-        ℕ → List ℕ → List ℕ → Result (Option SeenUnion) (List ℕ) → List Event
-    union_field_events index object path (Ok None) = []
-    union_field_events index object path (Ok (Some union)) =
+        Truth → ℕ → List ℕ → List ℕ → Result (Option SeenUnion) (List ℕ) → List Event
+    union_field_events required index object path (Ok None) = absent_events required path
+    union_field_events required index object path (Ok (Some union)) =
         union_events (slice_get schema.unions.items index) union.tag object union.offset path
-    union_field_events index object path (Err fault) = fault_event path fault ∷ []
+    union_field_events required index object path (Err fault) = fault_event path fault ∷ []
 
     abbrev pub union_items_events : ℕ → SeenUnions → List ℕ → ℕ → ℕ → List Event
     union_items_events index items path zero i = []
@@ -286,34 +302,39 @@ module _ (E : TableEvents) where
         ++ union_items_events index items path n (i + 1)
 
     -- a union vector, or its error
-    abbrev pub unions_events : ℕ → List ℕ → Result (Option SeenUnions) (List ℕ) → List Event
-    unions_events index path (Ok None) = []
-    unions_events index path (Ok (Some items)) =
+    abbrev pub unions_events :
+        Truth → ℕ → List ℕ → Result (Option SeenUnions) (List ℕ) → List Event
+    unions_events required index path (Ok None) = absent_events required path
+    unions_events required index path (Ok (Some items)) =
         line (unions_line path items.count) ∷ union_items_events index items path items.count 0
-    unions_events index path (Err fault) = fault_event path fault ∷ []
+    unions_events required index path (Err fault) = fault_event path fault ∷ []
 
-    -- only for a distance other than 0
-    abbrev pub present : ℕ → List Event → List Event
-    present distance events = if distance == 0 then [] else events
+    -- absent where the distance is 0
+    abbrev pub present : Truth → List ℕ → ℕ → List Event → List Event
+    present required path distance events =
+        if distance == 0 then absent_events required path else events
 
     -- a field of this kind in this slot
-    abbrev pub kind_events : Kind → ℕ → Seen → List ℕ → List Event
-    kind_events (Union index) i table path =
-        union_field_events index table.object path (union_at table i)
-    kind_events (UnionVector index) i table path = unions_events index path (unions_at table i)
-    kind_events (FixedKind value) i table path =
-        present (Slot table.slots i)
+    abbrev pub kind_events : Truth → Kind → ℕ → Seen → List ℕ → List Event
+    kind_events required (Union index) i table path =
+        union_field_events required index table.object path (union_at table i)
+    kind_events required (UnionVector index) i table path =
+        unions_events required index path (unions_at table i)
+    kind_events required (FixedKind value) i table path =
+        present required path (Slot table.slots i)
         (value_events schema value table.object (Slot table.slots i) path)
-    kind_events (FixedList value) i table path =
-        present (Slot table.slots i) (fixed_list_events schema value path
+    kind_events required (FixedList value) i table path =
+        present required path (Slot table.slots i) (fixed_list_events schema value path
         (vector_at (fixed_size schema value) table.object (Slot table.slots i)))
-    kind_events kind i table path =
-        present (Slot table.slots i) (place_events kind table.object (Slot table.slots i) path)
+    kind_events required kind i table path =
+        present required path (Slot table.slots i)
+        (place_events kind table.object (Slot table.slots i) path)
 
     abbrev pub fields_events : Seen → List ℕ → List FieldSchema → List Event
     fields_events table path [] = []
     fields_events table path (field ∷ fields) =
-        kind_events field.kind field.slot table (field_path path (field_label field))
+        kind_events field.required field.kind field.slot table
+        (field_path path (field_label field))
         ++ fields_events table path fields
 
     -- a table, or its error

@@ -21,7 +21,7 @@ pub record FaultLinesAreTold (path : List ℕ) : Type 0 where
   pub value : (text : List ℕ) → is_fault_line (value_line path text) ≡ false
   pub table : (name : List ℕ) → is_fault_line (table_line path name) ≡ false
   pub list : (count : ℕ) → is_fault_line (list_line path count) ≡ false
-  pub union : (tag : ℕ) → is_fault_line (union_line path tag) ≡ false
+  pub union : (tag : ℕ) (name : List ℕ) → is_fault_line (union_line path tag name) ≡ false
   pub unions : (count : ℕ) → is_fault_line (unions_line path count) ≡ false
   pub structs : (name : List ℕ) → is_fault_line (struct_line path name) ≡ false
 

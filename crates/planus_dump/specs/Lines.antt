@@ -73,8 +73,13 @@ table_line path name = path ++ (codes ": table " ++ name)
 abbrev pub list_line : List ℕ → ℕ → List ℕ
 list_line path count = path ++ (codes ": list " ++ decimal count)
 
-abbrev pub union_line : List ℕ → ℕ → List ℕ
-union_line path tag = path ++ (codes ": union " ++ decimal tag)
+-- a variant's name in parentheses, if it has one
+abbrev pub variant_text : List ℕ → List ℕ
+variant_text [] = []
+variant_text (byte ∷ bytes) = codes " (" ++ ((byte ∷ bytes) ++ codes ")")
+
+abbrev pub union_line : List ℕ → ℕ → List ℕ → List ℕ
+union_line path tag name = path ++ (codes ": union " ++ (decimal tag ++ variant_text name))
 
 abbrev pub unions_line : List ℕ → ℕ → List ℕ
 unions_line path count = path ++ (codes ": unions " ++ decimal count)
@@ -89,3 +94,7 @@ spaced names = flat_map (λ name. 32 ∷ name) names
 abbrev pub names_text : List (List ℕ) → List ℕ
 names_text [] = []
 names_text (name ∷ names) = codes " (" ++ (name ++ (spaced names ++ codes ")"))
+
+-- the error for a number, as it is printed, that no value of its enum has
+abbrev pub unknown_enum_text : List ℕ → List ℕ
+unknown_enum_text number = codes "Unknown enum (tag = " ++ number ++ codes ")"

@@ -15,6 +15,7 @@ use Rattle.planus_dump.specs.declared.schemas.Kind.TheVariants.{Fixed as FixedKi
 use Rattle.planus_dump.specs.declared.schemas.Kind.TheVariants.{Nested}
 use Rattle.planus_dump.specs.declared.schemas.StructSchema.{StructSchema}
 use Rattle.planus_dump.specs.declared.schemas.StructFieldSchema.{StructFieldSchema}
+use Rattle.planus_dump.specs.declared.schemas.VariantSchema.{VariantSchema}
 use Rattle.planus_dump.specs.declared.schemas.Fixed.{Fixed}
 use Rattle.planus_dump.specs.declared.schemas.Fixed.TheVariants as fixed
 use Rattle.planus_dump.specs.declared.schemas.Item.{Item}
@@ -63,15 +64,22 @@ abbrev pub table_fits : ℕ → ℕ → TableSchema → Bool
 table_fits tables unions table =
     is_name (string_bytes table.name) && list_all (field_fits tables unions) table.fields.items
 
--- no tag is 0 or used twice, and each variant's table is there
-abbrev pub variants_fit : ℕ → List (ℕ × ℕ) → Bool
+abbrev pub is_name_or_none : List ℕ → Bool
+is_name_or_none bytes = length bytes == 0 || is_name bytes
+
+-- the tag isn't 0 or another's, the table is there, and the name is one if there is any
+abbrev pub variant_fits : ℕ → VariantSchema → List VariantSchema → Bool
+variant_fits tables variant others =
+    not (variant.tag == 0) && nat_lt variant.table tables
+    && not (list_any (λ other. other.tag == variant.tag) others)
+    && is_name_or_none (string_bytes variant.name)
+
+abbrev pub variants_fit : ℕ → List VariantSchema → Bool
 variants_fit tables [] = true
 variants_fit tables (variant ∷ rest) =
-    not (variant.0 == 0) && nat_lt variant.1 tables
-    && not (list_any (λ other. other.0 == variant.0) rest)
-    && variants_fit tables rest
+    variant_fits tables variant rest && variants_fit tables rest
 
-abbrev pub union_fits : ℕ → Vec (ℕ × ℕ) Global → Bool
+abbrev pub union_fits : ℕ → Vec VariantSchema Global → Bool
 union_fits tables variants = variants_fit tables variants.items
 
 -- the schema has the value's enum or struct

@@ -1,9 +1,11 @@
 -- Schemas without their location in memory.
-use Rattle.std.specs.Prelude.{◌≡◌, ℕ, List, [], map, Bool, false}
+use Rattle.std.specs.Prelude.{◌≡◌, ℕ, List, [], map, Bool, false, Vec}
+use Rattle.std.specs.declared.alloc.Global.{Global}
 use Rattle.std.specs.String.{string_bytes}
 use Rattle.planus_dump.specs.declared.schemas.Schema.{Schema}
 use Rattle.planus_dump.specs.declared.schemas.TableSchema.{TableSchema}
 use Rattle.planus_dump.specs.declared.schemas.FieldSchema.{FieldSchema}
+use Rattle.planus_dump.specs.declared.schemas.VariantSchema.{VariantSchema}
 use Rattle.planus_dump.specs.declared.schemas.Kind.{Kind}
 use Rattle.planus_dump.specs.declared.schemas.EnumSchema.{EnumSchema}
 use Rattle.planus_dump.specs.declared.schemas.StructSchema.{StructSchema}
@@ -16,6 +18,7 @@ pub record FieldShape : Type 0 where
   pub name : List ℕ
   pub kind : Kind
   pub deprecated : Bool
+  pub required : Bool
 
 abbrev pub field_shape : FieldSchema → FieldShape
 field_shape field = record {
@@ -23,6 +26,7 @@ field_shape field = record {
   name = string_bytes field.name;
   kind = field.kind;
   deprecated = field.deprecated;
+  required = field.required;
 }
 
 pub record TableShape : Type 0 where
@@ -33,18 +37,39 @@ abbrev pub table_shape : TableSchema → TableShape
 table_shape shape =
     record { name = string_bytes shape.name; fields = map field_shape shape.fields.items }
 
+pub record VariantShape : Type 0 where
+  pub tag : ℕ
+  pub name : List ℕ
+  pub table : ℕ
+
+abbrev pub variant_shape : VariantSchema → VariantShape
+variant_shape variant = record {
+  tag = variant.tag;
+  name = string_bytes variant.name;
+  table = variant.table;
+}
+
+abbrev pub union_shape : Vec VariantSchema Global → List VariantShape
+union_shape variants = map variant_shape variants.items
+
 -- the schema has these tables and unions, no enum and no struct, and this root
 pub record HasShape
-    (schema : Schema) (tables : List TableShape) (unions : List (List (ℕ × ℕ))) (root : ℕ)
+    (schema : Schema) (tables : List TableShape) (unions : List (List VariantShape)) (root : ℕ)
     : Type 0 where
   pub tables_are : map table_shape schema.tables.items ≡ tables
-  pub unions_are : map (λ variants. variants.items) schema.unions.items ≡ unions
+  pub unions_are : map union_shape schema.unions.items ≡ unions
   pub no_enums : schema.enums.items ≡ []
   pub no_structs : schema.structs.items ≡ []
   pub root_is : schema.root ≡ root
 
 abbrev pub field_of : ℕ → List ℕ → Kind → FieldShape
-field_of slot name kind = record { slot = slot; name = name; kind = kind; deprecated = false }
+field_of slot name kind = record {
+  slot = slot;
+  name = name;
+  kind = kind;
+  deprecated = false;
+  required = false;
+}
 
 -- ---- values of a fixed size
 
@@ -82,10 +107,11 @@ struct_shape shape = record {
   fields = map struct_field_shape shape.fields.items;
 }
 
-pub record HasShapes (schema : Schema) (tables : List TableShape) (unions : List (List (ℕ × ℕ)))
+pub record HasShapes
+    (schema : Schema) (tables : List TableShape) (unions : List (List VariantShape))
     (enums : List EnumShape) (structs : List StructShape) (root : ℕ) : Type 0 where
   pub tables_are : map table_shape schema.tables.items ≡ tables
-  pub unions_are : map (λ variants. variants.items) schema.unions.items ≡ unions
+  pub unions_are : map union_shape schema.unions.items ≡ unions
   pub enums_are : map enum_shape schema.enums.items ≡ enums
   pub structs_are : map struct_shape schema.structs.items ≡ structs
   pub root_is : schema.root ≡ root

@@ -93,6 +93,9 @@ fn dump_enum(
         Err(kind) => return out.put_fault(path, kind),
     };
     let names = names_of(out.alloc, shape, number)?;
+    if names.is_empty() && !shape.flags {
+        return out.put_unknown(path, value);
+    }
     out.put_named(path, value, names.as_str())
 }
 

@@ -24,6 +24,6 @@ pub use printed::push_hex;
 pub use runs::{DumpRunError, dump_run};
 pub use schemas::{
     EnumSchema, FieldSchema, Fixed, Item, Kind, Number, Schema, StructFieldSchema, StructSchema,
-    TableSchema,
+    TableSchema, VariantSchema,
 };
 pub use views::{End, FirstLines, view};

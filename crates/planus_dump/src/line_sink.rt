@@ -5,6 +5,7 @@ ghost use Rattle.planus_dump.specs.Events.{line, deep, float};
 ghost use Rattle.planus_dump.specs.Lines.{value_text};
 ghost use Rattle.planus_dump.specs.Lines.{value_line, fault_line, table_line, list_line};
 ghost use Rattle.planus_dump.specs.Lines.{union_line, unions_line, struct_line};
+ghost use Rattle.planus_dump.specs.Lines.{unknown_enum_text};
 ghost use Rattle.planus_dump.specs.Tests.{fault_text};
 ghost use Rattle.planus_dump.specs.inner.Shown.{shown, event_of, begin, by_room, step, IsStopped};
 ghost use Rattle.planus_dump.specs.inner.Shown.{MayMake};
@@ -200,11 +201,15 @@ impl LineSink {
         self.put(format!(in self.alloc; "{path}: list {count}")?)
     }
 
-    pub fn put_union(&mut self, path: &str, tag: u8) -> Result<(), AllocError>
+    pub fn put_union(&mut self, path: &str, tag: u8, name: &str) -> Result<(), AllocError>
         ensures { OnOk result (shown self.new
-            ≡ step (shown self.old) (line (union_line path.now tag))) }
+            ≡ step (shown self.old) (line (union_line path.now tag name.now))) }
     {
-        self.put(format!(in self.alloc; "{path}: union {tag}")?)
+        if name.is_empty() {
+            self.put(format!(in self.alloc; "{path}: union {tag}")?)
+        } else {
+            self.put(format!(in self.alloc; "{path}: union {tag} ({name})")?)
+        }
     }
 
     pub fn put_unions(&mut self, path: &str, count: usize) -> Result<(), AllocError>
@@ -231,6 +236,17 @@ impl LineSink {
             return Ok(());
         }
         self.put(value_string(self.alloc, path, value, names, size)?)
+    }
+
+    /// `value` is a number that no value of its enum has.
+    pub fn put_unknown(&mut self, path: &str, value: Value<'_>) -> Result<(), AllocError>
+        ensures { OnOk result (shown self.new ≡ step (shown self.old)
+            (line (fault_line path.now (unknown_enum_text (value_text value.entry))))) }
+    {
+        let mut text = format!(in self.alloc; "{path} ! Unknown enum (tag = ")?;
+        push_value(self.alloc, &mut text, value)?;
+        text.push_str(")")?;
+        self.put(text)
     }
 
     pub fn put_fault(&mut self, path: &str, kind: ErrorKind) -> Result<(), AllocError>

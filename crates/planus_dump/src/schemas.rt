@@ -6,9 +6,8 @@
 pub struct Schema {
     /// The tables, which items name by index.
     pub tables: Vec<TableSchema>,
-    /// The variants of the unions, which kinds name by index: a tag above 0, used once, and the
-    /// index of the variant's table.
-    pub unions: Vec<Vec<(u8, usize)>>,
+    /// The variants of the unions, which kinds name by index.
+    pub unions: Vec<Vec<VariantSchema>>,
     /// The enums, which fixed values name by index.
     pub enums: Vec<EnumSchema>,
     /// The structs, which fixed values name by index.
@@ -37,6 +36,19 @@ pub struct FieldSchema {
     pub kind: Kind,
     /// Whether `(deprecated)` is printed after the name.
     pub deprecated: bool,
+    /// Whether a table without the field is wrong.
+    pub required: bool,
+}
+
+/// A variant of a union.
+#[derive(Debug, Drop)]
+pub struct VariantSchema {
+    /// The tag, above 0 and used once.
+    pub tag: u8,
+    /// The name, printed after the tag, or none at all.
+    pub name: String,
+    /// The index of the variant's table.
+    pub table: usize,
 }
 
 /// An enum.

@@ -4,10 +4,13 @@ ghost use Rattle.std.specs.List.{list_all, list_any};
 ghost use Rattle.std.specs.Prelude.{◌==◌};
 ghost use Rattle.planus_dump.specs.Schemas.{is_name_byte, is_name, item_fits, kind_fits};
 ghost use Rattle.planus_dump.specs.Schemas.{field_fits, table_fits, variants_fit};
+ghost use Rattle.planus_dump.specs.Schemas.{is_name_or_none, variant_fits};
 ghost use Rattle.planus_dump.specs.Schemas.{union_fits, is_good, fixed_fits, fixed_kind_fits};
 ghost use Rattle.planus_dump.specs.Schemas.{fixed_kinds_fit, struct_fits, fixed_values_fit};
 
-use crate::schemas::{FieldSchema, Fixed, Item, Kind, Schema, StructSchema, TableSchema};
+use crate::schemas::{
+    FieldSchema, Fixed, Item, Kind, Schema, StructSchema, TableSchema, VariantSchema,
+};
 
 fn is_name_byte_of(byte: u8) -> bool
     ensures { result ≡ is_name_byte byte }
@@ -50,22 +53,37 @@ fn table_fits_in(table: &TableSchema, tables: usize, unions: usize) -> bool
     is_name_of(table.name.as_str())
 }
 
-fn has_tag(variants: &[(u8, usize)], tag: u8) -> bool
-    ensures { result ≡ list_any (λ other. other.0 == tag) variants.now }
+fn has_tag(variants: &[VariantSchema], tag: u8) -> bool
+    ensures { result ≡ list_any (λ other. other.tag == tag) variants.now }
 {
     for other in variants {
-        if other.0 == tag {
+        if other.tag == tag {
             return true;
         }
     }
     false
 }
 
-fn variants_fit_in(variants: &[(u8, usize)], tables: usize) -> bool
+fn is_name_or_none_of(name: &str) -> bool
+    ensures { result ≡ is_name_or_none name.now }
+{
+    name.is_empty() || is_name_of(name)
+}
+
+fn variant_fits_in(variant: &VariantSchema, others: &[VariantSchema], tables: usize) -> bool
+    ensures { result ≡ variant_fits tables variant.now others.now }
+{
+    variant.tag != 0
+        && variant.table < tables
+        && !has_tag(others, variant.tag)
+        && is_name_or_none_of(variant.name.as_str())
+}
+
+fn variants_fit_in(variants: &[VariantSchema], tables: usize) -> bool
     ensures { result ≡ variants_fit tables variants.now }
 {
-    for (index, (tag, table)) in variants.iter().enumerate() {
-        if *tag == 0 || *table >= tables || has_tag(&variants[index + 1..], *tag) {
+    for (index, variant) in variants.iter().enumerate() {
+        if !variant_fits_in(variant, &variants[index + 1..], tables) {
             return false;
         }
     }
@@ -83,7 +101,7 @@ fn tables_fit_in(all: &[TableSchema], tables: usize, unions: usize) -> bool
     true
 }
 
-fn unions_fit_in(all: &[Vec<(u8, usize)>], tables: usize) -> bool
+fn unions_fit_in(all: &[Vec<VariantSchema>], tables: usize) -> bool
     ensures { result ≡ list_all (union_fits tables) all.now }
 {
     for variants in all {

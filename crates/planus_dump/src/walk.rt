@@ -5,18 +5,20 @@ ghost use Rattle.planus_read.specs.Places.{place_bytes, place_offset, tagged_tag
 ghost use Rattle.planus_dump.specs.Lines.{field_path as field_path_lem};
 ghost use Rattle.planus_dump.specs.Answers.{table_at, vector_at};
 ghost use Rattle.planus_dump.specs.Events.{events, kind_events, place_events, variant_of};
+ghost use Rattle.planus_dump.specs.Events.{absent_events};
 ghost use Rattle.planus_dump.specs.Events.{field_label, buffer_events, stride_of as stride_lem};
 ghost use Rattle.planus_dump.specs.Events.{union_events, unions_events, list_events, table_events};
 ghost use Rattle.planus_dump.specs.ReadingViews.{table_seen, found_events, unions_seen};
 ghost use Rattle.planus_dump.specs.inner.Shown.{shown, feed};
-ghost use Rattle.std.specs.Prelude.{Some, Ok};
+ghost use Rattle.std.specs.Prelude.{Some, Ok, false};
+ghost use Rattle.std.specs.Option.{option_map};
 
 use crate::fixed::{dump_value, dump_values};
 use crate::line_sink::LineSink;
 use crate::readings::{
     Found, field_place, item_found, leaf_found, read_table, read_union, read_values,
 };
-use crate::schemas::{FieldSchema, Item, Kind, Schema, TableSchema};
+use crate::schemas::{FieldSchema, Item, Kind, Schema, TableSchema, VariantSchema};
 use crate::unions::{Unions, read_unions};
 use crate::values::{Leaf, Value};
 use planus::errors::ErrorKind;
@@ -106,11 +108,22 @@ fn dump_field(
     field: &FieldSchema,
 ) -> Result<(), AllocError>
     ensures { OnOk result (shown out.new ≡ feed (shown out.old)
-        (kind_events (events schema.now left) schema.now field.now.kind field.now.slot
-        (table_seen table.entry) (field_path_lem path.now (field_label field.now)))) }
+        (kind_events (events schema.now left) schema.now field.now.required field.now.kind
+        field.now.slot (table_seen table.entry) (field_path_lem path.now (field_label field.now)))) }
 {
     let path = field_path(out.alloc, path, field)?;
     dump_kind(schema, out, left, path.as_str(), table, field)
+}
+
+fn dump_absent(out: &mut LineSink, path: &str, required: bool) -> Result<(), AllocError>
+    ensures { OnOk result (shown out.new
+        ≡ feed (shown out.old) (absent_events required path.now)) }
+{
+    if required {
+        out.put_fault(path, ErrorKind::MissingRequired)
+    } else {
+        Ok(())
+    }
 }
 
 #[cycle(walk)]
@@ -123,22 +136,22 @@ fn dump_kind(
     field: &FieldSchema,
 ) -> Result<(), AllocError>
     ensures { OnOk result (shown out.new ≡ feed (shown out.old)
-        (kind_events (events schema.now left) schema.now field.now.kind field.now.slot
-        (table_seen table.entry) path.now)) }
+        (kind_events (events schema.now left) schema.now field.now.required field.now.kind
+        field.now.slot (table_seen table.entry) path.now)) }
 {
     match field.kind {
         Kind::Union(index) => match read_union(table, field.slot) {
-            Ok(None) => Ok(()),
+            Ok(None) => dump_absent(out, path, field.required),
             Ok(Some(tagged)) => dump_union(schema, out, left, path, index, tagged),
             Err(kind) => out.put_fault(path, kind),
         },
         Kind::UnionVector(index) => match read_unions(table, field.slot) {
-            Ok(None) => Ok(()),
+            Ok(None) => dump_absent(out, path, field.required),
             Ok(Some(unions)) => dump_unions(schema, out, left, path, index, unions),
             Err(kind) => out.put_fault(path, kind),
         },
         kind => match field_place(table, field.slot) {
-            None => Ok(()),
+            None => dump_absent(out, path, field.required),
             Some(place) => match kind {
                 Kind::Fixed(fixed) => dump_value(schema, out, path, fixed, place),
                 Kind::FixedList(fixed) => dump_values(schema, out, path, fixed, place),
@@ -262,10 +275,10 @@ fn dump_union(
         Some(variants) => variants,
     };
     let tag = tagged.tag();
-    match variant_table(variants.as_slice(), tag) {
-        Some(index) => {
-            out.put_union(path, tag)?;
-            dump_table(schema, out, left, path, index, tagged.place())
+    match variant_with(variants.as_slice(), tag) {
+        Some(variant) => {
+            out.put_union(path, tag, variant.name.as_str())?;
+            dump_table(schema, out, left, path, variant.table, tagged.place())
         }
         None => out.put_fault(path, ErrorKind::UnknownUnionTag { tag }),
     }
@@ -281,7 +294,7 @@ fn dump_unions(
     unions: Unions<'_>,
 ) -> Result<(), AllocError>
     ensures { OnOk result (shown out.new ≡ feed (shown out.old)
-        (unions_events (events schema.now left) schema.now index path.now
+        (unions_events (events schema.now left) schema.now false index path.now
         (Ok (Some (unions_seen unions.entry))))) }
 {
     let count = unions.len();
@@ -300,12 +313,12 @@ fn dump_unions(
     Ok(())
 }
 
-fn variant_table(variants: &[(u8, usize)], tag: u8) -> Option<usize>
-    ensures { result ≡ variant_of variants.now tag }
+fn variant_with(variants: &[VariantSchema], tag: u8) -> Option<&VariantSchema>
+    ensures { option_map (λ variant. variant.now) result ≡ variant_of variants.now tag }
 {
-    for (variant, table) in variants {
-        if *variant == tag {
-            return Some(*table);
+    for variant in variants {
+        if variant.tag == tag {
+            return Some(variant);
         }
     }
     None

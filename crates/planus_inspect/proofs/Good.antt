@@ -1,6 +1,6 @@
 -- What a sound schema is shown by is good.
 use Rattle.std.proofs.Common.{◌≡◌, ℕ, zero, suc, ◌+◌, ◌<◌, ◌≤◌, ◌==◌, List, [], ◌∷◌, ◌++◌, length, map, refl, sym, ap, subst, ◌∙◌, arith, Bool, true, false, Some, None, Option, slice_get}
-use Rattle.std.specs.Prelude.{nat_lt, nat_eq, not, ◌&&◌, fold, if◌then◌else◌, nat_le, Vec}
+use Rattle.std.specs.Prelude.{nat_lt, nat_eq, not, ◌&&◌, ◌||◌, fold, if◌then◌else◌, nat_le, Vec}
 use Rattle.std.specs.List.{AllByRecursion, list_all, list_any, IsDistinct}
 use Rattle.std.specs.String.{string_bytes}
 use Rattle.std.specs.declared.alloc.Global.{Global}
@@ -26,11 +26,12 @@ use Rattle.planus_schema.specs.Unions.{tag_in, is_tag}
 use Rattle.planus_dump.specs.declared.schemas.Schema as dump
 use Rattle.planus_dump.specs.declared.schemas.Kind.{Kind}
 use Rattle.planus_dump.specs.declared.schemas.TableSchema.{TableSchema}
+use Rattle.planus_dump.specs.declared.schemas.VariantSchema.{VariantSchema}
 use Rattle.planus_dump.specs.declared.schemas.FieldSchema.{FieldSchema}
 use Rattle.planus_dump.specs.declared.schemas.StructSchema.{StructSchema}
 use Rattle.planus_dump.specs.declared.schemas.StructFieldSchema.{StructFieldSchema}
-use Rattle.planus_dump.specs.Schemas.{is_name, is_name_byte, kind_fits, field_fits, table_fits, variants_fit, union_fits, fixed_fits, fixed_kind_fits, fixed_kinds_fit, struct_field_fits, struct_fits, is_good}
-use Rattle.planus_dump.specs.Shapes.{FieldShape, field_shape, TableShape, table_shape, StructFieldShape, struct_field_shape, StructShape, struct_shape}
+use Rattle.planus_dump.specs.Schemas.{is_name, is_name_byte, is_name_or_none, variant_fits, kind_fits, field_fits, table_fits, variants_fit, union_fits, fixed_fits, fixed_kind_fits, fixed_kinds_fit, struct_field_fits, struct_fits, is_good}
+use Rattle.planus_dump.specs.Shapes.{FieldShape, field_shape, TableShape, table_shape, StructFieldShape, struct_field_shape, StructShape, struct_shape, VariantShape, variant_shape, union_shape}
 use Rattle.planus_inspect.specs.Shown.{shown_byte, after_dot, last_word, some_word, shown_name, scalar_fixed, scalar_kind, scalar_list, base_fixed, one_kind, list_kind, kind_of, field_shown, fields_shown, table_shown, member_shown, union_shown, field_in_struct, struct_fields_shown, struct_shown, Shows}
 
 both : (a b : Bool) → a ≡ true → b ≡ true → (a && b) ≡ true
@@ -255,12 +256,20 @@ some_tag t h = let least = (both_true (nat_le 1 t) (nat_le t 255) h).0 in by_tes
     by_test true e least = absurd (grind (arith, nat_tests, e, least))
     by_test false e least = refl
 
-none_alike : (t : ℕ) (ms : List UnionMember) → AllByRecursion (λ u. nat_eq t u ≡ false) (map tag_in ms) → not (list_any (λ (other : ℕ × ℕ). other.0 == t) (map member_shown ms)) ≡ true
+none_alike : (t : ℕ) (ms : List UnionMember) → AllByRecursion (λ u. nat_eq t u ≡ false) (map tag_in ms) → not (list_any (λ (other : VariantShape). other.tag == t) (map member_shown ms)) ≡ true
 none_alike t [] h = refl
 none_alike t (m ∷ ms) h = rw (other_tag t m.tag h.0) (none_alike t ms h.1)
 
+-- the variants of a union, by their shapes
+abbrev variant_is_fit : ℕ → VariantShape → List VariantShape → Bool
+variant_is_fit n variant others = not (variant.tag == 0) && nat_lt variant.table n && not (list_any (λ other. other.tag == variant.tag) others) && is_name_or_none variant.name
+
+abbrev variants_are_fit : ℕ → List VariantShape → Bool
+variants_are_fit n [] = true
+variants_are_fit n (variant ∷ rest) = variant_is_fit n variant rest && variants_are_fit n rest
+
 members_fit : (bs : List Body) (n : ℕ) → IsIndex bs n → (ms : List UnionMember) → list_all is_tag (map tag_in ms) ≡ true → IsDistinct nat_eq (map tag_in ms)
-    → AllByRecursion (λ m. IsTableAt bs m.table) ms → variants_fit n (map member_shown ms) ≡ true
+    → AllByRecursion (λ m. IsTableAt bs m.table) ms → variants_are_fit n (map member_shown ms) ≡ true
 unfolding IsIndex IsDistinct
 members_fit bs n index [] tags distinct tables = refl
 members_fit bs n index (m ∷ ms) tags distinct tables =
@@ -269,20 +278,39 @@ members_fit bs n index (m ∷ ms) tags distinct tables =
     let rest = members_fit bs n index ms tag.1 distinct.1 tables.1 in
     let alone = none_alike m.tag ms distinct.0 in
     let first = some_tag m.tag tag.0 in
-    both (not (m.tag == 0) && nat_lt m.table n && not (list_any (λ (other : ℕ × ℕ). other.0 == m.tag) (map member_shown ms))) (variants_fit n (map member_shown ms))
-    (both (not (m.tag == 0) && nat_lt m.table n) (not (list_any (λ (other : ℕ × ℕ). other.0 == m.tag) (map member_shown ms))) (both (not (m.tag == 0)) (nat_lt m.table n) first inside) alone) rest
+    let others = list_any (λ (other : VariantShape). other.tag == m.tag) (map member_shown ms) in
+    both (variant_is_fit n (member_shown m) (map member_shown ms)) (variants_are_fit n (map member_shown ms))
+    (both (not (m.tag == 0) && nat_lt m.table n && not others) (is_name_or_none (shown_name m.name.items))
+    (both (not (m.tag == 0) && nat_lt m.table n) (not others) (both (not (m.tag == 0)) (nat_lt m.table n) first inside) alone) (some_name (shown_name m.name.items) (shown_is_name m.name.items))) rest
+  where
+    some_name : (name : List ℕ) → is_name name ≡ true → is_name_or_none name ≡ true
+    some_name name h = by_test (length name == 0)
+      where
+        by_test : (none : Bool) → (none || is_name name) ≡ true
+        by_test true = refl
+        by_test false = h
 
-union_is_fit : (bs : List Body) (n : ℕ) → IsIndex bs n → (d : Declared) → Refers1 bs n d → variants_fit n (union_shown d) ≡ true
+union_is_fit : (bs : List Body) (n : ℕ) → IsIndex bs n → (d : Declared) → Refers1 bs n d → variants_are_fit n (union_shown d) ≡ true
 union_is_fit bs n index d h = by_body d.body h.sound h.refers
   where
-    by_body : (b : Body) → IsBody b → RefersBody bs h.at b → variants_fit n (union_shown (record d { body = b })) ≡ true
+    by_body : (b : Body) → IsBody b → RefersBody bs h.at b → variants_are_fit n (union_shown (record d { body = b })) ≡ true
     by_body (body.Table t) s r = refl
     by_body (body.Struct x) s r = refl
     by_body (body.Enum e) s r = refl
     by_body (body.Union u) s r = members_fit bs n index u.members.items s.tags s.distinct r
 
-union_passes : (n : ℕ) (v : Vec (ℕ × ℕ) Global) → variants_fit n v.items ≡ true → union_fits n v ≡ true
-union_passes n v h = h
+any_mapped : (t : ℕ) (variants : List VariantSchema) → list_any (λ (other : VariantShape). other.tag == t) (map variant_shape variants) ≡ list_any (λ (other : VariantSchema). other.tag == t) variants
+any_mapped t [] = refl
+any_mapped t (variant ∷ rest) = ap (λ any. (variant.tag == t) || any) (any_mapped t rest)
+
+variants_pass : (n : ℕ) (variants : List VariantSchema) → variants_are_fit n (map variant_shape variants) ≡ variants_fit n variants
+variants_pass n [] = refl
+variants_pass n (variant ∷ rest) =
+    ap (λ any. (not (variant.tag == 0) && nat_lt variant.table n && not any && is_name_or_none (string_bytes variant.name)) && variants_are_fit n (map variant_shape rest)) (any_mapped variant.tag rest)
+    ∙ ap (λ fit. variant_fits n variant rest && fit) (variants_pass n rest)
+
+union_passes : (n : ℕ) (v : Vec VariantSchema Global) → variants_are_fit n (union_shape v) ≡ true → union_fits n v ≡ true
+union_passes n v h = sym (variants_pass n v.items) ∙ h
 
 same_length : {A B C : Type 0} (f : A → C) (g : B → C) (xs : List A) (ys : List B) → map f xs ≡ map g ys → length xs ≡ length ys
 same_length f g xs ys e = sym (length-map xs f) ∙ ap length e ∙ length-map ys g
@@ -301,13 +329,13 @@ sound_is_good schema root shown h sound (table, there) =
     let structs : length shown.structs.items ≡ n = same_length _ _ _ _ h.structs_are in
     let table_shapes : AllByRecursion (TableFits n) (map table_shape shown.tables.items)
     = subst (AllByRecursion (TableFits n)) (sym h.tables_are) (all_mapped table_shown (Refers1 bs n) (TableFits n) (table_is_fit bs n index) ds each) in
-    let union_shapes : AllByRecursion (λ v. variants_fit n v ≡ true) (map (λ (v : Vec (ℕ × ℕ) Global). v.items) shown.unions.items)
-    = subst (AllByRecursion (λ v. variants_fit n v ≡ true)) (sym h.unions_are) (all_mapped union_shown (Refers1 bs n) (λ v. variants_fit n v ≡ true) (union_is_fit bs n index) ds each) in
+    let union_shapes : AllByRecursion (λ v. variants_are_fit n v ≡ true) (map union_shape shown.unions.items)
+    = subst (AllByRecursion (λ v. variants_are_fit n v ≡ true)) (sym h.unions_are) (all_mapped union_shown (Refers1 bs n) (λ v. variants_are_fit n v ≡ true) (union_is_fit bs n index) ds each) in
     let struct_shapes : AllByRecursion (StructFits n) (map struct_shape shown.structs.items)
     = subst (AllByRecursion (StructFits n)) (sym h.structs_are) (all_mapped struct_shown (Refers1 bs n) (StructFits n) (struct_is_fit bs n) ds each) in
     let root_fits : nat_lt shown.root n ≡ true = subst (λ i. nat_lt i n ≡ true) (sym h.root_is) (index root (body.Table table) there) in
     let tables_fit : list_all (table_fits n n) shown.tables.items ≡ true = all_of_map table_shape (table_fits n n) (TableFits n) (table_passes n) shown.tables.items table_shapes in
-    let unions_fit : list_all (union_fits n) shown.unions.items ≡ true = all_of_map (λ (v : Vec (ℕ × ℕ) Global). v.items) (union_fits n) (λ v. variants_fit n v ≡ true) (union_passes n) shown.unions.items union_shapes in
+    let unions_fit : list_all (union_fits n) shown.unions.items ≡ true = all_of_map union_shape (union_fits n) (λ v. variants_are_fit n v ≡ true) (union_passes n) shown.unions.items union_shapes in
     let kinds_fit : list_all (fixed_kinds_fit n n) shown.tables.items ≡ true = all_of_map table_shape (fixed_kinds_fit n n) (TableFits n) (kinds_pass n) shown.tables.items table_shapes in
     let structs_fit : list_all (struct_fits n n) shown.structs.items ≡ true = all_of_map struct_shape (struct_fits n n) (StructFits n) (struct_passes n) shown.structs.items struct_shapes in
     rw (tables, unions, enums, structs, root_fits, tables_fit, unions_fit, kinds_fit, structs_fit) refl

@@ -28,7 +28,7 @@ use Rattle.planus_dump.specs.declared.schemas.Number as numbers
 use Rattle.planus_dump.specs.declared.schemas.Number.TheVariants as number
 use Rattle.planus_dump.specs.Schemas.{is_name_byte}
 use Rattle.planus_dump.specs.Shapes.{FieldShape, TableShape, EnumShape, StructFieldShape}
-use Rattle.planus_dump.specs.Shapes.{StructShape, HasShapes}
+use Rattle.planus_dump.specs.Shapes.{StructShape, VariantShape, HasShapes}
 
 -- a byte of a name; `_` replaces any other
 abbrev pub shown_byte : ℕ → ℕ
@@ -130,12 +130,14 @@ kind_of t None = if t.vector then list_kind t.base else one_kind t.base
 abbrev pub first_slot : TableField → ℕ
 first_slot f = if is_union f.kind then f.slot - 1 else f.slot
 
+-- One that is deprecated isn't written, so not required either.
 abbrev pub field_shown : TableField → FieldShape
 field_shown f = record {
   slot = first_slot f;
   name = shown_name f.name.items;
   kind = kind_of f.kind f.nested;
   deprecated = f.deprecated;
+  required = f.required && not f.deprecated;
 }
 
 abbrev pub fields_shown : Body → List FieldShape
@@ -149,13 +151,13 @@ fields_shown (body.Union u) = []
 abbrev pub table_shown : Declared → TableShape
 table_shown d = record { name = shown_name d.name.items; fields = fields_shown d.body }
 
-abbrev pub member_shown : UnionMember → ℕ × ℕ
-member_shown m = (m.tag, m.table)
+abbrev pub member_shown : UnionMember → VariantShape
+member_shown m = record { tag = m.tag; name = shown_name m.name.items; table = m.table }
 
-abbrev pub union_shown : Declared → List (ℕ × ℕ)
+abbrev pub union_shown : Declared → List VariantShape
 union_shown d = members_of d.body
   where
-    members_of : Body → List (ℕ × ℕ)
+    members_of : Body → List VariantShape
     members_of (body.Table t) = []
     members_of (body.Struct s) = []
     members_of (body.Enum e) = []

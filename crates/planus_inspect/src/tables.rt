@@ -28,6 +28,7 @@ fn field_schema(alloc: Global, field: &TableField) -> Result<FieldSchema, AllocE
         name: shown_name(alloc, &field.name)?,
         kind: kind_of(field.kind, field.nested),
         deprecated: field.deprecated,
+        required: field.required && !field.deprecated,
     })
 }
 

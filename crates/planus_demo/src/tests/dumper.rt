@@ -4,7 +4,7 @@ mod deep;
 mod schemas;
 mod steps;
 
-use planus_dump::{DumpError, FieldSchema, Item, Kind, Schema, TableSchema, dump};
+use planus_dump::{DumpError, FieldSchema, Item, Kind, Schema, TableSchema, VariantSchema, dump};
 use planus_testing::{Test, check, check_eq};
 use std::alloc::{AllocError, Global};
 
@@ -39,6 +39,7 @@ fn table_of(alloc: Global, parts: &TableParts<'_>) -> Result<TableSchema, AllocE
             name,
             kind,
             deprecated: false,
+            required: false,
         })?;
     }
     let name = String::from_str(alloc, parts.0)?;
@@ -53,10 +54,25 @@ fn tables_of(alloc: Global, parts: &[TableParts<'_>]) -> Result<Vec<TableSchema>
     Ok(tables)
 }
 
-fn unions_of(alloc: Global, parts: &[&[(u8, usize)]]) -> Result<Vec<Vec<(u8, usize)>>, AllocError> {
+fn variants_of(alloc: Global, parts: &[(u8, usize)]) -> Result<Vec<VariantSchema>, AllocError> {
+    let mut variants = Vec::new(alloc);
+    for (tag, table) in parts {
+        variants.push(VariantSchema {
+            tag: *tag,
+            name: String::new(alloc),
+            table: *table,
+        })?;
+    }
+    Ok(variants)
+}
+
+fn unions_of(
+    alloc: Global,
+    parts: &[&[(u8, usize)]],
+) -> Result<Vec<Vec<VariantSchema>>, AllocError> {
     let mut unions = Vec::new(alloc);
     for variants in parts {
-        unions.push(Vec::from_slice(alloc, variants)?)?;
+        unions.push(variants_of(alloc, variants)?)?;
     }
     Ok(unions)
 }

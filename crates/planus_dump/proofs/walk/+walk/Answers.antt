@@ -80,13 +80,13 @@ dump_items-loop-i-preserved t c =
     found_fed E item S c.args.path.now c.as_str.result.now c.in-Ok.values.1 i found
     (shown c.loop-i.out) (shown c.dump_found.new.out) _ (omega arith) is (c.as_str.ensures.value ∙ c.in_ok-path.ensures.ok) c.in_ok-dump_found.ensures c.loop-i.invariant
 
-pub dump_union-returns-in-None-variant_table : goal.dump_union-returns-in-None-variant_table
-dump_union-returns-in-None-variant_table t c =
+pub dump_union-returns-in-None-variant_with : goal.dump_union-returns-in-None-variant_with
+dump_union-returns-in-None-variant_with t c =
     let E = events c.args.schema.now c.args.left in let variants = c.in-Some.variants.now in let tag = tagged_tag c.args.tagged in
     let S = place_bytes (tagged_place c.args.tagged) in let f = place_offset (tagged_place c.args.tagged) in let path = c.args.path.now in
     let some : slice_get c.args.schema.now.unions.items c.args.index ≡ Some variants = subst (λ xs. slice_get xs c.args.index ≡ Some variants) c.deref.ensures.value
     (slice_get_read c.deref.result.now (length c.deref.result.now) c.args.index variants refl (ltb-true c.args.index (length c.deref.result.now) (sym c.in-Some.ensures.lookup.0)) c.in-Some.ensures.lookup.1) in
-    let none : variant_of variants.items tag ≡ None = sym (c.in-None-variant_table.ensures ∙ ap (λ xs. variant_of xs c.tag-tag.result) c.as_slice.ensures.value ∙ ap (variant_of variants.items) c.tag-tag.ensures) in
+    let none : variant_of variants.items tag ≡ None = sym (c.in-None-variant_with.ensures ∙ ap (λ xs. variant_of xs c.tag-tag.result) c.as_slice.ensures.value ∙ ap (variant_of variants.items) c.tag-tag.ensures) in
     subst (λ es. OnOk c.put_fault.result (shown c.put_fault.new.self ≡ feed (shown c.args.out.now) es))
     (sym (union_unknown E (slice_get c.args.schema.now.unions.items c.args.index) variants tag S f path some none ∙ ap (λ k. fault_event path (fault_text (UnknownUnionTag k)) ∷ []) (sym c.tag-tag.ensures)))
     c.put_fault.ensures

@@ -1,4 +1,4 @@
-use Rattle.std.proofs.Common.{◌≡◌, ◌+◌, ◌-◌, ◌*◌, drop, Ok, Some}
+use Rattle.std.proofs.Common.{◌≡◌, ◌+◌, ◌-◌, ◌*◌, drop, Ok, Some, false}
 use Rattle.planus_read.specs.Slices.{slice_bytes}
 use Rattle.planus_read.specs.Places.{place_bytes, place_offset}
 use Rattle.planus_dump.specs.Answers.{table_at, vector_at}
@@ -51,4 +51,4 @@ invariant-dump_shape-loop-field l =
 abbrev pub invariant-dump_unions-loop-i : goal.invariant-dump_unions-loop-i
 invariant-dump_unions-loop-i l =
     feed (shown l.out) (union_items_events (events l.schema l.left) l.schema l.index (unions_seen l.unions) l.path (l.count - l.i-counter) l.i-counter)
-    ≡ feed (shown l.fn.out) (unions_events (events l.schema l.left) l.schema l.index l.path (Ok (Some (unions_seen l.unions))))
+    ≡ feed (shown l.fn.out) (unions_events (events l.schema l.left) l.schema false l.index l.path (Ok (Some (unions_seen l.unions))))
