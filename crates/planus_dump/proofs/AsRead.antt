@@ -39,14 +39,14 @@ module _ {A B : Type 0} (reading : Reading A) (sees : A → B) (ts : List Test) 
   by_fault : (text : List ℕ) → answered ts value ≡ Err text → AllHold reading.clauses → ⊥
   by_fault text e all = (let f : Ok value ≡ Err text = sym (all_pass reading.clauses ts value matches all) ∙ e in cc)
 
-  says : SaysAsRead reading sees (answered ts value)
+  pub says : SaysAsRead reading sees (answered ts value)
   says = record { answer = by_answer; value = by_value; fault = by_fault }
 
-mapped : {A : Type 0} (g : ℕ → A) (m : Option ℕ) (x : A) → option_map g m ≡ Some x → (n : ℕ) × (m ≡ Some n) × (g n ≡ x)
+pub mapped : {A : Type 0} (g : ℕ → A) (m : Option ℕ) (x : A) → option_map g m ≡ Some x → (n : ℕ) × (m ≡ Some n) × (g n ≡ x)
 mapped g None x e = cc
 mapped g (Some n) x e = (n, refl, cc)
 
-number_matches : (S : List ℕ) (f : ℕ) (width : Width) → Matches ((number_reading S f width).clauses) (number_test S f width ∷ [])
+pub number_matches : (S : List ℕ) (f : ℕ) (width : Width) → Matches ((number_reading S f width).clauses) (number_test S f width ∷ [])
 number_matches S f width = (le_match (f + byte_len width) (length S) InvalidOffset, tt)
 
 unsigned_said : (S : List ℕ) (f : ℕ) (width : Width) → SaysAsRead (number_reading S f width) decimal (unsigned_at width S f)

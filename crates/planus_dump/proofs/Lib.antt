@@ -11,3 +11,4 @@ mod NoFaults
 mod CleanDumps
 mod Ending
 pub mod AsRead
+pub mod AsReadParts

@@ -5,6 +5,8 @@ ghost use Rattle.planus_dump.specs.FaultLines.{HasNoSpace};
 ghost use Rattle.planus_dump.specs.declared.schemas.Schema as schema;
 ghost use Rattle.planus_read.specs.declared.table_reader.Table as reader;
 ghost use Rattle.planus_dump.specs.AsRead.{ReadingsAreSaid, UnionsAreSaid, UnionVectorsAreSaid};
+ghost use Rattle.planus_dump.specs.AsRead.{FloatsAreSaid, EnumsAreSaid, StructsAreSaid};
+ghost use Rattle.planus_dump.specs.AsRead.{BuffersAreSaid};
 ghost use Rattle.planus_dump.specs.Laws.{FaultLinesAreTold, PathsHaveNoSpace};
 ghost use Rattle.planus_dump.specs.Laws.{FinishesHaveNoFault, DumpsHaveNoFault};
 
@@ -25,7 +27,15 @@ pub fn finishes_have_no_fault()
 /// A dump prints what the readers of `planus_read` return: the value, or else the message of the
 /// first clause that fails.
 pub fn readings_are_said()
-    ensures { (S : List ℕ) (f : ℕ) → ReadingsAreSaid S f }
+    ensures values { (S : List ℕ) (f : ℕ) → ReadingsAreSaid S f }
+    ensures floats { (S : List ℕ) (f : ℕ) → FloatsAreSaid S f }
+    ensures structs { (S : List ℕ) (f : ℕ) → StructsAreSaid S f }
+    ensures buffers { (S : List ℕ) (f : ℕ) → BuffersAreSaid S f }
+{}
+
+/// The same for enums, where `E` is a type of an enum's variants.
+pub fn enums_are_said<E>()
+    ensures { (S : List ℕ) (f : ℕ) → EnumsAreSaid E S f }
 {}
 
 /// The same for unions and union vectors of any table.
