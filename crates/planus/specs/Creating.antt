@@ -15,7 +15,7 @@ use Rattle.planus.specs.FieldLines.FieldLine.{optional, required, plain_if, plai
 use Rattle.planus.specs.FieldLines.FieldLine.{signed_or, union, union_required, unions}
 use Rattle.planus.specs.FieldLines.FieldLine.{unions_required}
 use Rattle.planus.specs.Holds.{as_signed}
-use Rattle.planus.specs.Preparing.{Fields, WritesFields}
+use Rattle.planus.specs.Preparing.{Fields, WritesInTurn}
 use Rattle.planus.specs.TableFields.{field_in, union_value_in, union_tag_in, list_tags_in}
 use Rattle.planus.specs.TableFields.{list_values_in}
 
@@ -69,7 +69,7 @@ all_in_turn (line ∷ lines) first last = in_turn line (all_in_turn lines) first
 -- The fields are prepared in turn, and the table of those present is written. The first failure
 -- ends it.
 abbrev pub CreatesTable : {K : Type 0} → List FieldLine → Outcome (Offset K)
-CreatesTable lines = then_does (all_in_turn lines [] []) WritesFields
+CreatesTable lines = WritesInTurn (all_in_turn lines)
 
 -- The table is created and finished as the root of a buffer.
 abbrev pub CreatesRoot : Type 0 → List FieldLine → Outcome ℕ

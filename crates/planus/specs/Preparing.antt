@@ -32,6 +32,12 @@ PreparesBoth first second =
 abbrev pub Fields : Type 0
 Fields = List (List (ℕ × Field))
 
+-- The fields are prepared in turn, after none and before none, and the table of those present is
+-- written; the first failure ends it. This is opaque, so that long lists of fields are compared and
+-- not computed.
+unfoldable pub WritesInTurn : {T : Type 0} → (Fields → Fields → Outcome Fields) → Outcome (Offset T)
+WritesInTurn in_turn = then_does (in_turn [] []) WritesFields
+
 -- after these fields, others are prepared, and all are returned
 abbrev pub PreparesAfter : Type 1
 PreparesAfter = Fields → Outcome Fields

@@ -5,6 +5,7 @@ use crate::context::Context;
 use crate::defaults::{default_value, has_constant, is_zero};
 use crate::groups::{Entry, entries_of};
 use crate::printer::Printer;
+use crate::shares::are_many;
 use crate::types::{has_default, is_optional, is_union};
 use planus_layout::{Base, Declared, TableField};
 use planus_plan::{Line, Plan};
@@ -35,6 +36,9 @@ const OWNED_FIELDS: &str = " };
 const MAY: &str = "    ghost may = { λ fields builder.";
 
 const AND: &str = " ×";
+
+// The checker can't compare a long list with the field lines.
+const UNTOLD: &str = "    ghost is_told = { λ fields. ⊥ };\n\n";
 
 const CREATES_BORROWED: &str = "impl<'a> Create<$TFields<'a>>~for $T {\n";
 
@@ -237,6 +241,7 @@ impl<'a> Printer<'a> {
         self.put_constant_uses(plan);
         self.put_field_lines(plan);
         self.put_condition(plan);
+        self.put_str(if are_many(&plan.order) { UNTOLD } else { "" });
         self.put(function, at);
         for entry in entries {
             if entry.group > 0 {

@@ -3,7 +3,7 @@ ghost use Rattle.std.specs.Prelude.{◌≤◌, [], ◌++◌, max, length, IfOk, 
 ghost use Rattle.planus_write.specs.State.{Grows};
 ghost use Rattle.planus_write.specs.Tables.{body_size, body_bytes};
 ghost use Rattle.planus.specs.TableRules.{are_neighbours, can_hold};
-ghost use Rattle.planus.specs.Preparing.{AnswersFields, WritesFields};
+ghost use Rattle.planus.specs.Preparing.{AnswersFields, WritesFields, WritesInTurn};
 ghost use Rattle.planus_write.specs.Placing.{then_does};
 ghost use Rattle.planus_write.specs.Preparing.{Answers};
 ghost use Rattle.planus.specs.Contents.{WritesContents, WritesRest};
@@ -79,6 +79,8 @@ pub fn create_table<K: TableKind, F: Fields + Drop>(
     requires rules { IsTrue (can_hold K.Writer.room (F.all ++ F.all_last)) }
     requires unions { IsTrue (are_neighbours F.unions) }
     ensures written { then_does (F.in_turn fields (λ ts ls. Answers (ts ++ ls)) [] []) WritesFields
+        builder.old result builder.new }
+    ensures in_turn { WritesInTurn (F.in_turn fields (λ ts ls. Answers (ts ++ ls)))
         builder.old result builder.new }
     ensures kept { IfOk result (λ offset. WritesContents
         (F.contents fields ++ F.last_contents fields)

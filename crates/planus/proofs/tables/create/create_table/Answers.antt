@@ -1,9 +1,14 @@
-use Rattle.std.proofs.Common.{[], ◌++◌, subst, ap, ◌∙◌}
+use Rattle.std.proofs.Common.{[], ◌++◌, refl, subst, ap, ◌∙◌}
 use Rattle.std.specs.Prelude.{IfOk}
 use Rattle.std.proofs.lemmas.List.{append-nil}
 use Rattle.planus.specs.Contents.{WritesContents}
+use Rattle.planus.specs.Preparing.{WritesInTurn}
 use Rattle.planus.proofs.FieldSteps.{if_ok}
 use Rattle.planus.proofs.tables.create.create_table.Goals as goal
+
+pub returns-clause-in_turn : goal.returns-clause-in_turn
+unfolding WritesInTurn
+returns-clause-in_turn g c = c.write.ensures.written [] [] refl refl
 
 pub returns-clause-kept : goal.returns-clause-kept
 returns-clause-kept g c =
