@@ -1,5 +1,5 @@
 -- The messages of faults of meaning.
-use Rattle.std.specs.Prelude.{ℕ, List, [], ◌++◌, codes}
+use Rattle.std.specs.Prelude.{ℕ, List, [], ◌++◌, codes, slice_get, Option, Some, None}
 use Rattle.planus_syntax.specs.Values.{Name}
 use Rattle.planus_schema.specs.declared.fault.Problem.{Problem}
 use Rattle.planus_schema.specs.declared.fault.Problem.TheVariants as problem
@@ -51,12 +51,26 @@ after problem.RootIsNoTable = codes " is no table"
 after problem.WrongIdentifier = codes ": an identifier has exactly four bytes"
 after problem.MethodNameTaken = codes ": a method before it has this name"
 after problem.MethodIsNoTable = codes " is no table"
+after (problem.TwoMeanings here elsewhere) = []
+after problem.FlagsInUnion =
+    codes " is for enums: flatc numbers the members of such a union by flags"
 
 abbrev pub problem_text : Problem → List ℕ → List ℕ
 problem_text p word = before p ++ (codes "`" ++ (word ++ (codes "`" ++ after p)))
 
--- the message, with the nearest of these names for an unknown type
+abbrev pub name_at : Option Name → List ℕ
+name_at None = []
+name_at (Some name) = name
+
+abbrev pub both_text : List ℕ → List ℕ → List ℕ → List ℕ
+both_text word here elsewhere = codes "`" ++ word ++ codes "` means `" ++ here
+    ++ codes "`, but flatc takes it for `" ++ elsewhere ++ codes "`; declare it before its use"
+
+-- the message, with the nearest of these full names for an unknown type, and with both for a name
+-- of two meanings
 abbrev pub message_text : List Name → Problem → List ℕ → List ℕ
 message_text names problem.UnknownType word =
     problem_text problem.UnknownType word ++ hint_of (nearest names word)
+message_text names (problem.TwoMeanings here elsewhere) word =
+    both_text word (name_at (slice_get names here)) (name_at (slice_get names elsewhere))
 message_text names p word = problem_text p word

@@ -9,12 +9,11 @@ ghost use Rattle.planus_commands.specs.Checks.{ends_word as ends_word_lem};
 ghost use Rattle.planus_commands.specs.Checks.{unquoted as unquoted_lem};
 ghost use Rattle.planus_commands.specs.Checks.{word_of as word_lem};
 
-use crate::near::declared_names;
 use crate::placed::place_of;
 use crate::problem::message_text;
 use crate::report::report;
 use crate::streams::{RunError, write_out};
-use planus_schema::{Fault, Refusal, Schema, resolve};
+use planus_schema::{Fault, Refusal, Schema, full_names, resolve};
 use planus_syntax::Declaration;
 use std::alloc::{AllocError, Global};
 use std::io::Write;
@@ -117,7 +116,7 @@ pub fn resolve_or_report<X: Write>(
         Ok(schema) => Ok(Some(schema)),
         Err(Refusal::OutOfMemory) => Err(RunError::OutOfMemory),
         Err(Refusal::Faults(faults)) => {
-            let names = declared_names(alloc, declarations)?;
+            let names = full_names(alloc, declarations)?;
             let out = reports(alloc, &names, files, &faults)?;
             write_out(errors, &out)?;
             Ok(None)

@@ -1,6 +1,8 @@
 //! The messages of faults of meaning.
 
-ghost use Rattle.std.specs.Prelude.{◌≡◌, ◌++◌, Some, IfOk, OnOk};
+ghost use Rattle.std.specs.Prelude.{◌≡◌, ◌++◌, slice_get, Some, IfOk, OnOk};
+ghost use Rattle.planus_commands.specs.Problems.{both_text as both_text_lem};
+ghost use Rattle.planus_commands.specs.Problems.{name_at as name_at_lem};
 ghost use Rattle.std.specs.Option.{option_map};
 ghost use Rattle.planus_syntax.specs.Values.{names_of};
 ghost use Rattle.planus_commands.specs.Near.{hint_of};
@@ -63,6 +65,9 @@ fn after(problem: Problem) -> &'static str
         Problem::WrongIdentifier => ": an identifier has exactly four bytes",
         Problem::MethodNameTaken => ": a method before it has this name",
         Problem::MethodIsNoTable => " is no table",
+        Problem::TwoMeanings { .. } => "",
+        Problem::FlagsInUnion =>
+            " is for enums: flatc numbers the members of such a union by flags",
     }
 }
 
@@ -100,7 +105,35 @@ fn put_hint(alloc: Global, text: &mut Vec<u8>, name: Option<&[u8]>) -> Result<()
     }
 }
 
-/// Returns the message of a fault, for an unknown type with the nearest of these names.
+fn name_at(names: &[Vec<u8>], index: usize) -> &[u8]
+    ensures { result.now ≡ name_at_lem (slice_get (names_of names.now) index) }
+{
+    match names.get(index) {
+        Some(name) => name,
+        None => &[],
+    }
+}
+
+fn both_text(
+    alloc: Global,
+    word: &[u8],
+    here: &[u8],
+    elsewhere: &[u8],
+) -> Result<Vec<u8>, AllocError>
+    ensures { IfOk result (λ text. text.items ≡ both_text_lem word.now here.now elsewhere.now) }
+{
+    let mut text = Vec::from_slice(alloc, b"`")?;
+    text.extend_from_slice(word)?;
+    text.extend_from_slice(b"` means `")?;
+    text.extend_from_slice(here)?;
+    text.extend_from_slice(b"`, but flatc takes it for `")?;
+    text.extend_from_slice(elsewhere)?;
+    text.extend_from_slice(b"`; declare it before its use")?;
+    Ok(text)
+}
+
+/// Returns the message of a fault, with the nearest of these full names for an unknown type, and
+/// with both for a name of two meanings.
 pub fn message_text(
     alloc: Global,
     names: &[Vec<u8>],
@@ -110,6 +143,9 @@ pub fn message_text(
     ensures { IfOk result (λ text. text.items
         ≡ message_text_lem (names_of names.now) problem word.now) }
 {
+    if let Problem::TwoMeanings { here, elsewhere } = problem {
+        return both_text(alloc, word, name_at(names, here), name_at(names, elsewhere));
+    }
     let mut text = problem_text(alloc, problem, word)?;
     if let Problem::UnknownType = problem {
         put_hint(alloc, &mut text, nearest(names, word))?;

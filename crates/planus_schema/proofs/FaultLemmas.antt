@@ -19,6 +19,7 @@ use Rattle.std.specs.Global.{Vec}
 use Rattle.planus_syntax.specs.Values.{schema_of}
 use Rattle.planus_syntax.specs.declared.value.Declaration.{Declaration}
 use Rattle.planus_schema.specs.declared.head.Head.{Head}
+use Rattle.planus_schema.specs.Uses.{taken_otherwise}
 use Rattle.planus_schema.specs.WrongServices.{known_attributes}
 
 capped : (n : ℕ) (a b : List Fault) → take n (take n a ++ b) ≡ take n (a ++ b)
@@ -46,9 +47,14 @@ unfolding first_twenty
 adds_next old found new rest all e h =
     ap (λ xs. take 20 (xs ++ rest)) e ∙ capped 20 (old ++ found) rest ∙ ap (take 20) (append_assoc old found rest) ∙ h
 
-pub adds_thrice : (a b c : List Fault) (x y z : List Fault) → Adds a [] x → Adds b x y → Adds c y z → z ≡ first_twenty (a ++ (b ++ c))
-adds_thrice a b c x y z e f g =
-    g ∙ adds_next x b y c (first_twenty (x ++ (b ++ c))) f refl ∙ adds_next [] a x (b ++ c) (first_twenty (a ++ (b ++ c))) e refl
+pub adds_four : (a b c d : List Fault) (x y z w : List Fault) → Adds a [] x → Adds b x y → Adds c y z → Adds d z w → w ≡ first_twenty (a ++ (b ++ (c ++ d)))
+adds_four a b c d x y z w e f g h =
+    h ∙ adds_next y c z d (first_twenty (y ++ (c ++ d))) g refl
+    ∙ adds_next x b y (c ++ d) (first_twenty (x ++ (b ++ (c ++ d)))) f refl
+    ∙ adds_next [] a x (b ++ (c ++ d)) (first_twenty (a ++ (b ++ (c ++ d)))) e refl
+
+pub adds_both : (a b x y z : List Fault) → Adds a x y → Adds b y z → Adds (a ++ b) x z
+adds_both a b x y z e f = f ∙ adds_next x a y b (first_twenty (x ++ (a ++ b))) e refl
 
 pub told_is : (o : Option Broken) (s : Stop) → Stops o s → is_set (broken_in s) ≡ true → o ≡ broken_in s
 told_is o stop.OutOfMemory h t = absurd cc
@@ -126,10 +132,10 @@ pub refusal_told : (found : List Fault) (r : Refusal) → IsToldOf found r → I
 refusal_told found refusal.OutOfMemory h = tt
 refusal_told found (refusal.Faults v) h = h.1
 
-pub all_found : (files : List (Vec Declaration)) (hs : List Head) (start x y z : List Fault) → start ≡ [] → map head_of hs ≡ heads_of (map (λ f. schema_of f.items) files) → map placed_of hs ≡ placed_from 0 files → Adds (name_faults (map head_of hs) 0 (map placed_of hs)) start x → Adds (body_faults (map head_of hs) [] (map placed_of hs)) x y → Adds (file_faults (map head_of hs) (known_attributes files) 0 0 files) y z → z ≡ faults_found files
-all_found files hs start x y z s h p a b c =
+pub all_found : (files : List (Vec Declaration)) (hs : List Head) (start x y z w : List Fault) → start ≡ [] → map head_of hs ≡ heads_of (map (λ f. schema_of f.items) files) → map placed_of hs ≡ placed_from 0 files → Adds (name_faults (map head_of hs) 0 (map placed_of hs)) start x → Adds (body_faults (map head_of hs) [] (map placed_of hs)) x y → Adds (file_faults (map head_of hs) (known_attributes files) 0 0 files) y z → Adds (taken_otherwise (map head_of hs) files) z w → w ≡ faults_found files
+all_found files hs start x y z w s h p a b c d =
     let names = name_faults (map head_of hs) 0 (map placed_of hs) in
     let first = subst (λ xs. Adds names xs x) s a in
-    adds_thrice names (body_faults (map head_of hs) [] (map placed_of hs)) (file_faults (map head_of hs) (known_attributes files) 0 0 files) x y z first b c
-    ∙ ap (λ gs. first_twenty (name_faults gs 0 (map placed_of hs) ++ (body_faults gs [] (map placed_of hs) ++ file_faults gs (known_attributes files) 0 0 files))) h
-    ∙ ap (λ ps. first_twenty (name_faults (heads_of (map (λ f. schema_of f.items) files)) 0 ps ++ (body_faults (heads_of (map (λ f. schema_of f.items) files)) [] ps ++ file_faults (heads_of (map (λ f. schema_of f.items) files)) (known_attributes files) 0 0 files))) p
+    adds_four names (body_faults (map head_of hs) [] (map placed_of hs)) (file_faults (map head_of hs) (known_attributes files) 0 0 files) (taken_otherwise (map head_of hs) files) x y z w first b c d
+    ∙ ap (λ gs. first_twenty (name_faults gs 0 (map placed_of hs) ++ (body_faults gs [] (map placed_of hs) ++ (file_faults gs (known_attributes files) 0 0 files ++ taken_otherwise gs files)))) h
+    ∙ ap (λ ps. first_twenty (name_faults (heads_of (map (λ f. schema_of f.items) files)) 0 ps ++ (body_faults (heads_of (map (λ f. schema_of f.items) files)) [] ps ++ (file_faults (heads_of (map (λ f. schema_of f.items) files)) (known_attributes files) 0 0 files ++ taken_otherwise (heads_of (map (λ f. schema_of f.items) files)) files)))) p

@@ -8,6 +8,7 @@ use Rattle.std.proofs.lemmas.List.Folds.{list_any_more}
 use Rattle.std.proofs.lemmas.List.Quantifiers.{position-Some}
 use Rattle.planus_schema.specs.declared.head.Head.{Head}
 use Rattle.planus_schema.specs.Names.{HeadV, head_of, has_name, index_of}
+use Rattle.planus_schema.specs.Uses.{ends_with, last_name}
 use Rattle.planus_layout.specs.Distinct.{AreDistinct}
 use Rattle.planus_layout.proofs.Lists.{distinct_push, list_any-map}
 use Rattle.planus_schema.proofs.Lists.{position-map}
@@ -16,6 +17,10 @@ use Rattle.planus_schema.proofs.StructLemmas.{map_next, map_rest}
 pub one_before : (hs : List Head) (i n : ℕ) (h : Head) (name : List ℕ) → n ≡ i + 1 → i < length hs → h ≡ get_or hs i h → cond (bytes_eq h.name.items name) (Some i) (position_from (has_name name) n (map head_of (drop n hs))) ≡ position_from (has_name name) i (map head_of (drop i hs))
 one_before hs i n h name e l is =
     rw e (sym (ap (position_from (has_name name) i) (map_rest head_of hs i h l is)))
+
+pub one_ending : (hs : List Head) (i n : ℕ) (h : Head) (name : List ℕ) → n ≡ i + 1 → i < length hs → h ≡ get_or hs i h → cond (bytes_eq (last_name (head_of h)) name) (Some i) (position_from (ends_with name) n (map head_of (drop n hs))) ≡ position_from (ends_with name) i (map head_of (drop i hs))
+one_ending hs i n h name e l is =
+    rw e (sym (ap (position_from (ends_with name) i) (map_rest head_of hs i h l is)))
 
 none_before : {A : Type 0} (p : A → Bool) (xs : List A) (i : ℕ) (d : A) → i ≤ length xs → ((k : ℕ) → k < i → p (get_or xs k d) ≡ false) → list_any p (take i xs) ≡ false
 none_before p xs zero d l h = refl

@@ -5,6 +5,7 @@ pub mod MeasureLemmas
 pub mod UnionLemmas
 pub mod TableLemmas
 pub mod FaultLemmas
+pub mod UseLemmas
 pub mod WithinLemmas
 pub mod SchemaLemmas
 pub mod IndexLemmas

@@ -14,6 +14,8 @@ use Rattle.planus_schema.specs.declared.fault.Refusal.TheVariants as refusal
 use Rattle.planus_schema.specs.Names.{HeadV, space_at, begun_after, begun_in, named_head, own_name, words_in, space_after, heads_of}
 use Rattle.planus_schema.specs.Wrong.{Broken}
 use Rattle.planus_schema.specs.WrongServices.{known_attributes}
+use Rattle.planus_schema.specs.Uses.{taken_otherwise}
+use Rattle.planus_schema.proofs.UseLemmas.{taken_within}
 use Rattle.planus_schema.specs.Faults.{Placed, fault_in, name_fault, name_faults, body_fault, body_faults, measure_placed, statement_faults, wrong_said, file_faults, placed_head, placed_at, placed_in, placed_from, first_twenty, faults_found, IsExact, AreWithin}
 
 abbrev Within : ℕ → Fault → Type 0
@@ -68,8 +70,10 @@ found_within files =
     let n = length files in
     let hs = heads_of (map (λ f. schema_of f.items) files) in
     let ps = all_begun n 0 files (omega arith) in
-    All-take (Within n) 20 _ (All-append (Within n) (name_faults hs 0 (placed_from 0 files)) (body_faults hs [] (placed_from 0 files) ++ file_faults hs (known_attributes files) 0 0 files) (names n hs 0 (placed_from 0 files) ps)
-    (All-append (Within n) (body_faults hs [] (placed_from 0 files)) (file_faults hs (known_attributes files) 0 0 files) (bodies n hs [] (placed_from 0 files) ps) (files_within n hs (known_attributes files) 0 0 files (omega arith))))
+    let said = file_faults hs (known_attributes files) 0 0 files in
+    All-take (Within n) 20 _ (All-append (Within n) (name_faults hs 0 (placed_from 0 files)) (body_faults hs [] (placed_from 0 files) ++ (said ++ taken_otherwise hs files)) (names n hs 0 (placed_from 0 files) ps)
+    (All-append (Within n) (body_faults hs [] (placed_from 0 files)) (said ++ taken_otherwise hs files) (bodies n hs [] (placed_from 0 files) ps)
+    (All-append (Within n) said (taken_otherwise hs files) (files_within n hs (known_attributes files) 0 0 files (omega arith)) (taken_within n hs files (omega arith)))))
 
 pub exact_within : (files : List (Vec Declaration)) (r : Refusal) → IsExact files r → AreWithin (length files) r
 exact_within files refusal.OutOfMemory e = tt

@@ -31,6 +31,7 @@ use Rattle.planus_schema.specs.WrongStructs.{wrong_struct, struct_measure}
 use Rattle.planus_schema.specs.WrongUnions.{wrong_union}
 use Rattle.planus_schema.specs.WrongTables.{wrong_table_body}
 use Rattle.planus_schema.specs.WrongServices.{wrong_item, known_attributes}
+use Rattle.planus_schema.specs.Uses.{taken_otherwise}
 
 -- ---- one fault, in its file
 
@@ -203,12 +204,14 @@ file_faults hs known file n (f ∷ fs) = statement_faults hs known file n None f
 
 -- ---- the whole
 
--- the faults of names, then of declarations, then of statements, at most twenty
+-- the faults of names, then of declarations, then of statements, then the names that flatc takes
+-- for another declaration, at most twenty
 abbrev pub faults_found : List (Vec Declaration) → List Fault
 faults_found files =
     let hs = heads_of (map (λ f. schema_of f.items) files) in
     first_twenty (name_faults hs 0 (placed_from 0 files)
-    ++ (body_faults hs [] (placed_from 0 files) ++ file_faults hs (known_attributes files) 0 0 files))
+    ++ (body_faults hs [] (placed_from 0 files)
+    ++ (file_faults hs (known_attributes files) 0 0 files ++ taken_otherwise hs files)))
 
 -- the file, and then the word: an earlier word has more tokens to the end
 abbrev pub place_of : Fault → ℕ × ℕ

@@ -13,4 +13,5 @@ pub mod Schemas
 pub mod inner
 pub mod Sound
 pub mod WrongServices
+pub mod Uses
 pub mod Faults

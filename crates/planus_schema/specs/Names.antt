@@ -1,7 +1,7 @@
 -- Declarations, their full names, and the declaration that a name refers to.
 use Rattle.std.specs.Prelude.{ℕ, zero, suc, ◌+◌, ◌==◌, Bool, true, false, if◌then◌else◌}
 use Rattle.std.specs.Prelude.{List, [], ◌∷◌, ◌++◌, length, take, fold, position, Option}
-use Rattle.std.specs.Prelude.{Some, None, codes, slice_get, nat_lt, not, ◌&&◌}
+use Rattle.std.specs.Prelude.{Some, None, codes, slice_get, nat_lt, not, ◌&&◌, ◌||◌}
 use denote.Ref.{Bor}
 use Rattle.std.specs.Str.{bytes_eq}
 use Rattle.planus_syntax.specs.Values.{Name, PathV, KindV, single, vector}
@@ -13,6 +13,7 @@ use Rattle.planus_syntax.specs.Values.{DeclarationV, path_of, declaration_of}
 use Rattle.planus_syntax.specs.declared.value.Path.{Path}
 use Rattle.planus_syntax.specs.declared.value.Attribute.{Attribute}
 use Rattle.std.specs.Option.{option_map}
+use Rattle.planus_schema.specs.declared.awaited.Awaited.{Awaited}
 use Rattle.planus_schema.specs.declared.head.Head.{Head}
 use Rattle.planus_schema.specs.declared.lookup.Sought.{Sought}
 use Rattle.planus_schema.specs.declared.lookup.Sought.TheVariants as sought
@@ -112,6 +113,10 @@ cut_words word [] = word ∷ []
 cut_words word (b ∷ bs) =
     if b == 32 then word ∷ cut_words [] bs else cut_words (word ++ b ∷ []) bs
 
+abbrev pub is_set : {A : Type 0} → Option A → Bool
+is_set None = false
+is_set (Some x) = true
+
 -- ---- look-up
 
 abbrev pub has_name : List ℕ → HeadV → Bool
@@ -159,12 +164,26 @@ is_choice hs i = is_choice_of (item_at hs i)
     is_choice_of None = false
     is_choice_of (Some item) = is_choice_item item
 
+abbrev pub at_index : List (Option Awaited) → Option ℕ → Option Awaited
+at_index xs None = None
+at_index xs (Some i) = flat (slice_get xs i)
+  where
+    flat : Option (Option Awaited) → Option Awaited
+    flat None = None
+    flat (Some a) = a
+
+-- a table or struct that is declared, or that is awaited under its full name
+abbrev pub is_known : List HeadV → ℕ → List (Option Awaited) → ℕ → Bool
+is_known hs begun full i =
+    (not (is_choice hs i) && nat_lt i begun) || is_set (at_index full (Some i))
+
 -- whether a declaration is one of those sought by a name before which `begun` have begun
-abbrev pub is_sought : List HeadV → ℕ → Sought → ℕ → Bool
-is_sought hs begun sought.EarlierChoice i = is_choice hs i && nat_lt i begun
-is_sought hs begun sought.EarlierRecord i = not (is_choice hs i) && nat_lt i begun
-is_sought hs begun sought.LaterRecord i = not (is_choice hs i) && not (nat_lt i begun)
-is_sought hs begun sought.LaterChoice i = is_choice hs i && not (nat_lt i begun)
+abbrev pub is_sought : List HeadV → ℕ → List (Option Awaited) → Sought → ℕ → Bool
+is_sought hs begun full sought.EarlierChoice i = is_choice hs i && nat_lt i begun
+is_sought hs begun full sought.EarlierRecord i = not (is_choice hs i) && nat_lt i begun
+is_sought hs begun full sought.LaterRecord i = not (is_choice hs i) && not (nat_lt i begun)
+is_sought hs begun full sought.LaterChoice i = is_choice hs i && not (nat_lt i begun)
+is_sought hs begun full sought.Known i = is_known hs begun full i
 
 abbrev pub index_if : (ℕ → Bool) → Option ℕ → Option ℕ
 index_if test None = None
@@ -206,7 +225,7 @@ order_of wanted.Root = sought.EarlierRecord ∷ sought.LaterRecord ∷ sought.Ea
 abbrev pub first_found : List HeadV → List Sought → Wanted → SpaceV → List Name → Option ℕ
 first_found hs [] w space words = None
 first_found hs (s ∷ more) w space words =
-    or_else (found_by hs (is_sought hs space.begun s) w space.words words)
+    or_else (found_by hs (is_sought hs space.begun [] s) w space.words words)
     (first_found hs more w space words)
 
 -- the declaration that these words refer to at this place
@@ -287,10 +306,6 @@ abbrev pub attribute_named : Name → List Attribute → Option Attribute
 attribute_named w [] = None
 attribute_named w (a ∷ more) =
     if bytes_eq a.label.name.items w then Some a else attribute_named w more
-
-abbrev pub is_set : {A : Type 0} → Option A → Bool
-is_set None = false
-is_set (Some x) = true
 
 abbrev pub has : Name → List AttributeV → Bool
 has w attributes = is_set (setting w attributes)

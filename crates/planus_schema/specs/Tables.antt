@@ -16,7 +16,7 @@ use Rattle.planus_schema.specs.Names.{HeadV, SpaceV, type_named, setting, has, f
 use Rattle.planus_schema.specs.declared.lookup.Wanted.TheVariants as wanted
 use Rattle.planus_layout.specs.Slots.{is_union, slots_taken, AreSlots, Follow}
 use Rattle.planus_layout.specs.Distinct.{AreDistinct, Each2}
-use Rattle.planus_schema.specs.Structs.{literal_number, number_in}
+use Rattle.planus_schema.specs.Structs.{number_in}
 use Rattle.planus_schema.specs.Defaults.{value_of, default_said}
 
 -- ---- what a table is
@@ -83,22 +83,19 @@ pub record IsTable (t : Table) : Type 0 where
 abbrev pub has_ids : List FieldV → Bool
 has_ids fs = list_any (λ f. has (codes "id") f.attributes) fs
 
-abbrev pub id_in : Option AttributeV → Option ℕ
-id_in None = None
-id_in (Some a) = Some (literal_number a.value)
-
-abbrev pub id_of : FieldV → Option ℕ
-id_of f = id_in (setting (codes "id") f.attributes)
-
 abbrev pub at_most : ℕ → Option ℕ → Option ℕ
 at_most most None = None
 at_most most (Some n) = if nat_le n most then Some n else None
 
+abbrev pub id_in : Option LiteralV → Option ℕ
+id_in None = Some 0
+id_in (Some l) = number_in (Some l)
+
 abbrev pub id_said_in : Option AttributeV → Option ℕ
 id_said_in None = None
-id_said_in (Some a) = at_most 65535 (number_in a.value)
+id_said_in (Some a) = at_most 65535 (id_in a.value)
 
--- the `id`, if it is an integer from 0 to 65535
+-- the `id`, if it is an integer from 0 to 65535, or 0 if it has no value
 abbrev pub id_said : FieldV → Option ℕ
 id_said f = id_said_in (setting (codes "id") f.attributes)
 
@@ -130,7 +127,7 @@ pub record SaysField (hs : List HeadV) (space : SpaceV) (ids : Bool) (d : FieldV
   pub name : f.name.items ≡ d.name
   pub docs : names_of f.docs.items ≡ d.docs
   pub kind : type_named hs space d.kind ≡ Some f.kind
-  pub id : ids ≡ true → id_of d ≡ Some f.slot
+  pub id : ids ≡ true → id_said d ≡ Some f.slot
   pub default : default_said hs f.kind d.default ≡ Some (option_map value_of f.default)
   pub required : f.required ≡ is_required f.kind d
   pub deprecated : f.deprecated ≡ has (codes "deprecated") d.attributes

@@ -1,5 +1,5 @@
 -- Unions.
-use Rattle.std.specs.Prelude.{◌≡◌, ℕ, ◌+◌, Bool, true, ◌&&◌, nat_le, nat_eq, List, [], ◌∷◌}
+use Rattle.std.specs.Prelude.{◌≡◌, ℕ, ◌+◌, Bool, true, false, ◌&&◌, nat_le, nat_eq, List, [], ◌∷◌}
 use Rattle.std.specs.Prelude.{map, Option, Some, None, codes, if◌then◌else◌}
 use Rattle.std.specs.List.{IsDistinct, list_all}
 use Rattle.planus_syntax.specs.Values.{PathV, MemberV, UnionV, names_of}
@@ -10,7 +10,7 @@ use Rattle.planus_layout.specs.Numbers.{magnitude_of, integer_said}
 use Rattle.planus_schema.specs.declared.lookup.Wanted.{Wanted}
 use Rattle.planus_schema.specs.declared.lookup.Wanted.TheVariants as wanted
 use Rattle.planus_schema.specs.Structs.{natural_of}
-use Rattle.planus_schema.specs.Names.{HeadV, SpaceV, words_of, dotted, base_as}
+use Rattle.planus_schema.specs.Names.{HeadV, SpaceV, words_of, dotted, base_as, has}
 use Rattle.planus_layout.specs.Distinct.{AreDistinct, Each2}
 
 -- the given number, or one more than that before; `NONE` is 0
@@ -65,6 +65,8 @@ pub record IsUnion (u : Union) : Type 0 where
   pub distinct : IsDistinct nat_eq (map tag_in u.members.items)
   pub names : AreDistinct (codes "NONE" ∷ map (λ m. m.name.items) u.members.items)
 
+-- `bit_flags` is for enums: flatc would number such members by flags
 pub record SaysUnion (hs : List HeadV) (space : SpaceV) (d : UnionV) (u : Union) : Type 0 where
+  pub plain : has (codes "bit_flags") d.attributes ≡ false
   pub members : Each2 (SaysMember hs space) d.members u.members.items
   pub tags : map tag_in u.members.items ≡ tags_from 0 d.members

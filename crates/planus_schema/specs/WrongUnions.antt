@@ -2,12 +2,13 @@
 use Rattle.std.specs.Prelude.{ℕ, nat_eq, List, [], ◌∷◌, ◌++◌, Option, Some, None, codes}
 use Rattle.std.specs.List.{list_any}
 use Rattle.planus_syntax.specs.Values.{Name, path_of, digits_of, member_of}
+use Rattle.planus_syntax.specs.declared.value.Attribute.{Attribute}
 use Rattle.planus_syntax.specs.declared.value.Path.{Path}
 use Rattle.planus_syntax.specs.declared.value.Member.{Member}
 use Rattle.planus_syntax.specs.declared.value.UnionBody.{UnionBody}
 use Rattle.planus_layout.specs.Distinct.{is_in}
 use Rattle.planus_schema.specs.declared.fault.Problem.TheVariants as problem
-use Rattle.planus_schema.specs.Names.{HeadV, SpaceV, words_of, dotted}
+use Rattle.planus_schema.specs.Names.{HeadV, SpaceV, words_of, dotted, attribute_named}
 use Rattle.planus_schema.specs.Unions.{tag_of, tag_said, wanted_of}
 use Rattle.planus_schema.specs.Wrong.{Broken, broken, when, first, wrong_table}
 
@@ -42,5 +43,11 @@ wrong_members hs space previous tags names (m ∷ ms) =
     (first (when (is_in names (member_name m)) problem.MemberNameTaken m.path.left)
     (wrong_members hs space tag (tags ++ tag ∷ []) (names ++ member_name m ∷ []) ms))
 
+abbrev pub wrong_flags : Option Attribute → Option Broken
+wrong_flags None = None
+wrong_flags (Some a) = broken problem.FlagsInUnion a.label.left
+
 abbrev pub wrong_union : List HeadV → SpaceV → UnionBody → Option Broken
-wrong_union hs space u = wrong_members hs space 0 [] (codes "NONE" ∷ []) u.members.items
+wrong_union hs space u =
+    first (wrong_flags (attribute_named (codes "bit_flags") u.attributes.items))
+    (wrong_members hs space 0 [] (codes "NONE" ∷ []) u.members.items)

@@ -77,6 +77,11 @@ pub enum Problem {
     MethodNameTaken,
     /// The request or the response of a method is no table.
     MethodIsNoTable,
+    /// The name means one declaration, and flatc takes it for another. Both are indices of the
+    /// declarations, in the order of the files and of their texts.
+    TwoMeanings { here: usize, elsewhere: usize },
+    /// A union has `bit_flags`.
+    FlagsInUnion,
 }
 
 /// A fault. `file` is the index of its file, and `left` the number of tokens from the word at fault

@@ -83,7 +83,7 @@ pub(crate) fn dotted_name(
     Ok(name)
 }
 
-fn own_name(item: &Item) -> Option<&[u8]>
+pub(crate) fn own_name(item: &Item) -> Option<&[u8]>
     ensures { option_map (λ w. w.now) result ≡ own_name_lem (item_of item.now) }
 {
     match item {
@@ -179,4 +179,24 @@ pub(crate) fn heads(alloc: Global, files: &[Vec<Declaration>]) -> Result<Vec<Hea
         file += 1;
     }
     Ok(heads)
+}
+
+fn copied_names(alloc: Global, heads: &[Head]) -> Result<Vec<Vec<u8>>, AllocError>
+    ensures { IfOk result (λ v. names_of v.items ≡ map (λ h. h.name) (map head_of heads.now)) }
+{
+    let mut names = Vec::new(alloc);
+    'heads: for head in heads {
+        let name = Vec::from_slice(alloc, &head.name)?;
+        names.push(name)?;
+    }
+    Ok(names)
+}
+
+/// Returns the full names of the tables, structs, enums and unions of these files, in order.
+pub fn full_names(alloc: Global, files: &[Vec<Declaration>]) -> Result<Vec<Vec<u8>>, AllocError>
+    ensures { IfOk result (λ v. names_of v.items
+        ≡ map (λ h. h.name) (heads_of (map (λ f. schema_of f.items) files.now))) }
+{
+    let heads = or_return!(heads(alloc, files));
+    copied_names(alloc, &heads)
 }

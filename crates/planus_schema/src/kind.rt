@@ -18,7 +18,7 @@ use planus_layout::{Base, FieldType};
 use planus_syntax::{Item, Kind, Path};
 use std::alloc::Global;
 
-fn plain_base(path: &Path) -> Option<Base>
+pub(crate) fn plain_base(path: &Path) -> Option<Base>
     ensures { result ≡ plain_base_lem (path_of path.now) }
 {
     if !path.more.is_empty() {

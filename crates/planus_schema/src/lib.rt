@@ -3,6 +3,7 @@
 #![tactic(auto)]
 
 mod attributes;
+mod awaited;
 mod checks;
 mod defaults;
 mod enums;
@@ -20,9 +21,12 @@ mod statements;
 mod structs;
 mod tables;
 mod unions;
+mod uses;
+mod waiting;
 mod words;
 
 pub use fault::{Fault, Problem, Refusal};
+pub use head::full_names;
 pub use meaning::resolve;
 pub use planus_layout::{
     Base, Body, Declared, Enum, EnumValue, FieldType, Number, Scalar, Schema, Statements, Struct,

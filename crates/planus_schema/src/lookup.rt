@@ -3,10 +3,11 @@
 ghost use Rattle.std.specs.Prelude.{◌≡◌, ◌++◌, ◌∷◌, take, length, map, IfOk, ◌≤◌};
 ghost use Rattle.planus_syntax.specs.Values.{names_of};
 ghost use Rattle.planus_schema.specs.inner.Scopes.{scope_heads, scope_space};
-ghost use Rattle.planus_schema.specs.Names.{head_of, space_of, named_if, found_from, found_root};
+ghost use Rattle.planus_schema.specs.Names.{head_of, space_of, named_if, found_from, found_root, at_index};
 ghost use Rattle.planus_schema.specs.Names.{found as found_lem, found_by as found_by_lem};
 ghost use Rattle.planus_schema.specs.Names.{is_sought as is_sought_lem, order_of as order_of_lem};
 
+use crate::awaited::Awaited;
 use crate::fault::or_return;
 use crate::head::{depth, dotted_name};
 use crate::heads::Heads;
@@ -31,10 +32,31 @@ pub(crate) enum Sought {
     EarlierRecord,
     LaterRecord,
     LaterChoice,
+    /// Tables and structs that are known, or that a use of their full name awaits.
+    Known,
 }
 
-fn is_sought(heads: &Heads, begun: usize, sought: Sought, index: usize) -> bool
-    ensures { result ≡ is_sought_lem (map head_of heads.now) begun sought index }
+/// Returns what is awaited at this index.
+pub(crate) fn at(list: &[Option<Awaited>], index: Option<usize>) -> Option<Awaited>
+    ensures { result ≡ at_index list.now index }
+{
+    match index {
+        Some(index) => match list.get(index) {
+            Some(awaited) => *awaited,
+            None => None,
+        },
+        None => None,
+    }
+}
+
+fn is_sought(
+    heads: &Heads,
+    begun: usize,
+    full: &[Option<Awaited>],
+    sought: Sought,
+    index: usize,
+) -> bool
+    ensures { result ≡ is_sought_lem (map head_of heads.now) begun full.now sought index }
 {
     let choice = heads.is_choice(index);
     match sought {
@@ -42,11 +64,13 @@ fn is_sought(heads: &Heads, begun: usize, sought: Sought, index: usize) -> bool
         Sought::EarlierRecord => !choice && index < begun,
         Sought::LaterRecord => !choice && index >= begun,
         Sought::LaterChoice => choice && index >= begun,
+        Sought::Known => !choice && index < begun || at(full, Some(index)).is_some(),
     }
 }
 
 fn found_at(
     scope: &Scope,
+    full: &[Option<Awaited>],
     sought: Sought,
     count: usize,
     first: &[u8],
@@ -54,67 +78,70 @@ fn found_at(
 ) -> Result<Option<usize>, AllocError>
     requires { count ≤ length (space_of scope.now.space) }
     ensures { IfOk result (λ o. o ≡ named_if (scope_heads scope.now)
-        (is_sought_lem (scope_heads scope.now) scope.now.begun sought)
+        (is_sought_lem (scope_heads scope.now) scope.now.begun full.now sought)
         (take count (space_of scope.now.space) ++ first.now ∷ names_of more.now)) }
 {
     let name = or_return!(dotted_name(scope.alloc, scope.space, count, first, more));
     match scope.heads.index_of(&name) {
-        Some(index) if is_sought(scope.heads, scope.begun, sought, index) => Ok(Some(index)),
+        Some(index) if is_sought(scope.heads, scope.begun, full, sought, index) => Ok(Some(index)),
         _ => Ok(None),
     }
 }
 
 fn found_outwards(
     scope: &Scope,
+    full: &[Option<Awaited>],
     sought: Sought,
     first: &[u8],
     more: &[Vec<u8>],
 ) -> Result<Option<usize>, AllocError>
     ensures { IfOk result (λ o. o ≡ found_from (scope_heads scope.now)
-        (is_sought_lem (scope_heads scope.now) scope.now.begun sought)
+        (is_sought_lem (scope_heads scope.now) scope.now.begun full.now sought)
         (space_of scope.now.space) (first.now ∷ names_of more.now)
         (length (space_of scope.now.space))) }
 {
     let mut count = depth(scope.space);
     'spaces: while count > 0 {
-        if let Some(index) = or_return!(found_at(scope, sought, count, first, more)) {
+        if let Some(index) = or_return!(found_at(scope, full, sought, count, first, more)) {
             return Ok(Some(index));
         }
         count -= 1;
     }
-    found_at(scope, sought, 0, first, more)
+    found_at(scope, full, sought, 0, first, more)
 }
 
 fn found_for_root(
     scope: &Scope,
+    full: &[Option<Awaited>],
     sought: Sought,
     first: &[u8],
     more: &[Vec<u8>],
 ) -> Result<Option<usize>, AllocError>
     ensures { IfOk result (λ o. o ≡ found_root (scope_heads scope.now)
-        (is_sought_lem (scope_heads scope.now) scope.now.begun sought)
+        (is_sought_lem (scope_heads scope.now) scope.now.begun full.now sought)
         (space_of scope.now.space) (first.now ∷ names_of more.now)) }
 {
-    if let Some(index) = or_return!(found_at(scope, sought, 0, first, more)) {
+    if let Some(index) = or_return!(found_at(scope, full, sought, 0, first, more)) {
         return Ok(Some(index));
     }
-    found_at(scope, sought, depth(scope.space), first, more)
+    found_at(scope, full, sought, depth(scope.space), first, more)
 }
 
-fn found_by(
+pub(crate) fn found_by(
     scope: &Scope,
+    full: &[Option<Awaited>],
     wanted: Wanted,
     sought: Sought,
     first: &[u8],
     more: &[Vec<u8>],
 ) -> Result<Option<usize>, AllocError>
     ensures { IfOk result (λ o. o ≡ found_by_lem (scope_heads scope.now)
-        (is_sought_lem (scope_heads scope.now) scope.now.begun sought) wanted
+        (is_sought_lem (scope_heads scope.now) scope.now.begun full.now sought) wanted
         (space_of scope.now.space) (first.now ∷ names_of more.now)) }
 {
     match wanted {
-        Wanted::AnyType | Wanted::Record => found_outwards(scope, sought, first, more),
-        Wanted::Root => found_for_root(scope, sought, first, more),
+        Wanted::AnyType | Wanted::Record => found_outwards(scope, full, sought, first, more),
+        Wanted::Root => found_for_root(scope, full, sought, first, more),
     }
 }
 
@@ -151,7 +178,7 @@ pub(crate) fn found(
     let order = order_of(wanted);
     let mut rest = order.as_slice();
     'order: while let Some((sought, after)) = rest.split_first() {
-        if let Some(index) = or_return!(found_by(scope, wanted, *sought, first, more)) {
+        if let Some(index) = or_return!(found_by(scope, &[], wanted, *sought, first, more)) {
             return Ok(Some(index));
         }
         rest = after;

@@ -27,6 +27,7 @@ use crate::statements::statements;
 use crate::structs::struct_of;
 use crate::tables::table_of;
 use crate::unions::union_of;
+use crate::waiting::check_uses;
 use planus_layout::{Body, Declared, Schema, Struct, Table, is_first};
 use planus_syntax::{Declaration, Item};
 use std::alloc::{AllocError, Global};
@@ -60,7 +61,7 @@ fn body_of(alloc: Global, heads: &Heads, declared: &[Declared], head: &Head) -> 
             Ok(Body::Enum(body))
         }
         Item::Union(body) => {
-            let body = or_return!(union_of(&scope, &body.members));
+            let body = or_return!(union_of(&scope, body));
             Ok(Body::Union(body))
         }
         _ => Err(wrong(Problem::UnknownType, left)),
@@ -230,6 +231,10 @@ fn meaning_of(alloc: Global, heads: &Heads, files: &[Vec<Declaration>]) -> Resul
     );
     let statements = or_return!(
         statements(alloc, heads, files, &mut faults),
+        Refusal::OutOfMemory
+    );
+    or_return!(
+        check_uses(alloc, heads, files, &mut faults),
         Refusal::OutOfMemory
     );
     or_return!(refuse(faults));

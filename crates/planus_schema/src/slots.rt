@@ -4,7 +4,7 @@ ghost use Rattle.std.specs.Prelude.{◌≡◌, ◌+◌, ◌≤◌, true, false, 
 ghost use Rattle.planus_syntax.specs.Values.{field_of};
 ghost use Rattle.planus_layout.specs.Slots.{slots_taken as slots_taken_lem, AreSlots};
 ghost use Rattle.planus_layout.specs.Slots.{are_whole as are_whole_lem, width as width_lem};
-ghost use Rattle.planus_schema.specs.Tables.{id_of as id_of_lem, has_ids as has_ids_lem, id_said};
+ghost use Rattle.planus_schema.specs.Tables.{has_ids as has_ids_lem, id_said};
 ghost use Rattle.planus_schema.specs.Wrong.{Tells};
 ghost use Rattle.planus_schema.specs.WrongTables.{wrong_slot, wrong_slots};
 ghost use Rattle.planus_schema.specs.WrongTables.{field_slot as field_slot_lem};
@@ -30,11 +30,11 @@ pub(crate) fn has_ids(fields: &[Field]) -> bool
 }
 
 fn id_of(field: &Field) -> Option<usize>
-    ensures said { IfSome result (λ n. id_of_lem (field_of field.now) ≡ Some n) }
     ensures small { IfSome result (λ n. n ≤ 65535) }
     ensures exact { result ≡ id_said (field_of field.now) }
 {
     match setting(&field.attributes, b"id") {
+        Some(attribute) if attribute.value.is_none() => Some(0),
         Some(attribute) => match setting_number(attribute) {
             Some(number) if number <= 65535 => Some(number as usize),
             _ => None,
@@ -50,7 +50,7 @@ pub(crate) fn field_slot(
     next: usize,
 ) -> Result<usize, Stop>
     requires { next ≤ 65535 }
-    ensures id { ids ≡ true → IfOk result (λ n. id_of_lem (field_of field.now) ≡ Some n) }
+    ensures id { ids ≡ true → IfOk result (λ n. id_said (field_of field.now) ≡ Some n) }
     ensures order { ids ≡ false → IfOk result (λ n. n + 1 ≡ next + width_lem kind) }
     ensures slot { IfOk result (λ n. n ≡ field_slot_lem kind ids next field.now) }
     ensures wrong { Tells (wrong_slot kind ids next field.now) result }

@@ -13,7 +13,13 @@ ghost use Rattle.planus_schema.specs.Unions.{SaysMember, tag_in};
 ghost use Rattle.planus_schema.specs.Unions.{is_tag, tag_said};
 ghost use Rattle.planus_schema.specs.Wrong.{Tells, wrong_table};
 ghost use Rattle.planus_schema.specs.WrongUnions.{target_path, wrong_member, wrong_members};
+ghost use Rattle.planus_schema.specs.WrongUnions.{wrong_union, wrong_flags};
+ghost use Rattle.planus_schema.specs.Names.{attribute_named, has as has_lem};
+ghost use Rattle.planus_syntax.specs.Values.{attribute_of};
+ghost use Rattle.planus_schema.specs.Unions.{IsUnion, SaysUnion};
+ghost use Rattle.planus_syntax.specs.Values.{union_of as union_of_lem};
 
+use crate::attributes::setting;
 use crate::fault::{Problem, Stop, or_return, wrong};
 use crate::head::dotted_name;
 use crate::kind::table_at;
@@ -21,9 +27,9 @@ use crate::lookup::Wanted;
 use crate::names::copied;
 use crate::scope::Scope;
 use planus_layout::{Union, UnionMember, integer};
-use planus_syntax::{Member, Path};
+use planus_syntax::{Attribute, Member, Path, UnionBody};
 
-fn target_of(member: &Member) -> &Path
+pub(crate) fn target_of(member: &Member) -> &Path
     ensures path { path_of result.now ≡ target_of_lem (member_of member.now) }
     ensures place { result.now ≡ target_path member.now }
 {
@@ -33,7 +39,7 @@ fn target_of(member: &Member) -> &Path
     }
 }
 
-fn wanted_of(member: &Member) -> Wanted
+pub(crate) fn wanted_of(member: &Member) -> Wanted
     ensures { result ≡ wanted_of_lem (member_of member.now) }
 {
     match &member.target {
@@ -137,7 +143,7 @@ fn next_member(
     member(scope, declared, tag)
 }
 
-pub(crate) fn union_of(scope: &Scope, declared: &[Member]) -> Result<Union, Stop>
+fn members_of(scope: &Scope, declared: &[Member]) -> Result<Union, Stop>
     ensures read { IfOk result (λ u. IsUnionRead (scope_heads scope.now) (scope_space scope.now)
         declared.now u) }
     ensures wrong { Tells (wrong_members (scope_heads scope.now) (scope_space scope.now) 0 []
@@ -154,4 +160,28 @@ pub(crate) fn union_of(scope: &Scope, declared: &[Member]) -> Result<Union, Stop
         members.push(next)?;
     }
     Ok(Union { members })
+}
+
+fn check_flags(attributes: &[Attribute]) -> Result<(), Stop>
+    ensures plain { IfOk result (λ _. has_lem (codes "bit_flags") (map attribute_of attributes.now)
+        ≡ false) }
+    ensures wrong { Tells (wrong_flags (attribute_named (codes "bit_flags") attributes.now))
+        result }
+{
+    match setting(attributes, b"bit_flags") {
+        Some(attribute) => Err(wrong(Problem::FlagsInUnion, attribute.label.left)),
+        None => Ok(()),
+    }
+}
+
+pub(crate) fn union_of(scope: &Scope, declared: &UnionBody) -> Result<Union, Stop>
+    ensures says { IfOk result (λ u. SaysUnion (scope_heads scope.now) (scope_space scope.now)
+        (union_of_lem declared.now) u) }
+    ensures sound { IfOk result (λ u. IsUnion u) }
+    ensures wrong { Tells (wrong_union (scope_heads scope.now) (scope_space scope.now)
+        declared.now) result }
+{
+    or_return!(check_flags(&declared.attributes));
+    let union = or_return!(members_of(scope, &declared.members));
+    Ok(union)
 }

@@ -5,9 +5,14 @@ use Rattle.std.specs.Ordering.{nat_cmp}
 use Rattle.std.specs.Cmp.Lexicographic.{slice_cmp}
 use denote.Ref.{Bor}
 use Rattle.planus_schema.specs.Names.{HeadV, index_of}
+use Rattle.planus_schema.specs.Uses.{ending}
 
 abbrev pub index_at : BTreeMap (Bor (List ℕ)) ℕ → List ℕ → Option ℕ
 index_at m name = get_by (λ k. slice_cmp nat_cmp name k.now) m
+
+-- the index of the first declaration whose name ends with each word
+abbrev pub IsLastIndex : BTreeMap (Bor (List ℕ)) ℕ → List HeadV → Type 0
+IsLastIndex m hs = (word : List ℕ) → index_at m word ≡ ending hs word
 
 -- the index of the first declaration of each name
 abbrev pub IsIndex : BTreeMap (Bor (List ℕ)) ℕ → List HeadV → Type 0

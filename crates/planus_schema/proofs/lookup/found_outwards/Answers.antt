@@ -12,7 +12,7 @@ pub spaces-preserved : goal.spaces-preserved
 spaces-preserved c = record {
   within = omega (arith, c.spaces.invariant.within);
   rest = further_out (scope_heads c.args.scope.now)
-      (is_sought (scope_heads c.args.scope.now) c.args.scope.now.begun c.args.sought)
+      (is_sought (scope_heads c.args.scope.now) c.args.scope.now.begun c.args.full.now c.args.sought)
       (space_of c.args.scope.now.space)
       (c.args.first.now ∷ names_of c.args.more.now) c.spaces.count _ (omega arith) c.in_default.is
       c.in-Ok.ensures ∙ c.spaces.invariant.rest;

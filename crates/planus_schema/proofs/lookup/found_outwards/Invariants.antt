@@ -7,9 +7,9 @@ use Rattle.planus_schema.proofs.lookup.found_outwards.Given as goal
 abbrev pub invariant-spaces : goal.invariant-spaces
 invariant-spaces l = record {
   within : l.count ≤ length (space_of l.scope.space);
-  rest : found_from (scope_heads l.scope) (is_sought (scope_heads l.scope) l.scope.begun l.sought)
+  rest : found_from (scope_heads l.scope) (is_sought (scope_heads l.scope) l.scope.begun l.full l.sought)
       (space_of l.scope.space) (l.first ∷ names_of l.more) l.count
-      ≡ found_from (scope_heads l.scope) (is_sought (scope_heads l.scope) l.scope.begun l.sought)
+      ≡ found_from (scope_heads l.scope) (is_sought (scope_heads l.scope) l.scope.begun l.full l.sought)
       (space_of l.scope.space) (l.first ∷ names_of l.more) (length (space_of l.scope.space));
 }
 

@@ -23,11 +23,10 @@ pub returns-in-Ok-enum_of-clause-wrong : goal.returns-in-Ok-enum_of-clause-wrong
 returns-in-Ok-enum_of-clause-wrong c = rw c.in-Enum.is c.in-Ok-enum_of.ensures.wrong
 
 pub returns-in-Err-union_of-clause-wrong : goal.returns-in-Err-union_of-clause-wrong
-returns-in-Err-union_of-clause-wrong c =
-    rw c.in-Union.is (rw c.deref.ensures.value at c.in-Err-union_of.ensures.wrong)
+returns-in-Err-union_of-clause-wrong c = rw c.in-Union.is c.in-Err-union_of.ensures.wrong
 
 pub returns-in-Ok-union_of-clause-wrong : goal.returns-in-Ok-union_of-clause-wrong
-returns-in-Ok-union_of-clause-wrong c = rw c.in-Union.is (rw c.deref.ensures.value at c.in-Ok-union_of.ensures.wrong)
+returns-in-Ok-union_of-clause-wrong c = rw c.in-Union.is c.in-Ok-union_of.ensures.wrong
 
 pub returns-in-Ok-clause-read : goal.returns-in-Ok-clause-read
 returns-in-Ok-clause-read c = record {
@@ -52,10 +51,7 @@ returns-in-Ok-enum_of-clause-read c = record {
 
 pub returns-in-Ok-union_of-clause-read : goal.returns-in-Ok-union_of-clause-read
 returns-in-Ok-union_of-clause-read c = record {
-  says = rw c.in-Union.is (record {
-    members = rw c.deref.ensures.value at c.in-Ok-union_of.ensures.read.says;
-    tags = rw c.deref.ensures.value at c.in-Ok-union_of.ensures.read.tags;
-  });
-  sound = c.in-Ok-union_of.ensures.read.sound;
+  says = rw c.in-Union.is c.in-Ok-union_of.ensures.says;
+  sound = c.in-Ok-union_of.ensures.sound;
   measure = rw c.in-Union.is refl;
 }

@@ -2,7 +2,7 @@ use Rattle.std.proofs.Common.{◌≡◌, ◌≤◌, ℕ, List, length, map, drop
 use Rattle.std.specs.List.{position_from}
 use Rattle.planus_schema.specs.Names.{head_of, has_name}
 use Rattle.planus_schema.specs.inner.Index.{index_at}
-use Rattle.planus_schema.proofs.heads.Heads.new.Given as goal
+use Rattle.planus_schema.proofs.heads.indices.Given as goal
 
 abbrev pub invariant-heads : goal.invariant-heads
 invariant-heads l = record {

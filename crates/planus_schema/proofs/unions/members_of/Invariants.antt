@@ -7,7 +7,7 @@ use Rattle.planus_schema.specs.inner.Read.{names_of_members}
 use Rattle.planus_schema.specs.inner.Scopes.{scope_heads, scope_space}
 use Rattle.planus_schema.specs.Unions.{SaysMember, tags_from, tag_in, is_tag}
 use Rattle.planus_schema.specs.WrongUnions.{wrong_members}
-use Rattle.planus_schema.proofs.unions.union_of.Given as goal
+use Rattle.planus_schema.proofs.unions.members_of.Given as goal
 
 abbrev pub invariant-members : goal.invariant-members
 invariant-members l = record {

@@ -7,7 +7,7 @@ use Rattle.planus_schema.specs.declared.head.Head.{Head}
 use Rattle.planus_schema.specs.Names.{head_of, has_name}
 use Rattle.planus_schema.specs.inner.Index.{index_at}
 use Rattle.planus_schema.proofs.IndexLemmas.{one_before}
-use Rattle.planus_schema.proofs.heads.Heads.new.Goals as goal
+use Rattle.planus_schema.proofs.heads.indices.Goals as goal
 
 pub overflow_sub-index : goal.overflow_sub-index
 overflow_sub-index c = omega arith
@@ -25,7 +25,7 @@ heads-preserved c =
           ∙ one_before c.args.list.now i n h name (omega (arith, c.heads-test.true)) (omega (arith, c.heads-test.true, c.heads.invariant.within)) c.index-list-index.is;
     }
 
-pub invariant_of-result : goal.invariant_of-result
-invariant_of-result c = λ name.
+pub returns : goal.returns
+returns c = λ name.
     let zero : c.heads.index ≡ 0 = omega (arith, c.heads-test.false) in
     c.heads.invariant.first name ∙ rw (zero) (sym (position_from-zero (has_name name) (map head_of c.args.list.now)))

@@ -1,0 +1,16 @@
+use Rattle.std.proofs.Common.{◌≡◌, [], map, ap, sym, ◌∙◌}
+use Rattle.planus_schema.specs.Names.{head_of}
+use Rattle.planus_schema.specs.Uses.{waiting_of, use_of, use_fault, tells}
+use Rattle.planus_schema.proofs.FaultLemmas.{ok_anyway}
+use Rattle.planus_schema.proofs.UseLemmas.{none_noted}
+use Rattle.planus_schema.proofs.waiting.read_use.Goals as goal
+
+pub returns-in-Nothing-clause-noted : goal.returns-in-Nothing-clause-noted
+returns-in-Nothing-clause-noted c =
+    let u = use_of c.args.usage.now in
+    none_noted _ _ c.requires (ap (use_fault u) (sym c.in-Ok.ensures ∙ c.in-Nothing.is))
+
+pub returns-in-Wait-clause-noted : goal.returns-in-Wait-clause-noted
+returns-in-Wait-clause-noted c =
+    let u = use_of c.args.usage.now in
+    ok_anyway c.wait.result _ (none_noted _ _ c.requires (ap (use_fault u) (sym c.in-Ok.ensures ∙ c.in-Wait.is)))
