@@ -1,7 +1,7 @@
 -- The tests of a dump are the clauses of `planus_read`.
 use Rattle.std.specs.Prelude.{◌≡◌, ◌↔◌, ℕ, ℤ, ◌+◌, ◌*◌, ◌<◌, ◌≤◌, ◌⊎◌, List, [], ◌∷◌, ◌++◌, map}
-use Rattle.std.specs.Prelude.{length, drop, take, Option, Some, None, Result, Ok, Err, false, nat_eq}
-use Rattle.std.specs.Prelude.{from_bits, FitsSigned}
+use Rattle.std.specs.Prelude.{length, drop, take, Option, Some, None, Result, Ok, Err, false}
+use Rattle.std.specs.Prelude.{nat_eq, from_bits, FitsSigned}
 use Rattle.std.specs.Fmt.{decimal, signed_decimal}
 use Rattle.std.specs.Int.{Width, w8, w16, w32, w64, byte_len, cast_unsigned}
 use Rattle.std.specs.List.{AllByRecursion}
@@ -12,7 +12,8 @@ use Rattle.planus_read.specs.declared.errors.ErrorKind.{ErrorKind}
 use Rattle.planus_read.specs.declared.errors.ErrorKind.TheVariants.{InvalidOffset}
 use Rattle.planus_read.specs.declared.table_reader.Table.{Table}
 use Rattle.planus_read.specs.Clauses.{Reading, AllHold, Answer}
-use Rattle.planus_read.specs.Reading.{number, number_reading, signed_reading, truth_reading, text_reading}
+use Rattle.planus_read.specs.Reading.{number, number_reading, signed_reading, truth_reading}
+use Rattle.planus_read.specs.Reading.{text_reading}
 use Rattle.planus_read.specs.Reading.{byte_list_reading, vector_reading, union_vector_reading}
 use Rattle.planus_read.specs.Reading.{table_reading, Items, UnionItems, TableLayout}
 use Rattle.planus_read.specs.Plain.{IsLayout, NumberFits, plain_reading}

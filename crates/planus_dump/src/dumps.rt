@@ -22,8 +22,8 @@ pub enum DumpError {
     /// An allocation failed.
     OutOfMemory,
     /// The schema names a table, a union, an enum or a struct that it doesn't have, a union has a
-    /// tag 0 or a tag twice, or a name is empty or has a byte other than ASCII letters, digits and
-    /// `_`.
+    /// tag 0 or a tag twice, or a name has a byte other than ASCII letters, digits and `_`, or is
+    /// empty, which only that of a union's variant may be.
     BadSchema,
     /// A table at depth 65, or a struct in 64 others, comes before a line past the budget. The root
     /// has depth 1.

@@ -138,8 +138,8 @@ impl LineSink {
         }
     }
 
-    /// Whether a line of at least so many bytes would be taken, as far as they tell. If not, the walk
-    /// goes on as if it had been put.
+    /// Whether a line of at least so many bytes may be taken. If not, the walk goes on as if it had
+    /// been put.
     fn may_make(&mut self, size: usize) -> bool
         ensures { MayMake (shown self.old) size result (shown self.new) }
     {

@@ -1,7 +1,7 @@
 //! Schemas for dumps.
 
 /// The types of a format, and which table is a buffer's root. A name is one or more ASCII letters,
-/// digits and `_`.
+/// digits and `_`; that of a variant may be left out.
 #[derive(Debug, Drop)]
 pub struct Schema {
     /// The tables, which items name by index.
@@ -45,7 +45,7 @@ pub struct FieldSchema {
 pub struct VariantSchema {
     /// The tag, above 0 and used once.
     pub tag: u8,
-    /// The name, printed after the tag, or none at all.
+    /// The name, printed after the tag; where it is empty, none is.
     pub name: String,
     /// The index of the variant's table.
     pub table: usize,

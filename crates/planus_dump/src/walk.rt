@@ -109,7 +109,8 @@ fn dump_field(
 ) -> Result<(), AllocError>
     ensures { OnOk result (shown out.new ≡ feed (shown out.old)
         (kind_events (events schema.now left) schema.now field.now.required field.now.kind
-        field.now.slot (table_seen table.entry) (field_path_lem path.now (field_label field.now)))) }
+        field.now.slot (table_seen table.entry)
+        (field_path_lem path.now (field_label field.now)))) }
 {
     let path = field_path(out.alloc, path, field)?;
     dump_kind(schema, out, left, path.as_str(), table, field)
