@@ -1,6 +1,6 @@
 -- What the program prints.
 use Rattle.std.specs.Prelude.{◌≡◌, ℕ, List, [], ◌++◌, Bool, false, Option, Some, None, IfSome}
-use Rattle.std.specs.Prelude.{Result, Ok, Err, codes}
+use Rattle.std.specs.Prelude.{Result, Ok, Err, codes, IsTrue}
 use Rattle.std.specs.Io.KnownBytes.{Appends}
 use Rattle.planus_dump.specs.Shapes.{HasShape}
 use Rattle.planus_demo.specs.WorkedSchemas.{worked_tables, worked_unions}
@@ -47,3 +47,8 @@ told_text (Err Read) mode = line_of (codes "can't read standard input")
 told_text (Err Write) mode = line_of (codes "can't write standard output")
 told_text (Ok clean) (Some mode) = []
 told_text (Ok clean) None = usage_text
+
+-- Where told, exactly these words were written. No words are always told.
+pub record Tells (words : List ℕ) (told : Bool) (before after : Option (List ℕ)) : Type 0 where
+  pub written : IsTrue told → Appends before after words
+  pub silent : words ≡ [] → IsTrue told

@@ -1,8 +1,8 @@
 //! From arguments and a reader to two writers.
-ghost use Rattle.std.specs.Prelude.{◌≡◌, Option, None, IfOk, IfErr, IfSome, IsTrue};
-ghost use Rattle.std.specs.Io.KnownBytes.{Appends};
+ghost use Rattle.std.specs.Prelude.{◌≡◌, Option, None, IfOk, IfErr, IfSome};
 ghost use Rattle.planus_script.specs.Runner.{LeavesUnwritten};
-ghost use Rattle.planus_demo.specs.Programs.{DoesMode, DumpsRoot, SaysUnknown, told_text};
+ghost use Rattle.planus_demo.specs.ModeWords.{IsModeFor};
+ghost use Rattle.planus_demo.specs.Programs.{DoesMode, DumpsRoot, SaysUnknown, Tells, told_text};
 
 use crate::ending::Ending;
 use crate::mode::{mode, schema};
@@ -80,10 +80,12 @@ pub fn run_mode<R: Read, W: Write>(
     }
 }
 
-fn chosen<E: Env + AllocGlobal>(env: &E) -> Result<Option<Mode>, RunError> {
-    match words_of(env)? {
-        Some(words) => Ok(mode(words.as_slice())),
-        None => Ok(None),
+fn mode_of(words: Option<&[String]>) -> Option<Mode>
+    ensures { IsModeFor words.entry result }
+{
+    match words {
+        Some(words) => mode(words),
+        None => None,
     }
 }
 
@@ -102,14 +104,36 @@ fn words_for(answer: Result<bool, RunError>, mode: Option<Mode>) -> &'static str
 }
 
 fn tell<W: Write>(errors: &mut W, words: &str) -> bool
-    ensures { IsTrue result
-        → Appends (W.contents errors.old) (W.contents errors.new) words.now }
+    ensures { Tells words.now result (W.contents errors.old) (W.contents errors.new) }
 {
     words.is_empty() || write_out(errors, words.as_bytes()).is_ok()
 }
 
-/// Runs in the mode of the program's arguments, as [`run_mode`], and prints an error or the usage
-/// to `errors`.
+/// Runs in the mode of these words, as [`run_mode`], and prints an error or the usage to `errors`.
+/// `None` stands for words that are no UTF-8.
+pub fn run_words<R: Read, W: Write, X: Write>(
+    alloc: Global,
+    words: Option<&[String]>,
+    reader: &mut R,
+    writer: &mut W,
+    errors: &mut X,
+) -> Ending
+    ensures printed { (mode : Option Mode) × IsModeFor words.entry mode
+        × IfOk result.answer (λ clean. DoesMode mode (R.remaining reader.old) clean
+        (W.contents writer.old) (W.contents writer.new))
+        × Tells (told_text result.answer mode) result.told
+        (X.contents errors.old) (X.contents errors.new) }
+    ensures unwritten { IfErr result.answer
+        (λ error. LeavesUnwritten error (W.contents writer.old) (W.contents writer.new)) }
+{
+    let mode = mode_of(words);
+    let answer = run_mode(alloc, mode, reader, writer);
+    let told = tell(errors, words_for(answer, mode));
+    Ending { answer, told }
+}
+
+/// Runs as [`run_words`] says, on the words of the program's arguments. Where these don't fit the
+/// memory, nothing is read.
 pub fn run_program<E: Env + AllocGlobal, R: Read, W: Write, X: Write>(
     env: &E,
     reader: &mut R,
@@ -118,15 +142,18 @@ pub fn run_program<E: Env + AllocGlobal, R: Read, W: Write, X: Write>(
 ) -> Ending
     ensures printed { (mode : Option Mode) × IfOk result.answer (λ clean.
         DoesMode mode (R.remaining reader.old) clean (W.contents writer.old)
-        (W.contents writer.new)) × (IsTrue result.told
-        → Appends (X.contents errors.old) (X.contents errors.new) (told_text result.answer mode)) }
+        (W.contents writer.new)) × Tells (told_text result.answer mode) result.told
+        (X.contents errors.old) (X.contents errors.new) }
     ensures unwritten { IfErr result.answer
         (λ error. LeavesUnwritten error (W.contents writer.old) (W.contents writer.new)) }
 {
-    let (answer, mode) = match chosen(env) {
-        Ok(mode) => (run_mode(env.alloc(), mode, reader, writer), mode),
-        Err(error) => (Err(error), None),
-    };
-    let told = tell(errors, words_for(answer, mode));
-    Ending { answer, told }
+    match words_of(env) {
+        Ok(Some(words)) => run_words(env.alloc(), Some(words.as_slice()), reader, writer, errors),
+        Ok(None) => run_words(env.alloc(), None, reader, writer, errors),
+        Err(error) => {
+            let answer = Err(error);
+            let told = tell(errors, words_for(answer, None));
+            Ending { answer, told }
+        }
+    }
 }

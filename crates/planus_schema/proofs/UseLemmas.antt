@@ -87,6 +87,7 @@ in_methods n s (m ∷ ms) h =
 
 in_item : (n : ℕ) (s : SpotV) (i : Item) → s.file < n → All (IsUsedIn n) (item_used s i)
 in_item n s (item.Include w) h = All-nil (IsUsedIn n)
+in_item n s (item.NativeInclude w) h = All-nil (IsUsedIn n)
 in_item n s (item.Namespace p) h = All-nil (IsUsedIn n)
 in_item n s (item.Attribute l) h = All-nil (IsUsedIn n)
 in_item n s (item.Table r) h = in_fields n s r.fields.items h

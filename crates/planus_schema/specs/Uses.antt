@@ -101,6 +101,7 @@ methods_used s (m ∷ ms) = method_used s m ++ methods_used s ms
 
 abbrev pub item_used : SpotV → Item → List EventV
 item_used s (item.Include w) = []
+item_used s (item.NativeInclude w) = []
 item_used s (item.Namespace p) = []
 item_used s (item.Attribute l) = []
 item_used s (item.Table r) = fields_used s r.fields.items
