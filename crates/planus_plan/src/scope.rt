@@ -16,28 +16,11 @@ ghost use Rattle.planus_plan.specs.Names.{are_scopes as are_scopes_lem};
 
 use planus_layout::is_among as is_in;
 
-/// Words that no name in printed code can be: those of the language and of proofs, and names that
-/// the code has anyway.
+/// Words that no name in printed code can be.
 pub const RESERVED: [&str; 79] = [
+    // Of Rust.
     "_",
-    "NOTHING",
     "Self",
-    "abbrev",
-    "bool",
-    "core",
-    "f32",
-    "f64",
-    "i16",
-    "i32",
-    "i64",
-    "i8",
-    "main",
-    "planus",
-    "std",
-    "u16",
-    "u32",
-    "u64",
-    "u8",
     "abstract",
     "as",
     "async",
@@ -50,9 +33,7 @@ pub const RESERVED: [&str; 79] = [
     "crate",
     "do",
     "dyn",
-    "elim",
     "else",
-    "ensures",
     "enum",
     "extern",
     "false",
@@ -60,7 +41,6 @@ pub const RESERVED: [&str; 79] = [
     "fn",
     "for",
     "gen",
-    "ghost",
     "if",
     "impl",
     "in",
@@ -71,25 +51,20 @@ pub const RESERVED: [&str; 79] = [
     "mod",
     "move",
     "mut",
-    "omega",
     "override",
     "priv",
-    "prove",
     "pub",
     "ref",
-    "requires",
     "return",
     "self",
     "static",
     "struct",
     "super",
-    "syntax",
     "trait",
     "true",
     "try",
     "type",
     "typeof",
-    "unfolding",
     "union",
     "unsafe",
     "unsized",
@@ -98,9 +73,38 @@ pub const RESERVED: [&str; 79] = [
     "where",
     "while",
     "yield",
+    // Of clauses and proofs.
+    "abbrev",
+    "elim",
+    "ensures",
+    "ghost",
+    "omega",
+    "prove",
+    "requires",
+    "syntax",
+    "unfolding",
+    // Types.
+    "bool",
+    "f32",
+    "f64",
+    "i16",
+    "i32",
+    "i64",
+    "i8",
+    "u16",
+    "u32",
+    "u64",
+    "u8",
+    // Of printed code.
+    "NOTHING",
+    "core",
+    "main",
+    "planus",
+    "std",
 ];
 
-fn is_one_of(words: &[&str], name: &[u8]) -> bool
+/// Returns whether a name is one of these words.
+pub fn is_one_of(words: &[&str], name: &[u8]) -> bool
     ensures { result ≡ list_any (λ word. bytes_eq word.now name.now) words.now }
 {
     words.iter().any(|word| word.as_bytes() == name)
