@@ -8,7 +8,7 @@ use crate::enums::{
     print_numbers,
 };
 use crate::names::namespace_around;
-use crate::order::{keys_of, sort_by_key};
+use crate::order::{Order, places_by_name};
 use crate::printer::Printer;
 use crate::refusal::Refusal;
 use crate::root::print_root;
@@ -45,8 +45,7 @@ pub struct PrintedFile {
 #[derive(Drop)]
 struct Files<'a> {
     context: &'a Context<'a>,
-    /// The declarations by their modules' names.
-    order: &'a [usize],
+    order: &'a Order,
     /// The indices of all modules by their names.
     modules: &'a [usize],
     files: Vec<PrintedFile>,
@@ -193,7 +192,7 @@ impl<'a> Files<'a> {
         let context = self.context;
         let mut uses = Printer::new(context);
         let mut create = if namespace.is_empty() { CREATE } else { "" };
-        for index in self.order {
+        for index in &self.order.indices {
             if let Some(one) = context.declared.get(*index) {
                 if namespace_around(&one.name) == namespace {
                     if context.names.module(*index) > RUNTIME.as_bytes() {
@@ -263,26 +262,16 @@ impl<'a> Files<'a> {
     }
 }
 
-fn in_order(alloc: Global, keys: &[Vec<u8>]) -> Result<Vec<usize>, AllocError> {
-    let mut order = Vec::new(alloc);
-    for index in 0..keys.len() {
-        order.push(index)?;
-    }
-    sort_by_key(&mut order, keys)?;
-    Ok(order)
-}
-
 fn modules_of(context: &Context<'_>) -> Result<Vec<usize>, AllocError> {
     let mut names = Vec::new(context.alloc);
     for index in 0..context.names.places.len() {
         names.push(Vec::from_slice(context.alloc, context.names.module(index))?)?;
     }
-    in_order(context.alloc, &names)
+    places_by_name(context.alloc, &names)
 }
 
 fn files_of(context: &Context<'_>) -> Result<Vec<PrintedFile>, AllocError> {
-    let keys = keys_of(context.alloc, &context.names.modules)?;
-    let order = in_order(context.alloc, &keys)?;
+    let order = Order::of(context.alloc, &context.names)?;
     let modules = modules_of(context)?;
     let mut files = Files {
         context,

@@ -1,12 +1,14 @@
 //! The imports of clauses and definitions.
 
 use crate::at::At;
+use crate::order::Order;
 use crate::printer::Printer;
 use crate::words::{Part, Words};
+use std::alloc::AllocError;
 
 /// The words that clauses and definitions may need, by their modules: of the library those that
 /// `Printed` passes on.
-const WORDS: [(&str, &str); 5] = [
+pub(crate) const WORDS: [(&str, &str); 5] = [
     (
         "std.specs.Prelude",
         "◌≡◌ ◌≤◌ ◌==◌ ◌↔◌ ◌∷◌ [] ℕ ℤ Bool List Option length codes pos negsuc nat_eq true false \
@@ -35,7 +37,7 @@ const WORDS: [(&str, &str); 5] = [
 /// The module of words of proofs.
 const OF_PROOFS: &str = "std.proofs.Common";
 
-const PROOF_WORDS: &str = "refl lit≤ lit<";
+pub(crate) const PROOF_WORDS: &str = "refl lit≤ lit<";
 
 /// The columns of names in one import.
 const NAME_COLUMNS: usize = 80;
@@ -141,7 +143,15 @@ impl<'a> Printer<'a> {
         self.put_own(imports, &OWN_TYPES, names.type_name(index), at);
     }
 
-    fn put_clause_words(&mut self, words: &Words<'_>, order: &[usize]) {
+    fn put_all_owns(&mut self, imports: Imports<'_>, order: &Order) -> Result<(), AllocError> {
+        let context = self.context;
+        for index in order.named(context.alloc, &context.names, imports.words)? {
+            self.put_owns(imports, index);
+        }
+        Ok(())
+    }
+
+    fn put_clause_words(&mut self, words: &Words<'_>, order: &Order) -> Result<(), AllocError> {
         let imports = Imports {
             words,
             start: "ghost use",
@@ -149,20 +159,27 @@ impl<'a> Printer<'a> {
             own: None,
         };
         self.put_words(imports);
-        for index in order {
-            self.put_owns(imports, *index);
-        }
+        self.put_all_owns(imports, order)
+    }
+
+    fn add_clause_uses(&mut self, code: &str, order: &Order) -> Result<(), AllocError> {
+        let words = Words::of(self.context.alloc, code, Part::Clauses)?;
+        self.put_clause_words(&words, order)
     }
 
     /// Adds the imports of the clauses of code.
-    pub(crate) fn put_clause_uses(&mut self, code: &str, order: &[usize]) {
-        match Words::of(self.context.alloc, code, Part::Clauses) {
-            Ok(words) => self.put_clause_words(&words, order),
-            Err(_) => self.fail(),
+    pub(crate) fn put_clause_uses(&mut self, code: &str, order: &Order) {
+        if self.add_clause_uses(code, order).is_err() {
+            self.fail();
         }
     }
 
-    fn put_definition_words(&mut self, words: &Words<'_>, order: &[usize], own: usize) {
+    fn put_definition_words(
+        &mut self,
+        words: &Words<'_>,
+        order: &Order,
+        own: usize,
+    ) -> Result<(), AllocError> {
         let imports = Imports {
             words,
             start: "use",
@@ -171,16 +188,23 @@ impl<'a> Printer<'a> {
         };
         self.put_words(imports);
         self.put_row(imports, OF_PROOFS, PROOF_WORDS);
-        for index in order {
-            self.put_owns(imports, *index);
-        }
+        self.put_all_owns(imports, order)
+    }
+
+    fn add_definition_uses(
+        &mut self,
+        text: &str,
+        order: &Order,
+        own: usize,
+    ) -> Result<(), AllocError> {
+        let words = Words::of(self.context.alloc, text, Part::Definitions)?;
+        self.put_definition_words(&words, order, own)
     }
 
     /// Adds the imports of the definitions of a declaration.
-    pub(crate) fn put_definition_uses(&mut self, text: &str, order: &[usize], own: usize) {
-        match Words::of(self.context.alloc, text, Part::Definitions) {
-            Ok(words) => self.put_definition_words(&words, order, own),
-            Err(_) => self.fail(),
+    pub(crate) fn put_definition_uses(&mut self, text: &str, order: &Order, own: usize) {
+        if self.add_definition_uses(text, order, own).is_err() {
+            self.fail();
         }
     }
 }

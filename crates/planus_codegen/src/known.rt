@@ -1,5 +1,7 @@
 //! Names that printed code can't take.
 
+use crate::imports::{PROOF_WORDS, WORDS};
+use crate::uses::{ERRORS, NAMES};
 use planus_plan::is_reserved as is_reserved_word;
 
 /// Reserved in clauses or in printed code; a namespace can have them.
@@ -8,13 +10,10 @@ const RESERVED_IN_CLAUSES: &str = "builder clone data deriving fields module rec
 /// Reserved as field names in definitions, unless escaped.
 const ESCAPED: &str = "axiom infix infixl infixr mutual open unfold";
 
-/// Types that code has anyway, and a file of definitions.
+/// Types that code has anyway, without an import, and a file of definitions.
 const KNOWN_TYPES: &str =
-    "Bool BuildError Builder Built ByteList Clone Copy Create Debug Default Drop Err ErrorKind \
-     FieldAt FieldLine Float Lib Lines8 List None Numbered Offset Ok Option OrDefault PartialEq \
-     Plain PlainField PlainTotal Result Shape SliceWithStartOffset Some Stride String Table \
-     TableKind TableReadUnion TableView TableWriter Text Type UnionOffset UnionVariant \
-     UnionVector Unit UnknownEnumTagKind Vec Vector VectorReadUnion";
+    "Bool Clone Copy Debug Default Drop Err FieldLine Float Lib None Ok Option \
+     PartialEq Result Some String Table Type Unit Vec";
 
 /// What a crate has beside its modules.
 const KNOWN_MODULES: &str = "finish_root finish_root_size_prefixed has_identifier lib read_as_root \
@@ -27,6 +26,16 @@ fn has_word(words: &str, name: &[u8]) -> bool {
         }
     }
     false
+}
+
+/// Whether printed code imports this name, in code, in clauses or in definitions.
+fn is_imported(name: &[u8]) -> bool {
+    for (_, words) in &WORDS {
+        if has_word(*words, name) {
+            return true;
+        }
+    }
+    has_word(NAMES, name) || has_word(ERRORS, name) || has_word(PROOF_WORDS, name)
 }
 
 /// Whether no field, type or declaration's module can have this name.
@@ -47,6 +56,7 @@ pub(crate) fn is_known_module(name: &[u8]) -> bool {
 /// `FieldGroup`, `FieldLines` and `Ref`.
 pub(crate) fn is_known_type(name: &[u8]) -> bool {
     has_word(KNOWN_TYPES, name)
+        || is_imported(name)
         || name.ends_with(b"Ref")
         || name.ends_with(b"Fields")
         || name.ends_with(b"FieldGroup")

@@ -2,15 +2,17 @@
 
 use crate::at::At;
 use crate::context::Context;
+use crate::order::Order;
 use crate::printer::Printer;
 use crate::words::{Part, Words};
 use planus_layout::Body;
+use std::alloc::AllocError;
 
 /// The names of its errors that code may need.
-const ERRORS: &str = "ErrorKind UnknownEnumTagKind";
+pub(crate) const ERRORS: &str = "ErrorKind UnknownEnumTagKind";
 
 /// The names of `planus` that code may need.
-const NAMES: &str =
+pub(crate) const NAMES: &str =
     "BuildError Builder Built ByteList Create FieldAt FieldGroup Lines8 List Offset OrDefault \
      Plain PlainField PlainTotal Result SliceWithStartOffset Stride TableKind TableReadUnion \
      TableRef TableView TableWriter Text UnionOffset UnionVector Vector VectorReadUnion \
@@ -117,11 +119,11 @@ impl<'a> Printer<'a> {
         self.put_names_from("use planus::", NAMES, words, other);
     }
 
-    fn put_uses_of(&mut self, words: &Words<'_>, order: &[usize], own: usize) {
+    fn put_uses_of(&mut self, words: &Words<'_>, named: &[usize], own: usize) {
         if words.has(&[], "FILE_IDENTIFIER") {
             self.put_str("use crate::FILE_IDENTIFIER;\n");
         }
-        for index in order {
+        for index in named {
             if *index != own {
                 self.put_type_uses(words, *index);
             }
@@ -129,11 +131,18 @@ impl<'a> Printer<'a> {
         self.put_planus_uses(words);
     }
 
+    fn add_code_uses(&mut self, code: &str, order: &Order, own: usize) -> Result<(), AllocError> {
+        let context = self.context;
+        let words = Words::of(context.alloc, code, Part::Code)?;
+        let named = order.named(context.alloc, &context.names, &words)?;
+        self.put_uses_of(&words, &named, own);
+        Ok(())
+    }
+
     /// Adds the imports of code. `own` is the declaration whose types the file has.
-    pub(crate) fn put_code_uses(&mut self, code: &str, order: &[usize], own: usize) {
-        match Words::of(self.context.alloc, code, Part::Code) {
-            Ok(words) => self.put_uses_of(&words, order, own),
-            Err(_) => self.fail(),
+    pub(crate) fn put_code_uses(&mut self, code: &str, order: &Order, own: usize) {
+        if self.add_code_uses(code, order, own).is_err() {
+            self.fail();
         }
     }
 

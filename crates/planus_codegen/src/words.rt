@@ -1,6 +1,7 @@
 //! The words of a text.
 
 use std::alloc::{AllocError, Global};
+use std::cmp::Ordering;
 
 const ENSURES: &str = "ensures";
 
@@ -24,7 +25,17 @@ pub(crate) enum Part {
 /// of an implementation.
 #[derive(Drop)]
 pub(crate) struct Words<'a> {
+    /// In order, each once.
     words: Vec<&'a [u8]>,
+}
+
+// How a word compares with these letters and then those.
+fn compare(word: &[u8], start: &[u8], end: &[u8]) -> Ordering {
+    let front = word.get(..start.len()).unwrap_or(word);
+    match front.cmp(start) {
+        Ordering::Equal => word.get(start.len()..).unwrap_or(&[]).cmp(end),
+        other => other,
+    }
 }
 
 fn begins_with(line: &[u8], word: &str) -> bool {
@@ -72,6 +83,8 @@ impl<'a> Words<'a> {
                 words.add_line(line, part)?;
             }
         }
+        words.words.sort()?;
+        words.words.dedup();
         Ok(words)
     }
 
@@ -93,9 +106,7 @@ impl<'a> Words<'a> {
         };
         if range.0 < range.1 && !is_mark(before, part) {
             if let Some(word) = line.get(range.0..range.1) {
-                if !self.has(word, "") {
-                    self.words.push(word)?;
-                }
+                self.words.push(word)?;
             }
         }
         Ok(())
@@ -104,12 +115,12 @@ impl<'a> Words<'a> {
     /// Returns whether there is a word of these letters and then those.
     pub(crate) fn has(&self, start: &[u8], end: &str) -> bool {
         let end = end.as_bytes();
-        let length = start.len().saturating_add(end.len());
-        for word in &self.words {
-            if word.len() == length && word.starts_with(start) && word.ends_with(end) {
-                return true;
-            }
-        }
-        false
+        self.words
+            .binary_search_by(|word| compare(word, start, end))
+            .is_ok()
+    }
+
+    pub(crate) fn as_slice(&self) -> &[&'a [u8]] {
+        self.words.as_slice()
     }
 }
