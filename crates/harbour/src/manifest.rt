@@ -2,15 +2,15 @@
 
 ghost use Rattle.std.specs.Prelude.{◌∷◌, [], codes, negsuc, true, false, MatchOption, ⊤};
 ghost use Rattle.std.specs.Int.{w8, w16, w32, w64};
-ghost use Rattle.planus.specs.Printed.{u8_shape, u16_shape, u32_shape, u64_shape, i8_shape};
-ghost use Rattle.planus.specs.Printed.{i16_shape, i32_shape, i64_shape, bool_shape, f32_shape};
-ghost use Rattle.planus.specs.Printed.{f64_shape, IsIn, AllIn, AllUnionsIn, IsPlainVector};
-ghost use Rattle.planus.specs.Printed.{IsPlainVectorRequired, IsPlainRequired, IsTextField};
-ghost use Rattle.planus.specs.Printed.{IsTextRequired, IsBytesField, IsBytesRequired};
-ghost use Rattle.planus.specs.Printed.{IsTextVector, IsTextVectorRequired, IsTableField};
-ghost use Rattle.planus.specs.Printed.{IsTableRequired, IsTableVector, IsTableVectorRequired};
-ghost use Rattle.planus.specs.Printed.{plain_kind, text_kind, bytes_kind, table_kind};
-ghost use Rattle.planus.specs.Printed.{IsPlainField, IsPlainFieldOr, IsUnionField};
+ghost use Rattle.planus.specs.Printed.{of_bits, binary32, binary64, u8_shape, u16_shape};
+ghost use Rattle.planus.specs.Printed.{u32_shape, u64_shape, i8_shape, i16_shape, i32_shape};
+ghost use Rattle.planus.specs.Printed.{i64_shape, bool_shape, f32_shape, f64_shape, IsIn, AllIn};
+ghost use Rattle.planus.specs.Printed.{AllUnionsIn, IsPlainVector, IsPlainVectorRequired};
+ghost use Rattle.planus.specs.Printed.{IsPlainRequired, IsTextField, IsTextRequired, IsBytesField};
+ghost use Rattle.planus.specs.Printed.{IsBytesRequired, IsTextVector, IsTextVectorRequired};
+ghost use Rattle.planus.specs.Printed.{IsTableField, IsTableRequired, IsTableVector};
+ghost use Rattle.planus.specs.Printed.{IsTableVectorRequired, plain_kind, text_kind, bytes_kind};
+ghost use Rattle.planus.specs.Printed.{table_kind, IsPlainField, IsPlainFieldOr, IsUnionField};
 ghost use Rattle.planus.specs.Printed.{IsUnionRequired, IsUnionVector, ReadsVariants, plains};
 ghost use Rattle.planus.specs.Printed.{judged, texts, tables, optional, required, plain_if};
 ghost use Rattle.planus.specs.Printed.{plain_or, number_or, signed_or, union, union_required};
@@ -216,18 +216,15 @@ impl FieldGroup for Manifest4FieldGroup {
 }
 
 impl<'a> Create<ManifestFields<'a>> for Manifest {
-    ghost use Rattle.harbour.specs.declared.manifest.TheConstants.{DEFAULT_WEIGHT};
-    ghost use Rattle.harbour.specs.declared.manifest.TheConstants.{DEFAULT_WORTH};
-    ghost use Rattle.harbour.specs.declared.manifest.TheConstants.{DEFAULT_NEEDS};
-
     ghost lines = { λ fields.
         number_or u64_shape 0 1 fields.number ∷
         signed_or i64_shape w64 1 (negsuc 0) fields.issued ∷
-        plain_or f64_shape ⟦<f64 as PartialEq>⟧.eq 2 DEFAULT_WEIGHT fields.weight ∷
+        plain_or f64_shape ⟦<f64 as PartialEq>⟧.eq 2 (of_bits binary64 4602678819172646912)
+        fields.weight ∷
         plain_if u64_shape 16 fields.rank ∷
         plain_if f64_shape 17 fields.margin ∷
         required (plain_kind gauge_shape) 22 fields.gauge ∷
-        plain_or f32_shape ⟦<f32 as PartialEq>⟧.eq 3 DEFAULT_WORTH fields.worth ∷
+        plain_or f32_shape ⟦<f32 as PartialEq>⟧.eq 3 (of_bits binary32 0) fields.worth ∷
         number_or u32_shape 4 12 fields.boxes ∷
         signed_or i32_shape w32 5 (negsuc 6) fields.debt ∷
         plain_if i32_shape 18 fields.dues ∷
@@ -254,7 +251,7 @@ impl<'a> Create<ManifestFields<'a>> for Manifest {
         number_or u16_shape 6 3 fields.pages ∷
         signed_or i16_shape w16 7 (negsuc 1) fields.shift ∷
         plain_or level_shape ⟦<Level as PartialEq>⟧.eq 13 level_value.High fields.level ∷
-        plain_or needs_shape ⟦<Needs as PartialEq>⟧.eq 14 DEFAULT_NEEDS fields.needs ∷
+        plain_or needs_shape ⟦<Needs as PartialEq>⟧.eq 14 (record { bits = 2 }) fields.needs ∷
         number_or u8_shape 8 1 fields.tier ∷
         signed_or i8_shape w8 9 (negsuc 0) fields.lean ∷
         plain_or bool_shape ⟦<bool as PartialEq>⟧.eq 10 true fields.sealed ∷
@@ -269,8 +266,6 @@ impl<'a> Create<ManifestFields<'a>> for Manifest {
         MatchOption fields.persons ⊤ (λ x. AllIn builder x.now) × AllIn builder fields.parts.now ×
         MatchOption fields.owner ⊤ (λ x. IsIn builder x.offset) ×
         IsIn builder fields.payer.offset × AllUnionsIn builder fields.owners.now };
-
-    ghost is_told = { λ fields. ⊥ };
 
     fn create(builder: &mut Builder, fields: ManifestFields<'a>) -> Built<Manifest> {
         let group1 = Manifest1FieldGroup {
@@ -364,15 +359,15 @@ impl<'a> ManifestRef<'a> {
 
     /// Returns `weight`.
     pub fn weight(&self) -> Result<f64>
-        ensures { IsPlainFieldOr f64_shape DEFAULT_WEIGHT self.now.0 2 (codes "Manifest")
-            (codes "weight") result }
+        ensures { IsPlainFieldOr f64_shape (of_bits binary64 4602678819172646912) self.now.0 2
+            (codes "Manifest") (codes "weight") result }
     {
         plain_field_or(&self.0, 2, DEFAULT_WEIGHT, "Manifest", "weight")
     }
 
     /// Returns `worth`.
     pub fn worth(&self) -> Result<f32>
-        ensures { IsPlainFieldOr f32_shape DEFAULT_WORTH self.now.0 3 (codes "Manifest")
+        ensures { IsPlainFieldOr f32_shape (of_bits binary32 0) self.now.0 3 (codes "Manifest")
             (codes "worth") result }
     {
         plain_field_or(&self.0, 3, DEFAULT_WORTH, "Manifest", "worth")
@@ -459,7 +454,7 @@ impl<'a> ManifestRef<'a> {
 
     /// Returns `needs`.
     pub fn needs(&self) -> Result<Needs>
-        ensures { IsPlainFieldOr needs_shape DEFAULT_NEEDS self.now.0 14 (codes "Manifest")
+        ensures { IsPlainFieldOr needs_shape (record { bits = 2 }) self.now.0 14 (codes "Manifest")
             (codes "needs") result }
     {
         plain_field_or(&self.0, 14, DEFAULT_NEEDS, "Manifest", "needs")

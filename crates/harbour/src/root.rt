@@ -1,6 +1,6 @@
 //! The root of a buffer.
 
-ghost use Rattle.std.specs.Prelude.{◌↔◌, codes, IfOk, IsTrue, Some};
+ghost use Rattle.std.specs.Prelude.{◌↔◌, ◌∷◌, [], codes, IfOk, IsTrue, Some};
 ghost use Rattle.std.specs.Borrow.{sem};
 ghost use Rattle.planus.specs.Printed.{BytesStand, IsPrefixed, FinishGives, SizedFinishGives};
 ghost use Rattle.planus.specs.Printed.{EndsAs, FinishLeaves, SizedFinishLeaves, IsIn, IsPrepared};
@@ -29,10 +29,10 @@ pub fn read_size_prefixed_as_root(bytes: &[u8]) -> Result<(ShipRef<'_>, &[u8]), 
 /// Finishes a buffer with this root and the file identifier, as [`Builder::finish`].
 pub fn finish_root(builder: &mut Builder, root: Offset<Ship>) -> Result<&[u8], BuildError>
     requires { IsIn builder.old root }
-    ensures bytes { IfOk result (λ bytes. FinishGives (IsPrepared root) (Some FILE_IDENTIFIER)
-        builder.old bytes.now) }
+    ensures bytes { IfOk result (λ bytes. FinishGives (IsPrepared root)
+        (Some (83 ∷ 72 ∷ 73 ∷ 80 ∷ [])) builder.old bytes.now) }
     ensures* after { sem 𝓛 (EndsAs builder.entry (FinishLeaves (IsPrepared root)
-        (Some FILE_IDENTIFIER) builder.old result)) }
+        (Some (83 ∷ 72 ∷ 73 ∷ 80 ∷ [])) builder.old result)) }
 {
     builder.finish(root, Some(FILE_IDENTIFIER))
 }
@@ -43,18 +43,18 @@ pub fn finish_root_size_prefixed(
     root: Offset<Ship>,
 ) -> Result<&[u8], BuildError>
     requires { IsIn builder.old root }
-    ensures bytes { IfOk result (λ bytes. SizedFinishGives (IsPrepared root) (Some FILE_IDENTIFIER)
-        builder.old bytes.now) }
+    ensures bytes { IfOk result (λ bytes. SizedFinishGives (IsPrepared root)
+        (Some (83 ∷ 72 ∷ 73 ∷ 80 ∷ [])) builder.old bytes.now) }
     ensures size { IfOk result (λ bytes. IsPrefixed bytes.now) }
     ensures* after { sem 𝓛 (EndsAs builder.entry (SizedFinishLeaves (IsPrepared root)
-        (Some FILE_IDENTIFIER) builder.old result)) }
+        (Some (83 ∷ 72 ∷ 73 ∷ 80 ∷ [])) builder.old result)) }
 {
     builder.finish_size_prefixed(root, Some(FILE_IDENTIFIER))
 }
 
 /// Returns whether a buffer has the file identifier; of one after its size, pass what follows it.
 pub fn has_identifier(bytes: &[u8]) -> bool
-    ensures { IsTrue result ↔ BytesStand bytes.now 4 FILE_IDENTIFIER }
+    ensures { IsTrue result ↔ BytesStand bytes.now 4 (83 ∷ 72 ∷ 73 ∷ 80 ∷ []) }
 {
     planus::has_identifier(bytes, FILE_IDENTIFIER)
 }

@@ -2,15 +2,15 @@
 
 ghost use Rattle.std.specs.Prelude.{◌∷◌, [], codes, pos, negsuc, true, false, MatchOption, ⊤};
 ghost use Rattle.std.specs.Int.{w16, w64};
-ghost use Rattle.planus.specs.Printed.{u16_shape, u32_shape, i8_shape, i16_shape, i32_shape};
-ghost use Rattle.planus.specs.Printed.{i64_shape, bool_shape, f32_shape, f64_shape, IsIn, AllIn};
-ghost use Rattle.planus.specs.Printed.{AllUnionsIn, IsPlainVector, IsPlainRequired};
-ghost use Rattle.planus.specs.Printed.{IsTextRequired, IsBytesField, IsTextVector, IsTableField};
-ghost use Rattle.planus.specs.Printed.{IsTableVector, plain_kind, text_kind, bytes_kind};
-ghost use Rattle.planus.specs.Printed.{table_kind, IsPlainField, IsPlainFieldOr, IsUnionField};
-ghost use Rattle.planus.specs.Printed.{IsUnionVector, ReadsVariants, plains, judged, texts};
-ghost use Rattle.planus.specs.Printed.{tables, optional, required, plain_if, plain_or, number_or};
-ghost use Rattle.planus.specs.Printed.{signed_or, union, unions};
+ghost use Rattle.planus.specs.Printed.{of_bits, binary32, u16_shape, u32_shape, i8_shape};
+ghost use Rattle.planus.specs.Printed.{i16_shape, i32_shape, i64_shape, bool_shape, f32_shape};
+ghost use Rattle.planus.specs.Printed.{f64_shape, IsIn, AllIn, AllUnionsIn, IsPlainVector};
+ghost use Rattle.planus.specs.Printed.{IsPlainRequired, IsTextRequired, IsBytesField};
+ghost use Rattle.planus.specs.Printed.{IsTextVector, IsTableField, IsTableVector, plain_kind};
+ghost use Rattle.planus.specs.Printed.{text_kind, bytes_kind, table_kind, IsPlainField};
+ghost use Rattle.planus.specs.Printed.{IsPlainFieldOr, IsUnionField, IsUnionVector, ReadsVariants};
+ghost use Rattle.planus.specs.Printed.{plains, judged, texts, tables, optional, required};
+ghost use Rattle.planus.specs.Printed.{plain_if, plain_or, number_or, signed_or, union, unions};
 ghost use Rattle.harbour.specs.Fix.{fix_shape};
 ghost use Rattle.harbour.specs.Kind.{kind_shape};
 ghost use Rattle.harbour.specs.declared.kind.Kind.TheVariants as kind_value;
@@ -80,9 +80,6 @@ pub struct ShipFields<'a> {
 }
 
 impl<'a> Create<ShipFields<'a>> for Ship {
-    ghost use Rattle.harbour.specs.declared.ship.TheConstants.{DEFAULT_NEEDS};
-    ghost use Rattle.harbour.specs.declared.ship.TheConstants.{DEFAULT_HEAT};
-
     ghost lines = { λ fields.
         signed_or i64_shape w64 23 (pos 0) fields.tall ∷
         required (plain_kind fix_shape) 26 fields.fix ∷
@@ -90,7 +87,7 @@ impl<'a> Create<ShipFields<'a>> for Ship {
         optional (plains u32_shape) 2 fields.cargo ∷
         plain_if pos_shape 6 fields.home ∷
         optional (plains pos_shape) 7 fields.track ∷
-        plain_or f32_shape ⟦<f32 as PartialEq>⟧.eq 8 DEFAULT_HEAT fields.heat ∷
+        plain_or f32_shape ⟦<f32 as PartialEq>⟧.eq 8 (of_bits binary32 1069547520) fields.heat ∷
         plain_if i32_shape 12 fields.maybe ∷
         optional bytes_kind 13 fields.photo ∷
         optional texts 14 fields.names ∷
@@ -104,7 +101,7 @@ impl<'a> Create<ShipFields<'a>> for Ship {
         optional (plains bool_shape) 28 fields.flags ∷
         number_or u16_shape 1 100 fields.hull ∷
         plain_or level_shape ⟦<Level as PartialEq>⟧.eq 4 level_value.Mid fields.level ∷
-        plain_or needs_shape ⟦<Needs as PartialEq>⟧.eq 5 DEFAULT_NEEDS fields.needs ∷
+        plain_or needs_shape ⟦<Needs as PartialEq>⟧.eq 5 (record { bits = 1 }) fields.needs ∷
         signed_or i16_shape w16 9 (negsuc 4) fields.depth ∷
         plain_or kind_shape ⟦<Kind as PartialEq>⟧.eq 3 kind_value.Bike fields.kind ∷
         plain_or bool_shape ⟦<bool as PartialEq>⟧.eq 10 true fields.open ∷
@@ -193,7 +190,7 @@ impl<'a> ShipRef<'a> {
 
     /// Returns `needs`.
     pub fn needs(&self) -> Result<Needs>
-        ensures { IsPlainFieldOr needs_shape DEFAULT_NEEDS self.now.0 5 (codes "Ship")
+        ensures { IsPlainFieldOr needs_shape (record { bits = 1 }) self.now.0 5 (codes "Ship")
             (codes "needs") result }
     {
         plain_field_or(&self.0, 5, DEFAULT_NEEDS, "Ship", "needs")
@@ -215,8 +212,8 @@ impl<'a> ShipRef<'a> {
 
     /// Returns `heat`.
     pub fn heat(&self) -> Result<f32>
-        ensures { IsPlainFieldOr f32_shape DEFAULT_HEAT self.now.0 8 (codes "Ship") (codes "heat")
-            result }
+        ensures { IsPlainFieldOr f32_shape (of_bits binary32 1069547520) self.now.0 8
+            (codes "Ship") (codes "heat") result }
     {
         plain_field_or(&self.0, 8, DEFAULT_HEAT, "Ship", "heat")
     }

@@ -15,7 +15,7 @@ use Rattle.planus_write.specs.lemmas.Staying.{kept_stays}
 use Rattle.planus_write.specs.Contents.{Content, Comes}
 use Rattle.planus.specs.Contents.{FieldsAre, there_of, TableIsKept, WritesRest}
 use Rattle.planus.specs.lemmas.ContentLaws.{fields_stay, contents_both}
-use Rattle.planus.specs.Preparing.{WritesFields, Fields, PreparesAfter, Turn, take_turns, AreTaken, OneFails}
+use Rattle.planus.specs.Preparing.{WritesFields, Fields, PreparesAfter, Turn, take_turns, next_turn, AreTaken, OneFails}
 use Rattle.planus.specs.TableFields.{all_of, field_in}
 
 pub if_ok : {T E : Type 0} {P Q : T → Type 0} (r : Result T E) → ((x : T) → P x → Q x) → IfOk r P
@@ -46,6 +46,7 @@ pub taken_then : (turns : List Turn) (others : PreparesAfter) (before : Fields) 
     (fields : Fields) → AreTaken turns old fields between
     → (answer : Result Fields BuildError) (new : State)
     → others (before ++ fields) between answer new → take_turns turns others before old answer new
+unfolding next_turn
 taken_then [] others before old between fields taken answer new rest =
     subst (λ (state : State). others before state answer new) taken.1
     (subst (λ (some : Fields). others some between answer new)
@@ -65,6 +66,7 @@ taken_then (turn ∷ turns) others before old between fields taken answer new re
 pub fails_then : (turns : List Turn) (others : PreparesAfter) (before : Fields) (old : State)
     (error : BuildError) (new : State) → OneFails turns old error new
     → take_turns turns others before old (Err error) new
+unfolding next_turn
 fails_then [] others before old error new h = absurd h
 fails_then (turn ∷ turns) others before old error new (inl refused) = inl refused
 fails_then (turn ∷ turns) others before old error new (inr (value, between, done, later)) =

@@ -15,7 +15,7 @@ use Rattle.planus.specs.FieldLines.FieldLine.{optional, required, plain_if, plai
 use Rattle.planus.specs.FieldLines.FieldLine.{signed_or, union, union_required, unions}
 use Rattle.planus.specs.FieldLines.FieldLine.{unions_required}
 use Rattle.planus.specs.Holds.{as_signed}
-use Rattle.planus.specs.Preparing.{Fields, WritesInTurn}
+use Rattle.planus.specs.Preparing.{Fields, WritesInTurn, next_turn}
 use Rattle.planus.specs.TableFields.{field_in, union_value_in, union_tag_in, list_tags_in}
 use Rattle.planus.specs.TableFields.{list_values_in}
 
@@ -26,39 +26,39 @@ PreparesOthers = Fields → Fields → Outcome Fields
 -- One field is prepared, and then the others.
 abbrev pub in_turn : FieldLine → PreparesOthers → PreparesOthers
 in_turn (optional kind slot given) others first last =
-    then_does (PreparesIf (λ one. AlwaysWritten (kind.prepares one)) given)
+    next_turn (PreparesIf (λ one. AlwaysWritten (kind.prepares one)) given)
     (λ value. others (first ++ field_in slot kind.as_field value ∷ []) last)
 in_turn (required kind slot given) others first last =
-    then_does (AlwaysWritten (kind.prepares given))
+    next_turn (AlwaysWritten (kind.prepares given))
     (λ value. others (first ++ field_in slot kind.as_field value ∷ []) last)
 in_turn (plain_if shape slot given) others first last =
-    then_does (PreparesIf (λ one. AlwaysWritten (Answers one)) given)
+    next_turn (PreparesIf (λ one. AlwaysWritten (Answers one)) given)
     (λ value. others (first ++ field_in slot (plain_field_of shape) value ∷ []) last)
 in_turn (plain_or shape equal slot default given) others first last =
-    then_does (LeftOutWhere (IsTrue (equal given default)) (Answers given))
+    next_turn (LeftOutWhere (IsTrue (equal given default)) (Answers given))
     (λ value. others (first ++ field_in slot (plain_field_of shape) value ∷ []) last)
 in_turn (number_or shape slot default given) others first last =
-    then_does (LeftOutWhere (IsTrue (given == default)) (Answers given))
+    next_turn (LeftOutWhere (IsTrue (given == default)) (Answers given))
     (λ value. others (first ++ field_in slot (plain_field_of shape) value ∷ []) last)
 in_turn (signed_or shape width slot default given) others first last =
-    then_does
+    next_turn
     (LeftOutWhere (IsTrue (int_eq (as_signed width given) default))
     (Answers (as_signed width given)))
     (λ value. others (first ++ field_in slot (plain_field_of shape) value ∷ []) last)
 in_turn (union variants slot given) others first last =
-    then_does (PreparesIf (λ one. AlwaysWritten (Answers one)) given)
+    next_turn (PreparesIf (λ one. AlwaysWritten (Answers one)) given)
     (λ value. others (first ++ union_value_in (slot + 1) value ∷ [])
     (last ++ union_tag_in slot value ∷ []))
 in_turn (union_required variants slot given) others first last =
-    then_does (AlwaysWritten (Answers given))
+    next_turn (AlwaysWritten (Answers given))
     (λ value. others (first ++ union_value_in (slot + 1) value ∷ [])
     (last ++ union_tag_in slot value ∷ []))
 in_turn (unions T slot given) others first last =
-    then_does (LeftOutWhere (given.now ≡ []) (WritesUnionVector Answers given.now))
+    next_turn (LeftOutWhere (given.now ≡ []) (WritesUnionVector Answers given.now))
     (λ value. others
     ((first ++ list_tags_in slot value ∷ []) ++ list_values_in (slot + 1) value ∷ []) last)
 in_turn (unions_required T slot given) others first last =
-    then_does (AlwaysWritten (WritesUnionVector Answers given.now))
+    next_turn (AlwaysWritten (WritesUnionVector Answers given.now))
     (λ value. others
     ((first ++ list_tags_in slot value ∷ []) ++ list_values_in (slot + 1) value ∷ []) last)
 

@@ -38,6 +38,11 @@ Fields = List (List (ℕ × Field))
 unfoldable pub WritesInTurn : {T : Type 0} → (Fields → Fields → Outcome Fields) → Outcome (Offset T)
 WritesInTurn in_turn = then_does (in_turn [] []) WritesFields
 
+-- One field is prepared, and then others that take what it was prepared to. This is opaque for the
+-- same reason.
+unfoldable pub next_turn : {A B : Type 0} → Outcome A → (A → Outcome B) → Outcome B
+next_turn one others = then_does one others
+
 -- after these fields, others are prepared, and all are returned
 abbrev pub PreparesAfter : Type 1
 PreparesAfter = Fields → Outcome Fields
@@ -53,7 +58,7 @@ pub record Turn : Type 1 where
 abbrev pub take_turns : List Turn → PreparesAfter → PreparesAfter
 take_turns [] others before = others before
 take_turns (turn ∷ turns) others before =
-    then_does turn.outcome
+    next_turn turn.outcome
     (λ value. take_turns turns others (before ++ field_in turn.slot turn.as_field value ∷ []))
 
 -- All turns were taken, and prepared these.

@@ -1,4 +1,5 @@
 -- The words of clauses and definitions of printed code, passed on from where they are defined.
+pub use lib.Ieee.{of_bits, binary32, binary64}
 pub use Rattle.planus_read.specs.declared.table_reader.Table.{Table}
 pub use Rattle.planus_read.specs.Bytes.{BytesStand}
 pub use Rattle.planus_read.specs.Enums.{Numbered, variant_in, u8_enum, u16_enum, u32_enum}

@@ -80,7 +80,9 @@ pub(crate) fn default(context: &Context<'_>, field: &TableField) -> &'static str
 
 pub(crate) fn default_clause(context: &Context<'_>, field: &TableField) -> &'static str {
     match field.kind.base {
-        Base::Enum(index) if !context.is_flags(index) => "$h_value.$e",
+        Base::Enum(index) if context.is_flags(index) => "(record { bits = $l })",
+        Base::Enum(_) => "$h_value.$e",
+        Base::Scalar(scalar) if scalar.is_float() && is_finite(field) => "$H",
         Base::Scalar(scalar) if is_signed(scalar) => "($L)",
         _ => default(context, field),
     }
@@ -103,6 +105,18 @@ fn float_word(text: &[u8]) -> &'static str {
         Some(b'i' | b'I') => "::INFINITY",
         _ => "",
     }
+}
+
+fn is_finite(field: &TableField) -> bool {
+    match &field.default {
+        Some(Value::Float(text)) => float_word(text).is_empty(),
+        _ => true,
+    }
+}
+
+/// Whether clauses have the name of a field's constant, for want of a value.
+pub(crate) fn is_named_in_clauses(context: &Context<'_>, field: &TableField) -> bool {
+    has_constant(context, field) && !is_finite(field)
 }
 
 impl<'a> Printer<'a> {

@@ -1,5 +1,7 @@
 //! What the letters of templates stand for.
 //!
+//! Everywhere: `I` the file identifier in clauses.
+//!
 //! Of a declaration: `c` the crate, `T` the type, `U` the type in its namespace, `M` the module; of
 //! a namespace `M` the module, `O` the name in the schema, `W` the module's path; of an enum or a
 //! struct `S` its size, `A` its alignment, `P` the alignment's exponent, `Q` how many alignments
@@ -14,8 +16,8 @@
 //! table.
 //!
 //! Of a field of a table: `o` its slot, `u` the slot before, `r` the slot it is read by; `l` its
-//! default as an integer, `L` in clauses, `e` as a value of an enum, `F` as a float; and, as
-//! templates of these letters, `G` its type as it is given, `R` as it is read, `E` as it is
+//! default as an integer, `L` in clauses, `e` as a value of an enum, `F` as a float, `H` in clauses;
+//! and, as templates of these letters, `G` its type as it is given, `R` as it is read, `E` as it is
 //! encoded, `D` its default in code, `K` in clauses.
 
 use crate::at::At;
@@ -277,6 +279,25 @@ impl<'a> Printer<'a> {
         }
     }
 
+    fn put_default_float(&mut self, at: At) {
+        if let Some(field) = self.context.field(at) {
+            if let Base::Scalar(scalar) = field.kind.base {
+                self.put_float_value(scalar, field);
+            }
+        }
+    }
+
+    // The file identifier as a list of bytes.
+    fn put_identifier_bytes(&mut self) {
+        if let Some(identifier) = self.context.identifier {
+            for byte in identifier {
+                self.put_number(*byte as u64);
+                self.put_str(" ∷ ");
+            }
+        }
+        self.put_str("[]");
+    }
+
     // The modules of the namespaces around one, and its own.
     fn put_module_path(&mut self, namespace: &[u8]) {
         let names = &self.context.names;
@@ -311,6 +332,8 @@ impl<'a> Printer<'a> {
             'b' | 'j' | 'q' => self.put_enum_word(letter, at.index),
             'x' | 'y' | 'w' | 'v' => self.put_struct_word(letter, at),
             'e' | 'F' => self.put_default_value(at),
+            'H' => self.put_default_float(at),
+            'I' => self.put_identifier_bytes(),
             _ => self.put_number(number(context, letter, at) as u64),
         }
     }

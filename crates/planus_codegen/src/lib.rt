@@ -10,6 +10,7 @@ mod crate_file;
 mod defaults;
 mod enums;
 mod field_lines;
+mod floats;
 mod groups;
 mod holes;
 mod imports;

@@ -28,9 +28,9 @@ const FINISH: &str = "
 pub fn finish_root(^builder: &mut Builder,^root: Offset<$T>^) -> Result<&[u8], BuildError>
     requires { IsIn builder.old root }
     ensures bytes {~IfOk~result~(λ bytes.~FinishGives~(IsPrepared root)~\
-     (Some FILE_IDENTIFIER)~builder.old~bytes.now) }
+     (Some ($I))~builder.old~bytes.now) }
     ensures* after {~sem~𝓛~(EndsAs~builder.entry~(FinishLeaves~(IsPrepared root)~\
-     (Some FILE_IDENTIFIER)~builder.old~result)) }
+     (Some ($I))~builder.old~result)) }
 {
     builder.finish(root, Some(FILE_IDENTIFIER))
 }
@@ -42,10 +42,10 @@ pub fn finish_root_size_prefixed(^builder: &mut Builder,^root: Offset<$T>^) \
      -> Result<&[u8], BuildError>
     requires { IsIn builder.old root }
     ensures bytes {~IfOk~result~(λ bytes.~SizedFinishGives~(IsPrepared root)~\
-     (Some FILE_IDENTIFIER)~builder.old~bytes.now) }
+     (Some ($I))~builder.old~bytes.now) }
     ensures size { IfOk result (λ bytes. IsPrefixed bytes.now) }
     ensures* after {~sem~𝓛~(EndsAs~builder.entry~(SizedFinishLeaves~(IsPrepared root)~\
-     (Some FILE_IDENTIFIER)~builder.old~result)) }
+     (Some ($I))~builder.old~result)) }
 {
     builder.finish_size_prefixed(root, Some(FILE_IDENTIFIER))
 }
@@ -54,7 +54,7 @@ pub fn finish_root_size_prefixed(^builder: &mut Builder,^root: Offset<$T>^) \
 const CHECK: &str = "
 /// Returns whether a buffer has the file identifier; of one after its size, pass what follows it.
 pub fn has_identifier(bytes: &[u8]) -> bool
-    ensures { IsTrue result ↔ BytesStand bytes.now 4 FILE_IDENTIFIER }
+    ensures { IsTrue result ↔ BytesStand bytes.now 4 ($I) }
 {
     planus::has_identifier(bytes, FILE_IDENTIFIER)
 }

@@ -2,10 +2,9 @@
 
 use crate::at::At;
 use crate::context::Context;
-use crate::defaults::{default_value, has_constant, is_zero};
+use crate::defaults::{default_value, has_constant, is_named_in_clauses, is_zero};
 use crate::groups::{Entry, entries_of};
 use crate::printer::Printer;
-use crate::shares::are_many;
 use crate::types::{has_default, is_optional, is_union};
 use planus_layout::{Base, Declared, TableField};
 use planus_plan::{Line, Plan};
@@ -16,12 +15,12 @@ const FIELDS: &str = "\
 #[derive(Drop)]
 pub struct $TFields";
 
+const CONSTANT: &str = "    ghost use Rattle.$c.specs.declared.$M.TheConstants.{DEFAULT_$N};\n";
+
 const FIELDS_WITH_DEFAULT: &str = "\
 /// The fields of `$T`, as [`$T::create`] takes them.
 #[derive(Default, Drop)]
 pub struct $TFields";
-
-const CONSTANT: &str = "    ghost use Rattle.$c.specs.declared.$M.TheConstants.{DEFAULT_$N};\n";
 
 const BORROWED_FIELDS: &str = " };
 
@@ -36,9 +35,6 @@ const OWNED_FIELDS: &str = " };
 const MAY: &str = "    ghost may = { λ fields builder.";
 
 const AND: &str = " ×";
-
-// The checker can't compare a long list with the field lines.
-const UNTOLD: &str = "    ghost is_told = { λ fields. ⊥ };\n\n";
 
 const CREATES_BORROWED: &str = "impl<'a> Create<$TFields<'a>>~for $T {\n";
 
@@ -142,7 +138,7 @@ impl<'a> Printer<'a> {
     fn put_constant_uses(&mut self, plan: &Plan<'_>) {
         let mut end = "";
         for line in &plan.lines {
-            if has_constant(self.context, line.field) {
+            if is_named_in_clauses(self.context, line.field) {
                 self.put(CONSTANT, At::line(line));
                 end = "\n";
             }
@@ -178,7 +174,6 @@ impl<'a> Printer<'a> {
             ("impl Default for $TFields {\n", OWNED_FIELDS)
         };
         self.put(head, at);
-        self.put_constant_uses(plan);
         self.put("    ghost is_default = {~λ x.", at);
         let mut between = "";
         for line in &plan.lines {
@@ -241,7 +236,6 @@ impl<'a> Printer<'a> {
         self.put_constant_uses(plan);
         self.put_field_lines(plan);
         self.put_condition(plan);
-        self.put_str(if are_many(&plan.order) { UNTOLD } else { "" });
         self.put(function, at);
         for entry in entries {
             if entry.group > 0 {

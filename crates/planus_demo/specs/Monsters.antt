@@ -8,7 +8,7 @@ use Rattle.planus_write.specs.declared.union_offset.UnionOffset.{UnionOffset}
 use Rattle.planus_write.specs.declared.union_vector_offset.UnionVectorOffset.{UnionVectorOffset}
 use Rattle.planus_write.specs.Contents.{Content}
 use Rattle.planus.specs.Contents.{tag_content, tags_content, value_content, values_content}
-use Rattle.planus.specs.Preparing.{WritesFields}
+use Rattle.planus.specs.Preparing.{WritesFields, next_turn}
 use Rattle.planus.specs.TableFields.{field_in, list_tags_in, list_values_in, union_tag_in}
 use Rattle.planus.specs.TableFields.{union_value_in}
 
@@ -19,12 +19,12 @@ abbrev pub WritesMonster : {H N I W K T : Type 0} → Outcome (Option H) → (H 
     → Outcome (Offset T)
 WritesMonster {H} {N} {I} {W} {K} {T} prepare_hp hp_field prepare_name name_field
     prepare_inventory inventory_field prepare_weapons weapons_field prepare_equipped prepare_loot =
-    then_does (then_does prepare_hp
-    (λ hp. then_does (AlwaysWritten prepare_name)
-    (λ name. then_does prepare_inventory
-    (λ inventory. then_does prepare_weapons
-    (λ weapons. then_does prepare_equipped
-    (λ equipped. then_does prepare_loot
+    then_does (next_turn prepare_hp
+    (λ hp. next_turn (AlwaysWritten prepare_name)
+    (λ name. next_turn prepare_inventory
+    (λ inventory. next_turn prepare_weapons
+    (λ weapons. next_turn prepare_equipped
+    (λ equipped. next_turn prepare_loot
     (λ loot. Answers (field_in 1 name_field name ∷ field_in 2 inventory_field inventory
     ∷ field_in 3 weapons_field weapons ∷ union_value_in 5 equipped ∷ list_tags_in 6 loot
     ∷ list_values_in 7 loot ∷ field_in 0 hp_field hp ∷ union_tag_in 4 equipped ∷ []))))))))

@@ -7,7 +7,7 @@ use Rattle.std.proofs.lemmas.List.{length-take-le, take_all}
 use Rattle.std.proofs.lemmas.Bool.Decides.{nat_tests}
 use Rattle.planus_script.specs.Script.{script_of}
 use Rattle.planus_script.specs.Printed.{Printed, PrintedOrOutOfMemory, IsScript, PrintsRead, line_of}
-use Rattle.planus_script.specs.Runner.{WritesPrinted}
+use Rattle.planus_script.specs.Runner.{WritesPrinted, WritesBeginning, BeginsPrinted}
 
 printed_whole : (bytes : List ℕ) (clean : Bool) (printed : List ℕ) (long : Bool) → nat_lt 1048576 (length bytes) ≡ long → Printed (take 1048577 bytes) clean printed → Printed bytes clean printed
 printed_whole bytes clean printed true e h =
@@ -38,3 +38,8 @@ pub writes_printed : (known before after : Option (List ℕ)) (input printed : L
     → Appends before after printed → IfSome known (λ bytes. WritesPrinted bytes clean before after)
 writes_printed None before after input printed clean e h a = tt
 writes_printed (Some bytes) before after input printed clean e h a = (printed, printed_or bytes clean printed (subst (λ xs. PrintedOrOutOfMemory xs clean printed) e h), a)
+
+pub begins_printed : (known before after : Option (List ℕ)) (input printed : List ℕ) (clean : Bool) → IfSome known (λ bytes. input ≡ take 1048577 bytes) → PrintedOrOutOfMemory input clean printed
+    → WritesBeginning printed before after → IfSome known (λ bytes. BeginsPrinted bytes before after)
+begins_printed None before after input printed clean e h a = tt
+begins_printed (Some bytes) before after input printed clean e h a = (clean, printed, printed_or bytes clean printed (subst (λ xs. PrintedOrOutOfMemory xs clean printed) e h), a)

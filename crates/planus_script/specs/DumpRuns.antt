@@ -14,6 +14,7 @@ use Rattle.planus_dump.specs.declared.dumps.DumpError.{DumpError}
 use Rattle.planus_dump.specs.declared.dumps.DumpError.TheVariants.{OutOfMemory, BadSchema}
 use Rattle.planus_dump.specs.declared.dumps.DumpError.TheVariants.{TooDeep, TooManyLines}
 use Rattle.planus_script.specs.Printed.{greatest_script, line_of}
+use Rattle.planus_script.specs.Runner.{WritesBeginning}
 use Rattle.planus_script.specs.Script.{byte_of, onto_bytes}
 
 -- the greatest number of lines
@@ -75,3 +76,8 @@ PrintsDump schema input clean printed =
 abbrev pub WritesDump : Schema → List ℕ → Bool → Option (List ℕ) → Option (List ℕ) → Type 0
 WritesDump schema input clean before after =
     (printed : List ℕ) × PrintsDump schema input clean printed × Appends before after printed
+
+-- a beginning of what is printed for the input was written, and nothing else
+abbrev pub BeginsDump : Schema → List ℕ → Option (List ℕ) → Option (List ℕ) → Type 0
+BeginsDump schema input before after = (clean : Bool) × (printed : List ℕ)
+    × PrintsDump schema input clean printed × WritesBeginning printed before after

@@ -1,5 +1,5 @@
 -- The effects of a run.
-use Rattle.std.specs.Prelude.{ℕ, ◌+◌, ◌<◌, ◌≤◌, List, length, Bool, true, false, Option}
+use Rattle.std.specs.Prelude.{◌≡◌, ℕ, ◌+◌, ◌<◌, ◌≤◌, List, ◌++◌, length, Bool, true, false, Option}
 use Rattle.std.specs.Prelude.{Result, Ok, Err, ⊤}
 use Rattle.std.specs.Io.KnownBytes.{Appends, Consumes, Keeps}
 use Rattle.planus_script.specs.Printed.{greatest_script, PrintedOrOutOfMemory}
@@ -10,6 +10,16 @@ use Rattle.planus_script.specs.declared.run.RunError.TheVariants.{OutOfMemory, R
 abbrev pub WritesPrinted : List ℕ → Bool → Option (List ℕ) → Option (List ℕ) → Type 0
 WritesPrinted input clean before after = (printed : List ℕ)
     × PrintedOrOutOfMemory input clean printed × Appends before after printed
+
+-- a beginning of these bytes was written, and nothing else
+abbrev pub WritesBeginning : List ℕ → Option (List ℕ) → Option (List ℕ) → Type 0
+WritesBeginning bytes before after = (written : List ℕ) × (rest : List ℕ)
+    × (bytes ≡ written ++ rest) × Appends before after written
+
+-- a beginning of what is printed for the input was written, and nothing else
+abbrev pub BeginsPrinted : List ℕ → Option (List ℕ) → Option (List ℕ) → Type 0
+BeginsPrinted input before after = (clean : Bool) × (printed : List ℕ)
+    × PrintedOrOutOfMemory input clean printed × WritesBeginning printed before after
 
 -- nothing was written, unless writing failed
 abbrev pub LeavesUnwritten : RunError → Option (List ℕ) → Option (List ℕ) → Type 0

@@ -7,6 +7,7 @@ ghost use Rattle.planus_script.specs.inner.Outputs.{is_clean, printed_text};
 ghost use Rattle.planus_script.specs.Runner.{LeavesUnwritten};
 ghost use Rattle.planus_script.specs.DumpRuns.{spaced_bytes, line_bytes, input_bytes, vec_bytes};
 ghost use Rattle.planus_script.specs.DumpRuns.{IsFault, PrintsAnswer, PrintsDump, WritesDump};
+ghost use Rattle.planus_script.specs.DumpRuns.{BeginsDump};
 
 use crate::output::Output;
 use crate::run::{GREATEST_SCRIPT, RunError, read_script, write_out};
@@ -128,6 +129,9 @@ pub fn run_dump<R: Read, W: Write>(
         WritesDump schema.now input clean (W.contents writer.old) (W.contents writer.new))) }
     ensures unwritten { IfErr result
         (λ error. LeavesUnwritten error (W.contents writer.old) (W.contents writer.new)) }
+    ensures begun { IfErr result (λ error. error ≡ RunError.Write
+        → IfSome (R.remaining reader.old) (λ input.
+        BeginsDump schema.now input (W.contents writer.old) (W.contents writer.new))) }
 {
     let input = read_script(alloc, reader)?;
     let output = output_of_dump(alloc, schema, input.as_slice())?;

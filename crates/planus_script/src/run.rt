@@ -1,11 +1,12 @@
 //! From a reader to a writer.
-ghost use Rattle.std.specs.Prelude.{◌≡◌, ◌+◌, ◌<◌, take, length, IfOk, IfErr, IfSome};
+ghost use Rattle.std.specs.Prelude.{◌≡◌, ◌+◌, ◌<◌, ◌≤◌, take, length, IfOk, IfErr, IfSome};
 ghost use Rattle.std.specs.Prelude.{OnOk, OnErr};
 ghost use Rattle.std.specs.Io.{ReadsAtMost};
-ghost use Rattle.std.specs.Io.KnownBytes.{Appends, Consumes, IsAtEnd, Keeps};
+ghost use Rattle.std.specs.Io.KnownBytes.{Appends, Consumes, IsAtEnd, Keeps, WriteAppends};
 ghost use Rattle.planus_script.specs.Printed.{greatest_script, PrintedOrOutOfMemory};
 ghost use Rattle.planus_script.specs.inner.Outputs.{is_clean, printed_text};
 ghost use Rattle.planus_script.specs.Runner.{WritesPrinted, LeavesUnwritten, StopsReading};
+ghost use Rattle.planus_script.specs.Runner.{WritesBeginning, BeginsPrinted};
 ghost use Rattle.planus_script.specs.Runner.{status_of};
 
 use crate::output::Output;
@@ -29,7 +30,7 @@ pub enum RunError {
     OutOfMemory,
     /// Reading failed. Nothing was written.
     Read,
-    /// Writing failed.
+    /// Writing failed. What was written is a beginning of what is to be.
     Write,
 }
 
@@ -129,15 +130,49 @@ fn output_of(alloc: Global, input: &[u8]) -> std::result::Result<Output, AllocEr
     }
 }
 
-/// Writes all bytes, and flushes the writer.
+/// Writes some of the bytes, and returns how many: 0 where the write was interrupted.
+fn write_some<W: Write>(writer: &mut W, bytes: &[u8]) -> std::result::Result<usize, RunError>
+    ensures bound { IfOk result (λ count. count ≤ length bytes.now) }
+    ensures bytes { WriteAppends (W.contents writer.old) (W.contents writer.new) result bytes.now }
+    ensures error { IfErr result (λ error. error ≡ RunError.Write) }
+{
+    match writer.write(bytes) {
+        Ok(0) => Err(RunError::Write),
+        Ok(count) => Ok(count),
+        Err(error) if error.kind() == ErrorKind::Interrupted => Ok(0),
+        Err(_) => Err(RunError::Write),
+    }
+}
+
+/// Writes all bytes. There are up to 2^64 - 1 writes, with those that are interrupted.
+fn write_whole<W: Write>(writer: &mut W, bytes: &[u8]) -> std::result::Result<(), RunError>
+    ensures bytes { OnOk result (Appends (W.contents writer.old)
+        (W.contents writer.new) bytes.now) }
+    ensures begun { OnErr result (WritesBeginning bytes.now (W.contents writer.old)
+        (W.contents writer.new)) }
+    ensures error { IfErr result (λ error. error ≡ RunError.Write) }
+{
+    let mut rest = bytes;
+    'writes: for _ in 0..u64::MAX {
+        if rest.is_empty() {
+            return Ok(());
+        }
+        let count = write_some(writer, rest)?;
+        rest = rest.split_at(count).1;
+    }
+    Err(RunError::Write)
+}
+
+/// Writes all bytes, and flushes the writer. If this fails, what was written is a beginning of
+/// them.
 pub fn write_out<W: Write>(writer: &mut W, bytes: &[u8]) -> std::result::Result<(), RunError>
     ensures bytes { OnOk result (Appends (W.contents writer.old)
         (W.contents writer.new) bytes.now) }
+    ensures begun { OnErr result (WritesBeginning bytes.now (W.contents writer.old)
+        (W.contents writer.new)) }
     ensures error { IfErr result (λ error. error ≡ RunError.Write) }
 {
-    if writer.write_all(bytes).is_err() {
-        return Err(RunError::Write);
-    }
+    write_whole(writer, bytes)?;
     match writer.flush() {
         Ok(()) => Ok(()),
         Err(_) => Err(RunError::Write),
@@ -155,6 +190,9 @@ pub fn run<R: Read, W: Write>(
         (λ input. WritesPrinted input clean (W.contents writer.old) (W.contents writer.new))) }
     ensures unwritten { IfErr result
         (λ error. LeavesUnwritten error (W.contents writer.old) (W.contents writer.new)) }
+    ensures begun { IfErr result (λ error. error ≡ RunError.Write
+        → IfSome (R.remaining reader.old)
+        (λ input. BeginsPrinted input (W.contents writer.old) (W.contents writer.new))) }
 {
     let input = read_script(alloc, reader)?;
     let output = output_of(alloc, input.as_slice())?;

@@ -7,8 +7,7 @@ use Rattle.std.proofs.lemmas.List.{append-nil}
 use Rattle.planus_read.specs.Values.{Field}
 use Rattle.planus_fields.specs.Contents.{PreparesOptional}
 use Rattle.planus_fields.specs.Fields.{reach_if}
-use Rattle.planus_write.specs.Contents.{Content, Comes}
-use Rattle.planus_write.specs.History.{History}
+use Rattle.planus_write.specs.Contents.{Content}
 use Rattle.planus_write.specs.Placing.{Outcome}
 use Rattle.planus_write.specs.Preparing.{IsLawful}
 use Rattle.planus_write.specs.State.{State, IsHistoryOf, Grows}

@@ -19,14 +19,11 @@ pub type Built<K> = Result<Offset<K>, BuildError>;
 ///
 /// The ghost member `lines` has a line for each field, in the order in which they are written: its
 /// kind and slot, and what was given. `may` is the precondition: what the fields refer to is in the
-/// builder. `is_told` is false of tables with so many fields that the checker can't compare what was
-/// written with their lines; of these no clause says when `create` fails.
+/// builder.
 pub trait Create<F>: TableKind {
     ghost lines: { F → List FieldLine };
 
     ghost may: { F → State → Type 0 } = { λ fields builder. ⊤ };
-
-    ghost is_told: { F → Type 0 } = { λ fields. ⊤ };
 
     /// Writes a table with these fields, and what they hold that isn't written yet, in the order of
     /// the lines. A field that equals its default is left out.
@@ -36,8 +33,7 @@ pub trait Create<F>: TableKind {
     /// was written before it stays.
     fn create(builder: &mut Builder, fields: F) -> Built<Self>
         requires may { may fields builder.old }
-        ensures written { is_told fields
-            → CreatesTable (lines fields) builder.old result builder.new }
+        ensures written { CreatesTable (lines fields) builder.old result builder.new }
         ensures kept { IfOk result (λ offset.
             WritesContents (contents_of (lines fields)) builder.old offset.distance builder.new) }
         ensures reached { IfOk result (λ offset. offset.distance ≤ length builder.new.bytes) }
@@ -57,7 +53,7 @@ pub trait Create<F>: TableKind {
         requires may { may fields builder.old }
         ensures read { IfOk result (λ read. IsOkAnd read (λ view.
             ReadsBack builder.old (lines fields) (V.table view))) }
-        ensures error { is_told fields → IfErr result (λ error. (new : State)
+        ensures error { IfErr result (λ error. (new : State)
             × CreatesRoot Self (lines fields) builder.old (Err error) new) }
     {
         builder.has_a_history();

@@ -8,7 +8,7 @@ ghost use Rattle.planus_write.specs.Tables.{Declared};
 ghost use Rattle.planus_write.specs.Contents.{Content};
 ghost use Rattle.planus.specs.Contents.{WritesRest, value_content};
 ghost use Rattle.planus.specs.Contents.{tag_content, tags_content, values_content};
-ghost use Rattle.planus.specs.Preparing.{WritesFields};
+ghost use Rattle.planus.specs.Preparing.{WritesFields, next_turn};
 ghost use Rattle.planus.specs.TableFields.{all_of, field_in, union_value_in};
 ghost use Rattle.planus.specs.TableFields.{union_tag_in, list_tags_in, list_values_in};
 ghost use Rattle.planus.specs.TableRules.{can_hold};
@@ -160,7 +160,7 @@ impl<const SLOT: usize, P: Primitive, V: WriteAsOptional<P>> Fields for FieldAt<
     ghost last_contents = { λ field. [] };
 
     ghost in_turn = { λ field others ts ls.
-        then_does (V.outcome field.value) (λ value. others
+        next_turn (V.outcome field.value) (λ value. others
         (ts ++ field_in SLOT V.Prepared.field value ∷ []) ls) };
 
     ghost may = { λ field old. V.may field.value old };
@@ -199,7 +199,7 @@ impl<const SLOT: usize, P: Primitive, V: WriteAsOptional<P>> Fields for Trailing
         (SLOT, V.content field.value) ∷ [] };
 
     ghost in_turn = { λ field others ts ls.
-        then_does (V.outcome field.value) (λ value. others
+        next_turn (V.outcome field.value) (λ value. others
         ts (ls ++ field_in SLOT V.Prepared.field value ∷ [])) };
 
     ghost may = { λ field old. V.may field.value old };
@@ -240,7 +240,7 @@ impl<const TAG: usize, const VALUE: usize, U, V: WriteAsOptionalUnion<U>> Fields
         (TAG, tag_content (V.content field.value)) ∷ [] };
 
     ghost in_turn = { λ field others ts ls.
-        then_does (V.outcome field.value) (λ union. others
+        next_turn (V.outcome field.value) (λ union. others
         (ts ++ union_value_in VALUE union ∷ []) (ls ++ union_tag_in TAG union ∷ [])) };
 
     ghost may = { λ field old. V.may field.value old };
@@ -293,7 +293,7 @@ impl<const TAGS: usize, const VALUES: usize, U, V: WriteAsOptionalUnionVector<U>
     ghost last_contents = { λ field. [] };
 
     ghost in_turn = { λ field others ts ls.
-        then_does (V.outcome field.value) (λ vector. others
+        next_turn (V.outcome field.value) (λ vector. others
         ((ts ++ list_tags_in TAGS vector ∷ []) ++ list_values_in VALUES vector ∷ []) ls) };
 
     ghost may = { λ field old. V.may field.value old };

@@ -3,12 +3,13 @@ use Rattle.std.proofs.lemmas.List.{append-nil}
 use Rattle.std.proofs.lemmas.Result.{err_from_is_err_and}
 use Rattle.planus_write.specs.lemmas.Laws.{grows_on}
 use Rattle.planus.specs.lemmas.ContentLaws.{only_field}
-use Rattle.planus.specs.Preparing.{WritesFields}
+use Rattle.planus.specs.Preparing.{WritesFields, next_turn}
 use Rattle.planus.specs.TableFields.{field_in}
 use Rattle.planus.proofs.FieldSteps.{if_ok, goes_on, one_more, more_kept}
 use Rattle.planus.proofs.tables.fields.FieldAtFields.write.Goals as goal
 
 pub returns-clause-written : goal.returns-clause-written
+unfolding next_turn
 returns-clause-written g c =
     λ ts ls same same_last. goes_on (g.V.WriteAsOptional.outcome c.args.self.now.value)
     (λ value. g.R.Rest.in_turn c.args.others.now
@@ -65,6 +66,7 @@ pub write-requires-clause-rules : goal.write-requires-clause-rules
 write-requires-clause-rules g c = simp append_assoc (simp append_assoc at c.requires.rules)
 
 pub returns-in_err-value-clause-written : goal.returns-in_err-value-clause-written
+unfolding next_turn
 returns-in_err-value-clause-written g c =
     let p = err_from_is_err_and c.from_residual.result c.from_residual.ensures.1 in
     rw (p.1, p.2) (λ ts ls same same_last. inl (inl c.in_err-value.ensures))

@@ -7,13 +7,14 @@ use Rattle.planus_write.specs.Unions.{union_reach}
 use Rattle.planus_fields.specs.Contents.{HoldsIf}
 use Rattle.planus.specs.Contents.{tag_content, value_content}
 use Rattle.planus.specs.lemmas.ContentLaws.{only_field}
-use Rattle.planus.specs.Preparing.{WritesFields}
+use Rattle.planus.specs.Preparing.{WritesFields, next_turn}
 use Rattle.planus.specs.TableFields.{field_in, union_tag_in, union_value_in}
 use Rattle.planus.specs.lemmas.UnionContentLaws.{union_tag_holds, union_value_holds}
 use Rattle.planus.proofs.FieldSteps.{if_ok, goes_on, made_of, one_more, more_kept}
 use Rattle.planus.proofs.tables.fields.UnionAtFields.write.Goals as goal
 
 pub returns-clause-written : goal.returns-clause-written
+unfolding next_turn
 returns-clause-written g c =
     let union = c.in_ok-union.union in
     λ ts ls same same_last. goes_on (g.V.WriteAsOptionalUnion.outcome c.args.self.now.value)
@@ -95,6 +96,7 @@ pub write-requires-clause-rules : goal.write-requires-clause-rules
 write-requires-clause-rules g c = simp append_assoc (simp append_assoc at c.requires.rules)
 
 pub returns-in_err-union-clause-written : goal.returns-in_err-union-clause-written
+unfolding next_turn
 returns-in_err-union-clause-written g c =
     let p = err_from_is_err_and c.from_residual.result c.from_residual.ensures.1 in
     rw (p.1, p.2) (λ ts ls same same_last. inl (inl c.in_err-union.ensures))

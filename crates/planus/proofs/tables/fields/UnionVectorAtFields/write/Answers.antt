@@ -6,13 +6,14 @@ use Rattle.planus_write.specs.lemmas.Laws.{grows_on, extends_itself}
 use Rattle.planus_fields.specs.Contents.{HoldsIf}
 use Rattle.planus.specs.Contents.{tags_content, values_content}
 use Rattle.planus.specs.lemmas.ContentLaws.{only_field, contents_both}
-use Rattle.planus.specs.Preparing.{WritesFields}
+use Rattle.planus.specs.Preparing.{WritesFields, next_turn}
 use Rattle.planus.specs.TableFields.{field_in, list_tags_in, list_values_in}
 use Rattle.planus.specs.lemmas.UnionContentLaws.{list_tags_hold, list_values_hold}
 use Rattle.planus.proofs.FieldSteps.{if_ok, goes_on, made_of, one_more, more_kept}
 use Rattle.planus.proofs.tables.fields.UnionVectorAtFields.write.Goals as goal
 
 pub returns-clause-written : goal.returns-clause-written
+unfolding next_turn
 returns-clause-written g c =
     let vector = c.in_ok-vector.vector in
     let before = g.B.PreparedFields.there c.args.before.now in
@@ -106,6 +107,7 @@ pub write-requires-clause-rules : goal.write-requires-clause-rules
 write-requires-clause-rules g c = simp append_assoc (simp append_assoc at c.requires.rules)
 
 pub returns-in_err-vector-clause-written : goal.returns-in_err-vector-clause-written
+unfolding next_turn
 returns-in_err-vector-clause-written g c =
     let p = err_from_is_err_and c.from_residual.result c.from_residual.ensures.1 in
     rw (p.1, p.2) (λ ts ls same same_last. inl (inl c.in_err-vector.ensures))

@@ -1,0 +1,7 @@
+use Rattle.planus_script.proofs.Begun.{Leaves}
+use Rattle.planus_script.proofs.run.write_whole.Given as goal
+
+abbrev pub invariant-writes : goal.invariant-writes
+invariant-writes g l = record {
+  begun : Leaves l.fn.bytes l.rest (g.W.Write.contents l.fn.writer) (g.W.Write.contents l.writer);
+}
