@@ -3,6 +3,7 @@ use Rattle.std.specs.Prelude.{◌≡◌, ℕ, Bool, true, false, ◌&&◌, not, 
 use Rattle.std.specs.Prelude.{position, take, drop, length, Option, Some, None}
 use Rattle.std.specs.Str.{bytes_eq}
 use Rattle.std.specs.Io.KnownBytes.{Appends, Keeps}
+use Rattle.planus_commands.specs.Shown.{shown}
 use Rattle.planus_layout.specs.declared.schema.Body.{Body}
 use Rattle.planus_layout.specs.declared.schema.Body.TheVariants as body
 use Rattle.planus_layout.specs.declared.schema.Declared.{Declared}
@@ -23,7 +24,7 @@ root_of schema (Some name) = position (is_table_named name) schema.declarations.
 root_of schema None = schema.statements.root
 
 abbrev pub no_root_text : Option (List ℕ) → List ℕ
-no_root_text (Some name) = codes "planus: the schema has no table `" ++ (name ++ codes "`\n")
+no_root_text (Some name) = codes "planus: the schema has no table `" ++ (shown name ++ codes "`\n")
 no_root_text None = codes "planus: the schema has no root; see --root\n"
 
 -- bytes 4 to 7 of a buffer are its identifier
@@ -36,8 +37,8 @@ has_identifier_of None bytes = true
 has_identifier_of (Some identifier) bytes = has_identifier identifier bytes
 
 abbrev pub other_identifier_text : List ℕ → List ℕ → List ℕ
-other_identifier_text name identifier = codes "planus: " ++ (name
-    ++ (codes " doesn't have the identifier `" ++ (identifier ++ codes "`\n")))
+other_identifier_text name identifier = codes "planus: " ++ (shown name
+    ++ (codes " doesn't have the identifier `" ++ (shown identifier ++ codes "`\n")))
 
 -- no message for a buffer with the schema's identifier
 abbrev pub SaysOther : Option (List ℕ) → List ℕ → Bool → Option (List ℕ) → Option (List ℕ) → Type 0

@@ -1,5 +1,6 @@
 pub mod Arguments
 pub mod Said
+pub mod Shown
 pub mod Reports
 pub mod Outcomes
 pub mod Problems

@@ -23,6 +23,7 @@ use Rattle.planus_syntax.specs.Lexing.{lex_of}
 use Rattle.planus_syntax.specs.Placing.{StandsAt}
 use Rattle.planus_syntax.specs.Values.{AreWhole, schema_of}
 use Rattle.planus_commands.specs.declared.outcome.Printed.TheVariants.{Text, Report}
+use Rattle.planus_commands.specs.Shown.{shown}
 use Rattle.planus_commands.specs.Reports.{report_text, lex_message, parse_message}
 
 abbrev pub ReportsError : List ℕ → List ℕ → SchemaError → List ℕ → Type 0
@@ -91,8 +92,16 @@ abbrev pub SaysComments : List ℕ → List ℕ → Bool → Type 0
 SaysComments text out comments = (parts : List Part) → AreParts parts → text ≡ spelled parts
     → out ≡ printed (tokens_in parts) → comments ≡ has_comment parts
 
+-- a message about a file or a word of the call
 abbrev pub line_of : List ℕ → List ℕ → List ℕ → List ℕ
-line_of before name after = codes "planus: " ++ (before ++ (name ++ (after ++ codes "\n")))
+line_of before name after = codes "planus: " ++ (before ++ (shown name ++ (after ++ codes "\n")))
+
+-- why a call fails
+abbrev pub reason_of : RunError → List ℕ
+reason_of OutOfMemory = codes "planus: out of memory\n"
+reason_of Read = codes "planus: a word of the call is no text\n"
+reason_of Write = codes "planus: can't write\n"
+reason_of BadSchema = codes "planus: the schema isn't sound\n"
 
 -- Memory was refused before anything was written, or writing failed.
 abbrev pub FailsPrinting : RunError → Option (List ℕ) → Option (List ℕ)

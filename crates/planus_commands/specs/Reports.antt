@@ -1,8 +1,10 @@
 -- The report of a fault: place, message, line, mark.
-use Rattle.std.specs.Prelude.{ℕ, ◌+◌, ◌==◌, Bool, List, [], ◌∷◌, ◌++◌, length, map, take, drop}
-use Rattle.std.specs.Prelude.{count_by, codes, if◌then◌else◌}
-use Rattle.std.specs.List.{position_or_len}
+use Rattle.std.specs.Prelude.{ℕ, ◌+◌, ◌-◌, ◌==◌, ◌||◌, nat_lt, Bool, List, [], ◌∷◌, ◌++◌, length}
+use Rattle.std.specs.Prelude.{take, drop, count_by, codes, if◌then◌else◌}
+use Rattle.std.specs.Int.{is_in_range}
+use Rattle.std.specs.List.{flat_map, position_or_len}
 use Rattle.std.specs.Fmt.{decimal}
+use Rattle.planus_commands.specs.Shown.{shown}
 use Rattle.planus_syntax.specs.declared.lexer.LexFault.{LexFault}
 use Rattle.planus_syntax.specs.declared.lexer.LexFault.TheVariants as lex
 use Rattle.planus_syntax.specs.declared.parse_fault.ParseFault.{ParseFault}
@@ -19,12 +21,30 @@ after_last_feed front (b ∷ bs) = after_last_feed (if is_feed b then bs else fr
 abbrev pub last_line : List ℕ → List ℕ
 last_line bytes = after_last_feed bytes bytes
 
-abbrev pub first_line : List ℕ → List ℕ
-first_line bytes = take (position_or_len is_feed bytes) bytes
+-- a line feed, or a carriage return
+abbrev pub ends_line : ℕ → Bool
+ends_line b = b == 10 || b == 13
 
--- a tab below a tab, else a space
-abbrev pub below : ℕ → ℕ
-below b = if b == 9 then 9 else 32
+abbrev pub first_line : List ℕ → List ℕ
+first_line bytes = take (position_or_len ends_line bytes) bytes
+
+-- how many bytes of a line are shown on either side of a place
+abbrev pub most_beside : ℕ
+most_beside = 80
+
+-- the end of what is before a place, after dots if that is cut
+abbrev pub front_shown : List ℕ → List ℕ
+front_shown front = if nat_lt most_beside (length front)
+    then codes "..." ++ shown (drop (length front - most_beside) front) else shown front
+
+-- the start of what is after a place, before dots if that is cut
+abbrev pub rest_shown : List ℕ → List ℕ
+rest_shown rest = if nat_lt most_beside (length rest)
+    then shown (take most_beside rest) ++ codes "..." else shown rest
+
+-- a tab below a tab, else a space below each character, whose first byte is no 128 to 191
+abbrev pub below : ℕ → List ℕ
+below b = if b == 9 then 9 ∷ [] else (if is_in_range 128 191 b then [] else 32 ∷ [])
 
 -- the line and the column in bytes, from 1
 abbrev pub place_text : List ℕ → List ℕ → List ℕ
@@ -34,13 +54,13 @@ place_text name before =
 
 -- a line, and a mark below the end of its front
 abbrev pub marked_text : List ℕ → List ℕ → List ℕ
-marked_text front rest =
-    front ++ (first_line rest ++ (codes "\n" ++ (map below front ++ codes "^\n")))
+marked_text front rest = front_shown front ++ (rest_shown (first_line rest)
+    ++ (codes "\n" ++ (flat_map below (front_shown front) ++ codes "^\n")))
 
 -- the report of a fault at the byte with this index
 abbrev pub report_text : List ℕ → List ℕ → ℕ → List ℕ → List ℕ
 report_text name text at message =
-    place_text name (take at text) ++ (message ++ (codes "\n"
+    shown (place_text name (take at text)) ++ (shown message ++ (codes "\n"
     ++ marked_text (last_line (take at text)) (drop at text)))
 
 abbrev pub lex_message : LexFault → List ℕ

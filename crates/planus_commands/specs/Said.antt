@@ -1,7 +1,6 @@
 -- What is written of a call that names no schema.
 use Rattle.std.specs.Prelude.{◌≡◌, ℕ, ⊤, Bool, true, false, ◌==◌, List, [], ◌∷◌, ◌++◌, codes}
 use Rattle.std.specs.Prelude.{Option, Some, None, if◌then◌else◌}
-use Rattle.std.specs.String.{string_bytes}
 use Rattle.std.specs.Io.KnownBytes.{Appends, Keeps}
 use Rattle.planus_commands.specs.declared.arguments.Command.{Command}
 use Rattle.planus_commands.specs.declared.arguments.Command.TheVariants.{Check, Format, View}
@@ -9,6 +8,7 @@ use Rattle.planus_commands.specs.declared.arguments.Command.TheVariants.{Rattle 
 use Rattle.planus_commands.specs.declared.arguments.Choice.{Choice}
 use Rattle.planus_commands.specs.declared.arguments.Choice.TheVariants.{Root, Lines, Bytes, Output}
 use Rattle.planus_commands.specs.declared.said.Said.{Said}
+use Rattle.planus_commands.specs.Shown.{shown}
 use Rattle.planus_commands.specs.Arguments.{Asked, help, help_of as help_asked, version, run}
 use Rattle.planus_commands.specs.Arguments.{no_command, unknown_command, unknown_option}
 use Rattle.planus_commands.specs.Arguments.{no_value, no_schema, no_buffer, no_number}
@@ -19,7 +19,7 @@ pub record SaidV : Type 0 where
   pub text : List ℕ
 
 abbrev pub said_view : Said → SaidV
-said_view said = record { wrong = said.wrong; text = string_bytes said.text }
+said_view said = record { wrong = said.wrong; text = said.text.items }
 
 -- the first letter of a word, after dashes
 abbrev pub first_letter : List ℕ → Option ℕ
@@ -98,13 +98,13 @@ said_of version = on_output version_text
 said_of (run command words) = None
 said_of no_command = on_errors help_text
 said_of (unknown_command w) = on_errors (codes "planus: unknown command `"
-    ++ (w ++ (codes "`; " ++ (command_hint (first_letter w) ++ codes "\n"))))
+    ++ (shown w ++ (codes "`; " ++ (command_hint (first_letter w) ++ codes "\n"))))
 said_of (unknown_option command w) = on_errors (codes "planus: unknown option `"
-    ++ (w ++ (codes "`; " ++ (option_hint command (first_letter w) ++ codes "\n"))))
+    ++ (shown w ++ (codes "`; " ++ (option_hint command (first_letter w) ++ codes "\n"))))
 said_of (no_value choice) = on_errors (no_value_text choice)
 said_of no_schema = on_errors (codes "planus: no schema is named; - is standard input\n")
 said_of no_buffer = on_errors (codes "planus: view has a schema and a buffer\n")
-said_of (no_number w) = on_errors (codes "planus: `" ++ (w ++ codes "` is no number\n"))
+said_of (no_number w) = on_errors (codes "planus: `" ++ (shown w ++ codes "` is no number\n"))
 said_of several_schemas = on_errors (codes "planus: rattle has one schema\n")
 said_of no_output = on_errors (codes "planus: no folder is given: -o FOLDER\n")
 

@@ -11,6 +11,7 @@ ghost use Rattle.planus_commands.specs.Viewing.{SplitsSized, EndsEarly};
 
 use crate::arguments::{Words, number_of};
 use crate::said::{CLEAN, FAILED, FAULTY};
+use crate::shown::put_shown;
 use crate::sources::{bytes_of, schema_of};
 use crate::streams::{RunError, say, write_out};
 use crate::viewing::{Limits, view_buffer};
@@ -60,13 +61,13 @@ fn root_of(schema: &Schema, root: Option<&str>) -> Option<usize>
     }
 }
 
-fn say_no_root<X: Write>(root: Option<&str>, errors: &mut X) -> Result<(), RunError>
+fn say_no_root<X: Write>(alloc: Global, root: Option<&str>, errors: &mut X) -> Result<(), RunError>
     ensures { OnOk result (Appends (X.contents errors.old) (X.contents errors.new)
         (no_root_text (option_map (λ name. name.now) root.entry))) }
 {
     match root {
-        Some(name) => say(errors, "the schema has no table `", name, "`"),
-        None => say(errors, "the schema has no root; see --root", "", ""),
+        Some(name) => say(alloc, errors, "the schema has no table `", name, "`"),
+        None => say(alloc, errors, "the schema has no root; see --root", "", ""),
     }
 }
 
@@ -84,9 +85,9 @@ fn other_identifier(alloc: Global, name: &str, identifier: &[u8]) -> Result<Vec<
         ≡ other_identifier_text name.now identifier.now) }
 {
     let mut text = Vec::from_slice(alloc, b"planus: ")?;
-    text.extend_from_slice(name.as_bytes())?;
+    put_shown(&mut text, name.as_bytes())?;
     text.extend_from_slice(b" doesn't have the identifier `")?;
-    text.extend_from_slice(identifier)?;
+    put_shown(&mut text, identifier)?;
     text.extend_from_slice(b"`\n")?;
     Ok(text)
 }
@@ -153,7 +154,7 @@ fn view_sized<W: Write, X: Write>(
     let mut worst = CLEAN;
     while !rest.is_empty() {
         let Some((buffer, after)) = split_sized(rest) else {
-            say(errors, "", view.name, " ends before a buffer does")?;
+            say(alloc, errors, "", view.name, " ends before a buffer does")?;
             return Ok(FAULTY);
         };
         let status = view_one(alloc, view, buffer, writer, errors)?;
@@ -208,7 +209,7 @@ fn view_by<W: Write, X: Write>(
     errors: &mut X,
 ) -> Result<u8, RunError> {
     let Some(root) = root_of(schema, words.root) else {
-        say_no_root(words.root, errors)?;
+        say_no_root(rt.alloc(), words.root, errors)?;
         return Ok(FAILED);
     };
     let Some(bytes) = bytes_of(rt, name, errors)? else {

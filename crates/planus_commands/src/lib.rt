@@ -17,6 +17,7 @@ mod program;
 mod report;
 mod rewrite;
 mod said;
+mod shown;
 mod sources;
 mod streams;
 mod texts;

@@ -86,13 +86,19 @@ fn print_file<X: Write>(
         return Ok(CLEAN);
     }
     if folder.check {
-        say(errors, "", name.as_str(), " isn't what is printed")?;
+        say(
+            rt.alloc(),
+            errors,
+            "",
+            name.as_str(),
+            " isn't what is printed",
+        )?;
         return Ok(FAULTY);
     }
     match put_file(rt, name.as_str(), bytes) {
         Ok(()) => Ok(CLEAN),
         Err(RunError::OutOfMemory) => Err(RunError::OutOfMemory),
-        Err(_) => fail(errors, "can't write ", name.as_str(), ""),
+        Err(_) => fail(rt.alloc(), errors, "can't write ", name.as_str(), ""),
     }
 }
 
@@ -122,7 +128,7 @@ fn say_unsupported<X: Write>(
 ) -> Result<u8, RunError> {
     let name = std::str::from_utf8(name).unwrap_or("");
     let why = format!(in alloc; ": {what} isn't supported by planus rattle")?;
-    say(errors, "", name, why.as_str())?;
+    say(alloc, errors, "", name, why.as_str())?;
     Ok(FAULTY)
 }
 
@@ -150,7 +156,13 @@ pub fn print_code<X: Write>(
     let path = words.output.unwrap_or("").trim_end_matches('/');
     let name = last_word(path);
     if !is_crate_name(name) {
-        return fail(errors, "no crate can have the name `", name, "`");
+        return fail(
+            rt.alloc(),
+            errors,
+            "no crate can have the name `",
+            name,
+            "`",
+        );
     }
     let folder = Folder {
         path,

@@ -11,7 +11,7 @@ use crate::printing::print_code;
 use crate::rewrite::format_file;
 use crate::said::{CLEAN, FAILED, say as say_of};
 use crate::sources::schema_of;
-use crate::streams::{RunError, say};
+use crate::streams::{RunError, reason_of, write_out};
 use std::env;
 use std::io::Write;
 
@@ -115,13 +115,7 @@ pub fn run_program<W: Write, X: Write>(rt: &HostRuntime, writer: &mut W, errors:
     match run(rt, writer, errors) {
         Ok(status) => status,
         Err(error) => {
-            let reason = match error {
-                RunError::OutOfMemory => "out of memory",
-                RunError::Read => "a word of the call is no text",
-                RunError::Write => "can't write",
-                RunError::BadSchema => "the schema isn't sound",
-            };
-            let _said = say(errors, "", reason, "");
+            let _said = write_out(errors, reason_of(error).as_bytes());
             FAILED
         }
     }

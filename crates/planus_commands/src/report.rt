@@ -1,13 +1,18 @@
 //! The report of a fault: its place, its message, its line, a mark.
 
-ghost use Rattle.std.specs.Prelude.{◌≡◌, ◌≤◌, ◌++◌, ◌+◌, ◌<◌, ◌^◌, count_by, length, map, codes};
-ghost use Rattle.std.specs.Prelude.{IfOk, OnOk};
+ghost use Rattle.std.specs.Prelude.{◌≡◌, ◌≤◌, ◌++◌, count_by, length, IfOk, OnOk};
+ghost use Rattle.std.specs.List.{flat_map};
 ghost use Rattle.std.specs.String.{string_bytes};
 ghost use Rattle.planus_commands.specs.Reports.{below as below_lem, first_line as first_line_lem};
 ghost use Rattle.planus_commands.specs.Reports.{marked_text, place_text, is_feed as is_feed_lem};
 ghost use Rattle.planus_commands.specs.Reports.{last_line as last_line_lem, report_text};
+ghost use Rattle.planus_commands.specs.Reports.{ends_line as ends_line_lem, front_shown, rest_shown};
 
+use crate::shown::put_shown;
 use std::alloc::{AllocError, Global};
+
+/// How many bytes of a line are shown on either side of a place.
+const MOST_BESIDE: usize = 80;
 
 fn is_feed(b: u8) -> bool
     ensures { result ≡ is_feed_lem b }
@@ -35,27 +40,63 @@ fn last_line(bytes: &[u8]) -> (usize, &[u8])
     (feeds, front)
 }
 
+fn ends_line(b: u8) -> bool
+    ensures { result ≡ ends_line_lem b }
+{
+    b == b'\n' || b == b'\r'
+}
+
 fn first_line(bytes: &[u8]) -> &[u8]
     ensures { result.now ≡ first_line_lem bytes.now }
 {
     let mut n = 0;
-    'bytes: while n < bytes.len() && !is_feed(bytes[n]) {
+    'bytes: while n < bytes.len() && !ends_line(bytes[n]) {
         n += 1;
     }
     &bytes[..n]
 }
 
-fn below(b: u8) -> u8
-    ensures { result ≡ below_lem b }
+fn put_front(out: &mut Vec<u8>, front: &[u8]) -> Result<(), AllocError>
+    ensures { OnOk result (out.new.items ≡ out.old.items ++ front_shown front.now) }
 {
-    if b == b'\t' { b'\t' } else { b' ' }
+    if front.len() > MOST_BESIDE {
+        out.extend_from_slice(b"...")?;
+        let (_, beside) = front.split_at(front.len() - MOST_BESIDE);
+        put_shown(out, beside)
+    } else {
+        put_shown(out, front)
+    }
+}
+
+fn put_rest(out: &mut Vec<u8>, rest: &[u8]) -> Result<(), AllocError>
+    ensures { OnOk result (out.new.items ≡ out.old.items ++ rest_shown rest.now) }
+{
+    if rest.len() > MOST_BESIDE {
+        let (beside, _) = rest.split_at(MOST_BESIDE);
+        put_shown(out, beside)?;
+        out.extend_from_slice(b"...")?;
+        Ok(())
+    } else {
+        put_shown(out, rest)
+    }
+}
+
+fn put_space(out: &mut Vec<u8>, b: u8) -> Result<(), AllocError>
+    ensures { OnOk result (out.new.items ≡ out.old.items ++ below_lem b) }
+{
+    match b {
+        b'\t' => out.push(b'\t')?,
+        128..=191 => {}
+        _ => out.push(b' ')?,
+    }
+    Ok(())
 }
 
 fn put_below(out: &mut Vec<u8>, bytes: &[u8]) -> Result<(), AllocError>
-    ensures { OnOk result (out.new.items ≡ out.old.items ++ map below_lem bytes.now) }
+    ensures { OnOk result (out.new.items ≡ out.old.items ++ flat_map below_lem bytes.now) }
 {
     for b in bytes {
-        out.push(below(*b))?;
+        put_space(out, *b)?;
     }
     Ok(())
 }
@@ -69,15 +110,17 @@ fn head(alloc: Global, name: &str, before: &[u8]) -> Result<String, AllocError>
     format!(in alloc; "{name}:{line}:{column}: ")
 }
 
-fn put_marked(out: &mut Vec<u8>, front: &[u8], rest: &[u8]) -> Result<(), AllocError>
-    ensures { OnOk result (out.new.items ≡ out.old.items ++ marked_text front.now rest.now) }
+fn marked(alloc: Global, front: &[u8], rest: &[u8]) -> Result<Vec<u8>, AllocError>
+    ensures { IfOk result (λ out. out.items ≡ marked_text front.now rest.now) }
 {
-    out.extend_from_slice(front)?;
-    out.extend_from_slice(first_line(rest))?;
+    let mut front_shown = Vec::new(alloc);
+    put_front(&mut front_shown, front)?;
+    let mut out = Vec::from_slice(alloc, &front_shown)?;
+    put_rest(&mut out, first_line(rest))?;
     out.push(b'\n')?;
-    put_below(out, front)?;
+    put_below(&mut out, &front_shown)?;
     out.extend_from_slice(b"^\n")?;
-    Ok(())
+    Ok(out)
 }
 
 /// Returns the report of a fault in this text, at the byte of index `at`.
@@ -94,9 +137,11 @@ pub fn report(
 {
     let (before, rest) = text.split_at(at);
     let head = head(alloc, name, before)?;
-    let mut out = Vec::from_slice(alloc, head.as_bytes())?;
-    out.extend_from_slice(message)?;
+    let marked = marked(alloc, last_line(before).1, rest)?;
+    let mut out = Vec::new(alloc);
+    put_shown(&mut out, head.as_bytes())?;
+    put_shown(&mut out, message)?;
     out.push(b'\n')?;
-    put_marked(&mut out, last_line(before).1, rest)?;
+    out.extend_from_slice(&marked)?;
     Ok(out)
 }

@@ -30,6 +30,7 @@ fn write_back<X: Write>(
 ) -> Result<u8, RunError> {
     if name == "-" {
         return fail(
+            rt.alloc(),
             errors,
             "--write needs a file, and - is standard input",
             "",
@@ -38,6 +39,7 @@ fn write_back<X: Write>(
     }
     if loses_comments {
         return fail(
+            rt.alloc(),
             errors,
             "",
             name,
@@ -46,7 +48,7 @@ fn write_back<X: Write>(
     }
     match replace(rt, name, out) {
         Ok(()) => Ok(CLEAN),
-        Err(_) => fail(errors, "can't write ", name, ""),
+        Err(_) => fail(rt.alloc(), errors, "can't write ", name, ""),
     }
 }
 
@@ -81,7 +83,7 @@ fn print<W: Write, X: Write>(
         Printed::Report => Ok(FAULTY),
         Printed::Text { comments } => {
             if comments && !words.drop_comments {
-                say(errors, "", name, ": its comments are left out")?;
+                say(rt.alloc(), errors, "", name, ": its comments are left out")?;
             }
             Ok(CLEAN)
         }

@@ -9,9 +9,11 @@ ghost use Rattle.planus_commands.specs.Said.{option_hint as option_hint_lem};
 ghost use Rattle.planus_commands.specs.Said.{help_of as help_of_lem, help_text, no_value_text};
 ghost use Rattle.planus_commands.specs.Said.{said_text as said_text_lem};
 ghost use Rattle.planus_commands.specs.Said.{said_of as said_of_lem, said_view, Says};
+ghost use Rattle.planus_commands.specs.Shown.{shown};
 ghost use Rattle.std.specs.Io.KnownBytes.{Appends, Keeps};
 
 use crate::arguments::{Choice, Command, Request};
+use crate::shown::put_shown;
 use crate::streams::{RunError, say as say_line, write_out};
 use std::alloc::{AllocError, Global};
 use std::io::Write;
@@ -97,12 +99,13 @@ pub const FAILED: u8 = 2;
 
 /// Writes a line, as [`say_line`], and returns [`FAILED`].
 pub fn fail<X: Write>(
+    alloc: Global,
     errors: &mut X,
     before: &str,
     name: &str,
     after: &str,
 ) -> Result<u8, RunError> {
-    say_line(errors, before, name, after)?;
+    say_line(alloc, errors, before, name, after)?;
     Ok(FAILED)
 }
 
@@ -110,7 +113,7 @@ pub fn fail<X: Write>(
 #[derive(Drop)]
 pub struct Said {
     pub wrong: bool,
-    pub text: String,
+    pub text: Vec<u8>,
 }
 
 fn first_letter(word: &str) -> Option<u8>
@@ -188,7 +191,7 @@ fn no_value(choice: Choice) -> &'static str
 fn said_text(alloc: Global, wrong: bool, text: &str) -> Result<Option<Said>, AllocError>
     ensures { IfOk result (λ said. option_map said_view said ≡ said_text_lem wrong text.now) }
 {
-    let text = String::from_str(alloc, text)?;
+    let text = Vec::from_slice(alloc, text.as_bytes())?;
     Ok(Some(Said { wrong, text }))
 }
 
@@ -200,10 +203,17 @@ fn about(
     hint: &str,
 ) -> Result<Option<Said>, AllocError>
     ensures { IfOk result (λ said. option_map said_view said ≡ said_text_lem true
-        (codes "planus: " ++ (before.now ++ (codes "`" ++ (word.now ++ (codes "`"
+        (codes "planus: " ++ (before.now ++ (codes "`" ++ (shown word.now ++ (codes "`"
         ++ (after.now ++ (hint.now ++ codes "\n")))))))) }
 {
-    let text = format!(in alloc; "planus: {before}`{word}`{after}{hint}\n")?;
+    let mut text = Vec::from_slice(alloc, b"planus: ")?;
+    text.extend_from_slice(before.as_bytes())?;
+    text.push(b'`')?;
+    put_shown(&mut text, word.as_bytes())?;
+    text.push(b'`')?;
+    text.extend_from_slice(after.as_bytes())?;
+    text.extend_from_slice(hint.as_bytes())?;
+    text.push(b'\n')?;
     Ok(Some(Said { wrong: true, text }))
 }
 
@@ -251,10 +261,10 @@ pub fn say<W: Write, X: Write>(
         None => Ok(None),
         Some(said) => {
             if said.wrong {
-                write_out(errors, said.text.as_bytes())?;
+                write_out(errors, &said.text)?;
                 Ok(Some(FAILED))
             } else {
-                write_out(writer, said.text.as_bytes())?;
+                write_out(writer, &said.text)?;
                 Ok(Some(CLEAN))
             }
         }

@@ -70,12 +70,18 @@ pub fn bytes_of<X: Write>(
     match read_bytes(rt, name) {
         Ok(text) if text.len() <= GREATEST_TEXT => Ok(Some(text)),
         Ok(_) => {
-            say(errors, "", name, " is longer than 16777216 bytes")?;
+            say(
+                rt.alloc(),
+                errors,
+                "",
+                name,
+                " is longer than 16777216 bytes",
+            )?;
             Ok(None)
         }
         Err(RunError::OutOfMemory) => Err(RunError::OutOfMemory),
         Err(_) => {
-            say(errors, "can't read ", name, "")?;
+            say(rt.alloc(), errors, "can't read ", name, "")?;
             Ok(None)
         }
     }

@@ -2,8 +2,9 @@
 
 ghost use Rattle.std.specs.Prelude.{◌≡◌, ◌+◌, take, IfOk, IfErr, IfSome, OnOk};
 ghost use Rattle.std.specs.Io.KnownBytes.{Appends};
-ghost use Rattle.planus_commands.specs.Outcomes.{greatest_text, line_of};
+ghost use Rattle.planus_commands.specs.Outcomes.{greatest_text, line_of, reason_of as reason_lem};
 
+use crate::shown::put_shown;
 use std::alloc::{AllocError, Global};
 use std::io::{ErrorKind, Read, Write};
 
@@ -62,13 +63,41 @@ pub fn write_out<W: Write>(writer: &mut W, bytes: &[u8]) -> Result<(), RunError>
     Ok(())
 }
 
-/// Writes a line: these words after `planus: `.
-pub fn say<X: Write>(errors: &mut X, before: &str, name: &str, after: &str) -> Result<(), RunError>
+fn line(alloc: Global, before: &str, name: &str, after: &str) -> Result<Vec<u8>, AllocError>
+    ensures { IfOk result (λ line. line.items ≡ line_of before.now name.now after.now) }
+{
+    let mut line = Vec::from_slice(alloc, b"planus: ")?;
+    line.extend_from_slice(before.as_bytes())?;
+    put_shown(&mut line, name.as_bytes())?;
+    line.extend_from_slice(after.as_bytes())?;
+    line.push(b'\n')?;
+    Ok(line)
+}
+
+/// Writes a line: these words after `planus: `, the name as a terminal may show it.
+pub fn say<X: Write>(
+    alloc: Global,
+    errors: &mut X,
+    before: &str,
+    name: &str,
+    after: &str,
+) -> Result<(), RunError>
     ensures { OnOk result (Appends (X.contents errors.old) (X.contents errors.new)
         (line_of before.now name.now after.now)) }
 {
-    if write!(errors, "planus: {before}{name}{after}\n").is_err() || errors.flush().is_err() {
-        return Err(RunError::Write);
-    }
+    let line = line(alloc, before, name, after)?;
+    write_out(errors, &line)?;
     Ok(())
+}
+
+/// Returns what is written where a call fails.
+pub fn reason_of(error: RunError) -> &'static str
+    ensures { result.now ≡ reason_lem error }
+{
+    match error {
+        RunError::OutOfMemory => "planus: out of memory\n",
+        RunError::Read => "planus: a word of the call is no text\n",
+        RunError::Write => "planus: can't write\n",
+        RunError::BadSchema => "planus: the schema isn't sound\n",
+    }
 }

@@ -1,11 +1,11 @@
 use Rattle.std.proofs.Common.{◌≡◌, ◌≤◌, ◌+◌, ◌-◌, drop, length}
 use Rattle.std.specs.List.{position_or_len}
-use Rattle.planus_commands.specs.Reports.{is_feed}
+use Rattle.planus_commands.specs.Reports.{ends_line}
 use Rattle.planus_commands.proofs.report.first_line.Given as goal
 
 abbrev pub invariant-bytes : goal.invariant-bytes
 invariant-bytes l = record {
-  end : position_or_len is_feed l.bytes ≡ l.n + position_or_len is_feed (drop l.n l.bytes);
+  end : position_or_len ends_line l.bytes ≡ l.n + position_or_len ends_line (drop l.n l.bytes);
   within : l.n ≤ length l.bytes;
 }
 
