@@ -1,3 +1,4 @@
 pub mod Inked
 pub mod Reported
 pub mod Nearby
+pub mod SpelledFiles

@@ -13,7 +13,7 @@ use Rattle.planus_schema.specs.Faults.{AreInOrder, faults_found}
 use Rattle.planus_commands.specs.declared.streams.RunError.{RunError}
 use Rattle.planus_commands.specs.declared.streams.RunError.TheVariants.{OutOfMemory, Read, Write}
 use Rattle.planus_commands.specs.declared.streams.RunError.TheVariants.{BadSchema}
-use Rattle.planus_commands.specs.Outcomes.{IsPlaceAt}
+use Rattle.planus_commands.specs.Outcomes.{IsPlaceAt, IsSpelled}
 use Rattle.planus_schema.specs.Schemas.{Means, AreFaults}
 use Rattle.planus_schema.specs.Sound.{IsSound}
 use Rattle.planus_schema.specs.declared.fault.Fault.{Fault}
@@ -22,6 +22,13 @@ use Rattle.planus_commands.specs.declared.checking.File.{File}
 use Rattle.planus_commands.specs.Near.{names_of_files}
 use Rattle.planus_commands.specs.Problems.{message_text}
 use Rattle.planus_commands.specs.Reports.{report_text}
+
+-- Each file's text spells the declarations of the same index.
+abbrev pub AreSpelled : List File → List (Vec Declaration) → Type 0
+AreSpelled [] [] = Unit {0}
+AreSpelled [] (d ∷ ds) = ⊥
+AreSpelled (f ∷ fs) [] = ⊥
+AreSpelled (f ∷ fs) (d ∷ ds) = IsSpelled f.text.items d.items × AreSpelled fs ds
 
 -- no letter, digit, `_` or dot
 abbrev pub ends_word : ℕ → Bool

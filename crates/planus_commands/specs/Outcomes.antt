@@ -21,6 +21,8 @@ use Rattle.planus_commands.specs.declared.parsed.Parsed.TheVariants as parsed
 use Rattle.planus_syntax.specs.Tokens.{Piece}
 use Rattle.planus_syntax.specs.Lexing.{lex_of}
 use Rattle.planus_syntax.specs.Placing.{StandsAt}
+use Rattle.planus_syntax.specs.Counting.{AreCounted}
+use Rattle.planus_syntax.specs.declared.value.Declaration.{Declaration}
 use Rattle.planus_syntax.specs.Values.{AreWhole, schema_of}
 use Rattle.planus_commands.specs.declared.outcome.Printed.TheVariants.{Text, Report}
 use Rattle.planus_commands.specs.Shown.{shown}
@@ -43,16 +45,26 @@ abbrev pub Formats : List ℕ → List ℕ → Type 0
 Formats text out =
     (schema : List DeclarationV) × Spells text schema × (out ≡ text_of schema)
 
+-- The text spells these declarations, each `left` of which counts the tokens from its word.
+pub record IsSpelled (text : List ℕ) (declarations : List Declaration) : Type 0 where
+  pub spelled : Spells text (schema_of declarations)
+  pub counted : AreCounted declarations
+
 -- the text's declarations, or the report of its first fault
 abbrev pub IsParsed : List ℕ → List ℕ → Parsed → Type 0
 IsParsed name text (parsed.Declarations ds) =
-    Spells text (schema_of ds.items) × AreWhole (schema_of ds.items)
+    IsSpelled text ds.items × AreWhole (schema_of ds.items)
 IsParsed name text (parsed.Faulty report) = Reports name text report.items
 
--- the byte of the word from which `left` tokens follow to the text's end
-abbrev pub IsPlaceAt : List ℕ → ℕ → ℕ → Type 0
-IsPlaceAt text left at =
-    (ps : List Piece) → lex_of text ≡ Ok ps → StandsAt text ps (length ps - left) at
+-- the text is tokens, blanks and comments
+abbrev pub HasTokens : List ℕ → Type 0
+HasTokens text = (ps : List Piece) × (lex_of text ≡ Ok ps)
+
+-- the byte where the word begins from which the text has `left` tokens to its end
+pub record IsPlaceAt (text : List ℕ) (left at : ℕ) : Type 0 where
+  pub tokens : List Piece
+  pub are : lex_of text ≡ Ok tokens
+  pub stands : StandsAt text tokens (length tokens - left) at
 
 -- the report of this fault at that word
 abbrev pub ReportsAt : List ℕ → List ℕ → ℕ → List ℕ → List ℕ → Type 0

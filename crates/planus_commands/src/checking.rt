@@ -4,7 +4,8 @@ ghost use Rattle.std.specs.Prelude.{◌≡◌, ◌<◌, length, IfOk, IfErr, OnO
 ghost use Rattle.std.specs.List.{All};
 ghost use Rattle.planus_syntax.specs.Values.{names_of};
 ghost use Rattle.planus_commands.specs.Checks.{AreReports, ResolvesFiles, FailsResolving, IsReport};
-ghost use Rattle.planus_commands.specs.Checks.{IsReportAdded};
+ghost use Rattle.planus_commands.specs.Checks.{AreSpelled, IsReportAdded};
+ghost use Rattle.planus_commands.specs.Outcomes.{HasTokens};
 ghost use Rattle.planus_commands.specs.Checks.{ends_word as ends_word_lem};
 ghost use Rattle.planus_commands.specs.Checks.{unquoted as unquoted_lem};
 ghost use Rattle.planus_commands.specs.Checks.{word_of as word_lem};
@@ -56,6 +57,7 @@ fn fault_report(
     file: &File,
     fault: Fault,
 ) -> Result<Vec<u8>, AllocError>
+    requires { HasTokens file.now.text.items }
     ensures { IfOk result (λ out. IsReport (names_of names.now) file.now fault out.items) }
 {
     let at = place_of(alloc, &file.text, fault.left)?;
@@ -71,7 +73,8 @@ fn put_report(
     files: &[File],
     fault: Fault,
 ) -> Result<(), AllocError>
-    requires { fault.file < length files.now }
+    requires within { fault.file < length files.now }
+    requires tokens { All (λ f. HasTokens f.text.items) files.now }
     ensures { OnOk result (IsReportAdded (names_of names.now) files.now fault
         out.old.items out.new.items) }
 {
@@ -86,7 +89,8 @@ fn reports(
     files: &[File],
     faults: &[Fault],
 ) -> Result<Vec<u8>, AllocError>
-    requires { All (λ f. f.file < length files.now) faults.now }
+    requires within { All (λ f. f.file < length files.now) faults.now }
+    requires tokens { All (λ f. HasTokens f.text.items) files.now }
     ensures { IfOk result (λ out. AreReports (names_of names.now) files.now faults.now out.items) }
 {
     let mut out = Vec::new(alloc);
@@ -96,8 +100,8 @@ fn reports(
     Ok(out)
 }
 
-/// Returns what these files mean, or reports their faults. `declarations` are in the order of
-/// `files`.
+/// Returns what these files mean, or reports their faults. `declarations` are those of `files`, in
+/// their order.
 ///
 /// Fails where memory is refused or writing fails.
 pub fn resolve_or_report<X: Write>(
@@ -106,7 +110,7 @@ pub fn resolve_or_report<X: Write>(
     declarations: &[Vec<Declaration>],
     errors: &mut X,
 ) -> Result<Option<Schema>, RunError>
-    requires { length files.now ≡ length declarations.now }
+    requires { AreSpelled files.now declarations.now }
     ensures resolved { IfOk result (λ found. ResolvesFiles files.now declarations.now found
         (X.contents errors.old) (X.contents errors.new)) }
     ensures failed { IfErr result (λ error. FailsResolving declarations.now error

@@ -1,6 +1,8 @@
 //! The files of a schema: each is read once, after its includes.
 
-ghost use Rattle.std.specs.Prelude.{◌≡◌, ◌<◌, length, IfOk, IfSome, OnOk};
+ghost use Rattle.std.specs.Prelude.{◌≡◌, ◌<◌, IfOk, IfSome, OnOk};
+ghost use Rattle.planus_commands.specs.Outcomes.{HasTokens, IsSpelled};
+ghost use Rattle.planus_commands.specs.Checks.{AreSpelled};
 
 use crate::checking::{File, resolve_or_report};
 use crate::include::{file_beside, file_in};
@@ -41,8 +43,9 @@ impl Sources {
     }
 
     fn add(&mut self, source: Source) -> Result<(), AllocError>
-        requires { length self.old.files.items ≡ length self.old.declarations.items }
-        ensures { OnOk result (length self.new.files.items ≡ length self.new.declarations.items) }
+        requires are { AreSpelled self.old.files.items self.old.declarations.items }
+        requires is { IsSpelled source.file.text.items source.declarations.items }
+        ensures { OnOk result (AreSpelled self.new.files.items self.new.declarations.items) }
     {
         self.files.push(source.file)?;
         self.declarations.push(source.declarations)?;
@@ -138,6 +141,7 @@ fn included_or_report<X: Write>(
     place: usize,
     errors: &mut X,
 ) -> Result<Option<String>, RunError>
+    requires { HasTokens file.now.text.items }
     ensures { IfOk result (λ found. IfSome found (λ _. 0 < left)) }
 {
     let path = std::str::from_utf8(path).unwrap_or("");
@@ -156,7 +160,10 @@ fn read_file<X: Write>(
     rt: &HostRuntime,
     name: &str,
     errors: &mut X,
-) -> Result<Result<Source, u8>, RunError> {
+) -> Result<Result<Source, u8>, RunError>
+    ensures { IfOk result (λ read. IfOk read (λ source.
+        IsSpelled source.file.text.items source.declarations.items)) }
+{
     let Some(text) = text_of(rt, name, errors)? else {
         return Ok(Err(FAILED));
     };
@@ -183,9 +190,9 @@ fn load<X: Write>(
     sources: &mut Sources,
     errors: &mut X,
 ) -> Result<u8, RunError>
-    requires { length sources.old.files.items ≡ length sources.old.declarations.items }
+    requires { AreSpelled sources.old.files.items sources.old.declarations.items }
     ensures { OnOk result
-        (length sources.new.files.items ≡ length sources.new.declarations.items) }
+        (AreSpelled sources.new.files.items sources.new.declarations.items) }
 {
     if file_index(&sources.begun, name.as_bytes()).is_some() {
         return Ok(CLEAN);
@@ -210,9 +217,10 @@ fn load_includes<X: Write>(
     sources: &mut Sources,
     errors: &mut X,
 ) -> Result<u8, RunError>
-    requires { length sources.old.files.items ≡ length sources.old.declarations.items }
+    requires are { AreSpelled sources.old.files.items sources.old.declarations.items }
+    requires is { IsSpelled source.now.file.text.items source.now.declarations.items }
     ensures { OnOk result
-        (length sources.new.files.items ≡ length sources.new.declarations.items) }
+        (AreSpelled sources.new.files.items sources.new.declarations.items) }
 {
     let mut worst = CLEAN;
     let file = &source.file;

@@ -1,4 +1,5 @@
-use Rattle.std.proofs.Common.{◌≡◌, ◌+◌, ◌*◌, length}
+use Rattle.std.proofs.Common.{◌+◌, ◌*◌}
+use Rattle.planus_commands.specs.Checks.{AreSpelled}
 use Rattle.planus_commands.proofs.sources.+load.Given as goal
 
 -- fewer files are left at each include
@@ -10,4 +11,4 @@ decreases-load_includes g l = 2 * l.left
 
 abbrev pub invariant-load_includes-loop-declaration : goal.invariant-load_includes-loop-declaration
 invariant-load_includes-loop-declaration g l =
-    length l.sources.files.items ≡ length l.sources.declarations.items
+    AreSpelled l.sources.files.items l.sources.declarations.items
