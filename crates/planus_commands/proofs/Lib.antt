@@ -2,3 +2,4 @@ pub mod Inked
 pub mod Reported
 pub mod Nearby
 pub mod SpelledFiles
+pub mod Sized

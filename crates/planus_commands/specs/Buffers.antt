@@ -1,9 +1,18 @@
--- The root and the identifier of a viewed buffer.
-use Rattle.std.specs.Prelude.{◌≡◌, ℕ, Bool, true, false, ◌&&◌, not, nat_lt, List, ◌++◌, codes}
-use Rattle.std.specs.Prelude.{position, take, drop, length, Option, Some, None}
+-- What is written of a file of buffers.
+use Rattle.std.specs.Prelude.{◌≡◌, ℕ, Bool, true, false, ◌&&◌, not, nat_lt, List, [], ◌∷◌, ◌++◌, codes}
+use Rattle.std.specs.Prelude.{position, take, drop, length, max, Option, Some, None}
+use Rattle.std.specs.Option.{option_and_then, option_map, unwrap_or}
 use Rattle.std.specs.Str.{bytes_eq}
 use Rattle.std.specs.Io.KnownBytes.{Appends, Keeps}
+use Rattle.planus_dump.specs.declared.schemas.Schema.{Schema as Dumped}
+use Rattle.planus_inspect.specs.Shown.{Shows}
+use Rattle.planus_commands.specs.declared.buffers.View.{View}
+use Rattle.planus_commands.specs.declared.buffers.Viewing.{Viewing}
+use Rattle.planus_commands.specs.declared.viewing.Limits.{Limits}
 use Rattle.planus_commands.specs.Shown.{shown}
+use Rattle.planus_commands.specs.Arguments.{WordsV, number_of}
+use Rattle.planus_commands.specs.Outcomes.{line_of}
+use Rattle.planus_commands.specs.Viewing.{WritesView, SplitsSized, EndsEarly}
 use Rattle.planus_layout.specs.declared.schema.Body.{Body}
 use Rattle.planus_layout.specs.declared.schema.Body.TheVariants as body
 use Rattle.planus_layout.specs.declared.schema.Declared.{Declared}
@@ -52,3 +61,108 @@ pub record ChecksIdentifier (identifier : Option (List ℕ)) (name bytes : List 
     (unsaid said : Option (List ℕ)) : Type 0 where
   pub known_is : known ≡ has_identifier_of identifier bytes
   pub told : SaysOther identifier name known unsaid said
+
+-- how buffers of a file are viewed: their identifier, by which schema, and how much of each
+pub record Look : Type 0 where
+  pub identifier : Option (List ℕ)
+  pub schema : Dumped
+  pub lines : ℕ
+  pub bytes : ℕ
+  pub name : List ℕ
+
+abbrev pub status_of : Bool → ℕ
+status_of true = 0
+status_of false = 1
+
+-- A buffer's lines were written, and what is wrong with its identifier. The status is 0 if all is
+-- shown and nothing is wrong.
+pub record ViewsOne (look : Look) (bytes : List ℕ) (status : ℕ)
+    (before after unsaid said : Option (List ℕ)) : Type 0 where
+  pub known : Bool
+  pub clean : Bool
+  pub told : ChecksIdentifier look.identifier look.name bytes known unsaid said
+  pub written : WritesView look.schema bytes look.lines look.bytes clean before after
+  pub is : status ≡ status_of (known && clean)
+
+-- No bytes are left, and the status is the worst before; or they end before a buffer does.
+abbrev pub EndsSized : Look → List ℕ → ℕ → ℕ → Option (List ℕ) → Option (List ℕ)
+    → Option (List ℕ) → Option (List ℕ) → Type 0
+EndsSized look [] worst status before after unsaid said =
+    (status ≡ worst) × Keeps before after × Keeps unsaid said
+EndsSized look (b ∷ bs) worst status before after unsaid said =
+    (status ≡ 1) × EndsEarly (b ∷ bs) × Keeps before after
+    × Appends unsaid said (line_of [] look.name (codes " ends before a buffer does"))
+
+-- The first buffer was viewed, and then what follows it.
+pub record ViewsFirst (look : Look) (buffer bytes : List ℕ) (before unsaid : Option (List ℕ))
+    (Follows : List ℕ → ℕ → Option (List ℕ) → Option (List ℕ) → Type 0) : Type 0 where
+  pub rest : List ℕ
+  pub status : ℕ
+  pub written : Option (List ℕ)
+  pub said : Option (List ℕ)
+  pub split : SplitsSized bytes buffer rest
+  pub first : ViewsOne look buffer status before written unsaid said
+  pub follows : Follows rest status written said
+
+-- These buffers, each after its size, were viewed in order. `worst` is the greatest status of those
+-- before.
+abbrev pub ViewsSized : Look → List (List ℕ) → List ℕ → ℕ → ℕ → Option (List ℕ)
+    → Option (List ℕ) → Option (List ℕ) → Option (List ℕ) → Type 0
+ViewsSized look [] bytes worst status before after unsaid said =
+    EndsSized look bytes worst status before after unsaid said
+ViewsSized look (buffer ∷ buffers) bytes worst status before after unsaid said =
+    ViewsFirst look buffer bytes before unsaid (λ rest one written told.
+    ViewsSized look buffers rest (max worst one) status written after told said)
+
+-- One buffer was viewed, or several, each after its size.
+abbrev pub Views : Bool → Look → List ℕ → ℕ → Option (List ℕ) → Option (List ℕ)
+    → Option (List ℕ) → Option (List ℕ) → Type 0
+Views false look bytes status before after unsaid said =
+    ViewsOne look bytes status before after unsaid said
+Views true look bytes status before after unsaid said =
+    (buffers : List (List ℕ)) × ViewsSized look buffers bytes 0 status before after unsaid said
+
+abbrev pub look_by : Schema → Dumped → Limits → List ℕ → Look
+look_by schema shows limits name = record {
+  identifier = option_map (λ v. v.items) schema.statements.identifier;
+  schema = shows;
+  lines = limits.lines;
+  bytes = limits.bytes;
+  name = name;
+}
+
+abbrev pub look_of : View → Look
+look_of view = look_by view.schema.now view.shown.now view.limits view.name.now
+
+-- The buffers of a file were viewed by a schema.
+pub record ViewsBytes (schema : Schema) (how : Viewing) (name bytes : List ℕ) (status : ℕ)
+    (before after unsaid said : Option (List ℕ)) : Type 0 where
+  pub dumped : Dumped
+  pub shows : Shows schema how.root dumped
+  pub views : Views how.size_prefixed (look_by schema dumped how.limits name) bytes status
+      before after unsaid said
+
+-- the number of a word, if there is one
+abbrev pub limit_of : Option (List ℕ) → ℕ → ℕ
+limit_of word otherwise = unwrap_or (option_and_then number_of word) otherwise
+
+abbrev pub viewing_of : WordsV → ℕ → Viewing
+viewing_of words root = record {
+  root = root;
+  size_prefixed = words.size_prefixed;
+  limits = record { lines = limit_of words.lines 1000; bytes = limit_of words.bytes 1048576 };
+}
+
+-- The buffers were viewed with this root, or it was said that there is none, with status 2.
+abbrev pub ViewsRoot : Option ℕ → Schema → WordsV → List ℕ → List ℕ → ℕ → Option (List ℕ)
+    → Option (List ℕ) → Option (List ℕ) → Option (List ℕ) → Type 0
+ViewsRoot (Some root) schema words name bytes status before after unsaid said =
+    ViewsBytes schema (viewing_of words root) name bytes status before after unsaid said
+ViewsRoot None schema words name bytes status before after unsaid said =
+    (status ≡ 2) × Keeps before after × Appends unsaid said (no_root_text words.root)
+
+-- what `view` does with a schema and the bytes of a file, as these words say
+abbrev pub ViewsBy : Schema → WordsV → List ℕ → List ℕ → ℕ → Option (List ℕ) → Option (List ℕ)
+    → Option (List ℕ) → Option (List ℕ) → Type 0
+ViewsBy schema words name bytes status before after unsaid said =
+    ViewsRoot (root_of schema words.root) schema words name bytes status before after unsaid said

@@ -5,6 +5,7 @@ pub mod Reports
 pub mod Outcomes
 pub mod Problems
 pub mod Checks
+pub mod Rewriting
 pub mod Near
 pub mod Viewing
 pub mod Buffers

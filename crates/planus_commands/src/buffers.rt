@@ -1,12 +1,14 @@
 //! The command `view`: what a buffer holds by a schema.
 
-ghost use Rattle.std.specs.Prelude.{◌≡◌, MatchOption, IfOk, OnOk, position};
+ghost use Rattle.std.specs.Prelude.{◌≡◌, ℕ, List, MatchOption, IfOk, OnOk, position};
 ghost use Rattle.std.specs.Option.{option_map};
 ghost use Rattle.std.specs.Io.KnownBytes.{Appends};
 ghost use Rattle.planus_commands.specs.Buffers.{is_table_named as is_table_named_lem};
 ghost use Rattle.planus_commands.specs.Buffers.{root_of as root_lem, no_root_text};
 ghost use Rattle.planus_commands.specs.Buffers.{has_identifier as has_identifier_lem};
-ghost use Rattle.planus_commands.specs.Buffers.{other_identifier_text, ChecksIdentifier};
+ghost use Rattle.planus_commands.specs.Buffers.{other_identifier_text, ChecksIdentifier, limit_of};
+ghost use Rattle.planus_commands.specs.Buffers.{look_of, ViewsOne, ViewsSized, ViewsBytes, ViewsBy};
+ghost use Rattle.planus_commands.specs.Arguments.{words_of};
 ghost use Rattle.planus_commands.specs.Viewing.{SplitsSized, EndsEarly};
 
 use crate::arguments::{Words, number_of};
@@ -29,7 +31,9 @@ const BYTES: usize = 1048576;
 /// Where the identifier begins, in bytes.
 const IDENTIFIER: usize = 4;
 
-fn limit(word: Option<&str>, otherwise: usize) -> usize {
+fn limit(word: Option<&str>, otherwise: usize) -> usize
+    ensures { result ≡ limit_of (option_map (λ w. w.now) word.entry) otherwise }
+{
     match word {
         Some(word) => number_of(word).unwrap_or(otherwise),
         None => otherwise,
@@ -137,7 +141,11 @@ fn view_one<W: Write, X: Write>(
     bytes: &[u8],
     writer: &mut W,
     errors: &mut X,
-) -> Result<u8, RunError> {
+) -> Result<u8, RunError>
+    ensures { IfOk result (λ status. ViewsOne (look_of view.now) bytes.now status
+        (W.contents writer.old) (W.contents writer.new)
+        (X.contents errors.old) (X.contents errors.new)) }
+{
     let known = check_identifier(alloc, view.schema, view.name, bytes, errors)?;
     let clean = view_buffer(alloc, view.shown, bytes, view.limits, writer)?;
     Ok(if known && clean { CLEAN } else { FAULTY })
@@ -149,10 +157,15 @@ fn view_sized<W: Write, X: Write>(
     bytes: &[u8],
     writer: &mut W,
     errors: &mut X,
-) -> Result<u8, RunError> {
+) -> Result<u8, RunError>
+    ensures { IfOk result (λ status. (buffers : List (List ℕ))
+        × ViewsSized (look_of view.now) buffers bytes.now 0 status
+        (W.contents writer.old) (W.contents writer.new)
+        (X.contents errors.old) (X.contents errors.new)) }
+{
     let mut rest = bytes;
     let mut worst = CLEAN;
-    while !rest.is_empty() {
+    'buffers: while !rest.is_empty() {
         let Some((buffer, after)) = split_sized(rest) else {
             say(alloc, errors, "", view.name, " ends before a buffer does")?;
             return Ok(FAULTY);
@@ -185,7 +198,11 @@ pub fn view_bytes<W: Write, X: Write>(
     bytes: &[u8],
     writer: &mut W,
     errors: &mut X,
-) -> Result<u8, RunError> {
+) -> Result<u8, RunError>
+    ensures { IfOk result (λ status. ViewsBytes schema.now how name.now bytes.now status
+        (W.contents writer.old) (W.contents writer.new)
+        (X.contents errors.old) (X.contents errors.new)) }
+{
     let shown = dump_schema(alloc, schema, how.root)?;
     let view = View {
         schema,
@@ -200,19 +217,23 @@ pub fn view_bytes<W: Write, X: Write>(
     }
 }
 
-fn view_by<W: Write, X: Write>(
-    rt: &HostRuntime,
+/// Writes what the bytes of a file hold by a schema, as the words of the call say. Returns the exit
+/// status.
+pub fn view_by<W: Write, X: Write>(
+    alloc: Global,
     schema: &Schema,
     words: &Words<'_>,
     name: &str,
+    bytes: &[u8],
     writer: &mut W,
     errors: &mut X,
-) -> Result<u8, RunError> {
+) -> Result<u8, RunError>
+    ensures { IfOk result (λ status. ViewsBy schema.now (words_of words.now) name.now bytes.now
+        status (W.contents writer.old) (W.contents writer.new)
+        (X.contents errors.old) (X.contents errors.new)) }
+{
     let Some(root) = root_of(schema, words.root) else {
-        say_no_root(rt.alloc(), words.root, errors)?;
-        return Ok(FAILED);
-    };
-    let Some(bytes) = bytes_of(rt, name, errors)? else {
+        say_no_root(alloc, words.root, errors)?;
         return Ok(FAILED);
     };
     let how = Viewing {
@@ -223,7 +244,7 @@ fn view_by<W: Write, X: Write>(
             bytes: limit(words.bytes, BYTES),
         },
     };
-    view_bytes(rt.alloc(), schema, how, name, &bytes, writer, errors)
+    view_bytes(alloc, schema, how, name, bytes, writer, errors)
 }
 
 /// Writes what a buffer holds by a schema. Returns the exit status.
@@ -237,7 +258,10 @@ pub fn view_file<W: Write, X: Write>(
         return Ok(FAILED);
     };
     match schema_of(rt, &words.folders, *schema, errors)? {
-        Ok(schema) => view_by(rt, &schema, words, *buffer, writer, errors),
+        Ok(schema) => match bytes_of(rt, *buffer, errors)? {
+            Some(bytes) => view_by(rt.alloc(), &schema, words, *buffer, &bytes, writer, errors),
+            None => Ok(FAILED),
+        },
         Err(status) => Ok(status),
     }
 }

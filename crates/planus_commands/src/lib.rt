@@ -24,9 +24,10 @@ mod texts;
 mod viewing;
 
 pub use arguments::{Choice, Command, Request, Words, number_of, request_of};
-pub use buffers::{Viewing, view_bytes};
-pub use outcome::{Outcome, Printed};
+pub use buffers::{Viewing, view_by, view_bytes};
+pub use outcome::{Outcome, Printed, Rewritten};
 pub use program::{run_program, run_words};
+pub use rewrite::{print_text, rewritten};
 pub use said::{Said, said_of, say};
 pub use streams::{RunError, read_all, write_out};
 pub use texts::{format, has_comments, outcome_of};

@@ -17,3 +17,14 @@ pub enum Printed {
     /// The report of its first fault.
     Report,
 }
+
+/// What replaces a text.
+#[derive(Drop)]
+pub enum Rewritten {
+    /// Its canonical text.
+    By(Vec<u8>),
+    /// Nothing: comments would be lost.
+    LosesComments,
+    /// Nothing: the report of its first fault.
+    Faulty(Vec<u8>),
+}

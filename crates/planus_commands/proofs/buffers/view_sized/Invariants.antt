@@ -1,5 +1,14 @@
-use Rattle.std.proofs.Common.{length}
+use Rattle.std.proofs.Common.{ℕ, List, length}
+use Rattle.std.specs.Prelude.{Option}
+use Rattle.planus_commands.specs.Buffers.{look_of, ViewsSized}
 use Rattle.planus_commands.proofs.buffers.view_sized.Given as goal
 
-abbrev pub decreases-loop-rest : goal.decreases-loop-rest
-decreases-loop-rest g l = length l.rest
+-- what views the rest of the bytes ends a view of all
+abbrev pub invariant-buffers : goal.invariant-buffers
+invariant-buffers g l = (buffers : List (List ℕ)) (status : ℕ) (after said : Option (List ℕ))
+    → ViewsSized (look_of l.view) buffers l.rest l.worst status (g.W.Write.contents l.writer) after (g.X.Write.contents l.errors) said
+    → (all : List (List ℕ)) × ViewsSized (look_of l.view) all l.bytes 0 status
+    (g.W.Write.contents l.initial.writer) after (g.X.Write.contents l.initial.errors) said
+
+abbrev pub decreases-buffers : goal.decreases-buffers
+decreases-buffers g l = length l.rest

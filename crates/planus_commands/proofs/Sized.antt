@@ -1,0 +1,35 @@
+-- Buffers viewed one after another, each after its size.
+use Rattle.std.proofs.Common.{◌≡◌, ◌≢◌, ℕ, Bool, List, [], ◌∷◌, length, refl, sym, subst, arith}
+use Rattle.std.specs.Prelude.{Option, Result, Ok, Err, IfOk, codes}
+use Rattle.std.specs.Io.KnownBytes.{Appends}
+use Rattle.std.proofs.KnownBytes.{Keeps-refl}
+use Rattle.planus_layout.specs.declared.schema.Schema.{Schema}
+use Rattle.planus_dump.specs.declared.schemas.Schema.{Schema as Dumped}
+use Rattle.planus_inspect.specs.Shown.{Shows}
+use Rattle.planus_commands.specs.declared.streams.RunError.{RunError}
+use Rattle.planus_commands.specs.declared.buffers.Viewing.{Viewing}
+use Rattle.planus_commands.specs.Outcomes.{line_of}
+use Rattle.planus_commands.specs.Viewing.{EndsEarly}
+use Rattle.planus_commands.specs.Buffers.{Look, EndsSized, Views, ViewsBytes, look_by}
+
+pub ended : (look : Look) (bytes : List ℕ) (worst : ℕ) (before unsaid : Option (List ℕ)) → length bytes ≡ 0
+    → EndsSized look bytes worst worst before before unsaid unsaid
+ended look [] worst before unsaid none = (refl, Keeps-refl before, Keeps-refl unsaid)
+ended look (b ∷ bs) worst before unsaid none = absurd (omega arith)
+
+pub ended_early : (look : Look) (bytes : List ℕ) (worst : ℕ) (before unsaid said : Option (List ℕ)) → length bytes ≢ 0
+    → EndsEarly bytes → Appends unsaid said (line_of [] look.name (codes " ends before a buffer does"))
+    → EndsSized look bytes worst 1 before before unsaid said
+ended_early look [] worst before unsaid said some early told = absurd (some refl)
+ended_early look (b ∷ bs) worst before unsaid said some early told = (refl, early, Keeps-refl before, told)
+
+pub viewed : (schema : Schema) (how : Viewing) (name bytes : List ℕ) (dumped : Dumped) (prefixed : Bool) (r : Result ℕ RunError)
+    (before after unsaid said : Option (List ℕ)) → Shows schema how.root dumped → how.size_prefixed ≡ prefixed
+    → IfOk r (λ status. Views prefixed (look_by schema dumped how.limits name) bytes status before after unsaid said)
+    → IfOk r (λ status. ViewsBytes schema how name bytes status before after unsaid said)
+viewed schema how name bytes dumped prefixed (Ok status) before after unsaid said shows is h = record {
+  dumped = dumped;
+  shows = shows;
+  views = subst (λ p. Views p (look_by schema dumped how.limits name) bytes status before after unsaid said) (sym is) h;
+}
+viewed schema how name bytes dumped prefixed (Err error) before after unsaid said shows is h = tt
