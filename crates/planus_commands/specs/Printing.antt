@@ -1,7 +1,9 @@
 -- The names of crates.
-use Rattle.std.specs.Prelude.{ℕ, Bool, false, ◌&&◌, ◌||◌, ◌==◌, List, [], ◌∷◌}
-use Rattle.std.specs.List.{list_all}
+use Rattle.std.specs.Prelude.{ℕ, Bool, false, ◌&&◌, ◌||◌, ◌==◌, not, List, [], ◌∷◌, codes, nat_eq}
+use Rattle.std.specs.List.{list_all, starts_with}
 use Rattle.std.specs.Int.{is_in_range}
+use Rattle.planus_plan.specs.Names.{is_in, is_reserved}
+use Rattle.planus_commands.specs.Outcomes.{line_of}
 
 abbrev pub is_small_letter : ℕ → Bool
 is_small_letter b = is_in_range 97 122 b
@@ -10,6 +12,63 @@ abbrev pub is_in_name : ℕ → Bool
 is_in_name b = is_small_letter b || is_in_range 48 57 b || b == 95
 
 -- lower-case letters, digits and `_`, a letter first
+abbrev pub is_word : List ℕ → Bool
+is_word [] = false
+is_word (b ∷ bs) = is_small_letter b && list_all is_in_name bs
+
+-- the libraries that Rattle has
+unfoldable pub libraries : List (List ℕ)
+libraries =
+    codes "anyhow" ∷ codes "arrayvec" ∷ codes "atomic_blocks" ∷ codes "atomic_table" ∷
+    codes "base64" ∷ codes "bitflags" ∷ codes "boxcar" ∷ codes "bstr" ∷ codes "bumpalo" ∷
+    codes "byteorder" ∷ codes "bytes" ∷ codes "caseless" ∷ codes "circular_buffer" ∷
+    codes "clap" ∷ codes "core" ∷ codes "counted_slot" ∷ codes "crossbeam_channel" ∷
+    codes "crossbeam_deque" ∷ codes "crossbeam_queue" ∷ codes "crossbeam_utils" ∷ codes "csv" ∷
+    codes "either" ∷ codes "fast_float" ∷ codes "form_urlencoded" ∷ codes "futures" ∷
+    codes "hex" ∷ codes "http" ∷ codes "http1" ∷ codes "http1_typed" ∷ codes "http_body" ∷
+    codes "http_body_util" ∷ codes "http_header" ∷ codes "http_server" ∷ codes "http_uri" ∷
+    codes "httparse" ∷ codes "httpdate" ∷ codes "hyper" ∷ codes "idna" ∷ codes "indexmap" ∷
+    codes "io" ∷ codes "itertools" ∷ codes "itoa" ∷ codes "jiff" ∷ codes "jiff_core" ∷
+    codes "jiff_duration" ∷ codes "jiff_fmt" ∷ codes "jiff_span" ∷ codes "jiff_strtime" ∷
+    codes "jiff_tz" ∷ codes "jiff_zoned" ∷ codes "json" ∷ codes "left_right" ∷ codes "libc" ∷
+    codes "linked_list_allocator" ∷ codes "log" ∷ codes "logbook" ∷ codes "lru" ∷
+    codes "matchit" ∷ codes "md5" ∷ codes "memchr" ∷ codes "mio" ∷ codes "num_traits" ∷
+    codes "once_cell" ∷ codes "os" ∷ codes "percent_encoding" ∷ codes "rand" ∷
+    codes "rand_chacha" ∷ codes "rand_core" ∷ codes "rand_pcg" ∷ codes "rand_xoshiro" ∷
+    codes "rayon" ∷ codes "regex" ∷ codes "regex_bits" ∷ codes "regex_class" ∷
+    codes "regex_compile" ∷ codes "regex_dfa" ∷ codes "regex_extract" ∷ codes "regex_hir" ∷
+    codes "regex_levels" ∷ codes "regex_literal" ∷ codes "regex_meta" ∷ codes "regex_nfa" ∷
+    codes "regex_syntax" ∷ codes "regex_tagged" ∷ codes "regex_vm" ∷ codes "rtrb" ∷ codes "ryu" ∷
+    codes "semver" ∷ codes "serde" ∷ codes "serde_json" ∷ codes "sha1" ∷ codes "sha2" ∷
+    codes "sharded_slab" ∷ codes "simdutf8" ∷ codes "slab" ∷ codes "smallvec" ∷ codes "sqlite" ∷
+    codes "sqlite_ast" ∷ codes "sqlite_btree" ∷ codes "sqlite_catalog" ∷ codes "sqlite_disk" ∷
+    codes "sqlite_draft" ∷ codes "sqlite_exec" ∷ codes "sqlite_format" ∷ codes "sqlite_items" ∷
+    codes "sqlite_keyed" ∷ codes "sqlite_pager" ∷ codes "sqlite_pages" ∷ codes "sqlite_pool" ∷
+    codes "sqlite_record" ∷ codes "sqlite_resolve" ∷ codes "sqlite_rules" ∷
+    codes "sqlite_schema" ∷ codes "sqlite_sql" ∷ codes "sqlite_std_file" ∷ codes "sqlite_store" ∷
+    codes "sqlite_syntax" ∷ codes "sqlite_tied" ∷ codes "sqlite_trees" ∷ codes "sqlite_typed" ∷
+    codes "sqlite_typing" ∷ codes "sqlite_value" ∷ codes "sqlite_wal" ∷ codes "std" ∷
+    codes "std_alloc" ∷ codes "std_collections" ∷ codes "std_heap" ∷ codes "std_io" ∷
+    codes "strsim" ∷ codes "thiserror" ∷ codes "tokio" ∷ codes "tokio_util" ∷ codes "toml" ∷
+    codes "toml_datetime" ∷ codes "toml_parser" ∷ codes "toml_writer" ∷ codes "tungstenite" ∷
+    codes "ucd_age" ∷ codes "ucd_bidi" ∷ codes "ucd_breaks" ∷ codes "ucd_case" ∷
+    codes "ucd_category" ∷ codes "ucd_derived" ∷ codes "ucd_east_asian" ∷ codes "ucd_emoji" ∷
+    codes "ucd_idna_map" ∷ codes "ucd_normal" ∷ codes "ucd_perl" ∷ codes "ucd_props" ∷
+    codes "ucd_script" ∷ codes "ucd_sets" ∷ codes "ucd_table" ∷ codes "unicode" ∷
+    codes "unicode_ident" ∷ codes "unicode_normalization" ∷ codes "unicode_segmentation" ∷
+    codes "unicode_width" ∷ codes "url" ∷ codes "uuid" ∷ codes "websocket" ∷ []
+
+abbrev pub is_library : List ℕ → Bool
+is_library w = is_in libraries w
+
+-- as all crates that printed code stands on begin
+abbrev pub is_of_planus : List ℕ → Bool
+is_of_planus w = starts_with nat_eq w (codes "planus")
+
+-- a name that a crate of printed code can have
 abbrev pub is_crate_name : List ℕ → Bool
-is_crate_name [] = false
-is_crate_name (b ∷ bs) = is_small_letter b && list_all is_in_name bs
+is_crate_name w = is_word w && not (is_reserved w || is_library w || is_of_planus w)
+
+-- what a repository says of the crate: it stands on `planus`
+abbrev pub crates_line : List ℕ → List ℕ
+crates_line name = line_of (codes "the line of crates.txt is `") name (codes ": planus`")

@@ -9,17 +9,25 @@ fn leaves(segments: &[&str], segment: &str) -> bool {
     }
 }
 
-/// One file must have one name: without `.` and without a folder that `..` leaves again.
-fn normal(alloc: Global, path: &str) -> Result<String, AllocError> {
+/// One file must have one name: without `.` and without a folder that `..` leaves again. It is
+/// never `-`, which names standard input.
+pub fn normal(alloc: Global, path: &str) -> Result<String, AllocError> {
     let mut segments: Vec<&str> = Vec::new(alloc);
     for segment in path.split('/') {
         if leaves(&segments, segment) {
             segments.pop();
-        } else if segment != "." {
+        } else if !matches!(segment, "" | ".") {
             segments.push(segment)?;
         }
     }
-    segments.join(alloc, "/")
+    let name = segments.join(alloc, "/")?;
+    if path.starts_with('/') {
+        return format!(in alloc; "/{name}");
+    }
+    match name.as_str() {
+        "" | "-" => format!(in alloc; "./{name}"),
+        _ => Ok(name),
+    }
 }
 
 /// Returns the name of a file in a folder.

@@ -6,6 +6,7 @@ mod arguments;
 mod buffers;
 mod checking;
 mod include;
+mod libraries;
 mod message;
 mod near;
 mod outcome;

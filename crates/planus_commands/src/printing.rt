@@ -1,16 +1,22 @@
 //! The command `rattle`: the code of a schema as a crate's files.
 
-ghost use Rattle.std.specs.Prelude.{◌≡◌};
+ghost use Rattle.std.specs.Prelude.{◌≡◌, OnOk};
+ghost use Rattle.std.specs.Io.KnownBytes.{Appends};
+ghost use Rattle.planus_commands.specs.Printing.{crates_line};
 ghost use Rattle.planus_commands.specs.Printing.{is_small_letter as is_small_letter_lem};
 ghost use Rattle.planus_commands.specs.Printing.{is_in_name as is_in_name_lem};
+ghost use Rattle.planus_commands.specs.Printing.{is_word as is_word_lem};
+ghost use Rattle.planus_commands.specs.Printing.{is_of_planus as is_of_planus_lem};
 ghost use Rattle.planus_commands.specs.Printing.{is_crate_name as is_crate_name_lem};
 
 use crate::arguments::Words;
+use crate::libraries::is_library;
 use crate::rewrite::replace;
 use crate::said::{CLEAN, FAILED, FAULTY, fail};
 use crate::sources::schema_of;
 use crate::streams::{RunError, say};
 use planus_codegen::{PrintedFile, Refusal, print_crate};
+use planus_plan::is_reserved;
 use planus_schema::Schema;
 use std::alloc::Global;
 use std::fs;
@@ -43,10 +49,10 @@ fn is_in_name(b: u8) -> bool
     matches!(b, b'a'..=b'z' | b'0'..=b'9' | b'_')
 }
 
-fn is_crate_name(word: &str) -> bool
-    ensures { result ≡ is_crate_name_lem word.now }
+fn is_word(word: &[u8]) -> bool
+    ensures { result ≡ is_word_lem word.now }
 {
-    let Some((first, rest)) = word.as_bytes().split_first() else {
+    let Some((first, rest)) = word.split_first() else {
         return false;
     };
     'rest: for b in rest {
@@ -55,6 +61,18 @@ fn is_crate_name(word: &str) -> bool
         }
     }
     is_small_letter(*first)
+}
+
+fn is_of_planus(word: &[u8]) -> bool
+    ensures { result ≡ is_of_planus_lem word.now }
+{
+    word.starts_with(b"planus")
+}
+
+fn is_crate_name(word: &[u8]) -> bool
+    ensures { result ≡ is_crate_name_lem word.now }
+{
+    is_word(word) && !(is_reserved(word) || is_library(word) || is_of_planus(word))
 }
 
 fn holds(rt: &HostRuntime, name: &str, bytes: &[u8]) -> bool {
@@ -132,6 +150,20 @@ fn say_unsupported<X: Write>(
     Ok(FAULTY)
 }
 
+/// A crate of printed code stands on `planus` alone.
+fn say_line<X: Write>(alloc: Global, name: &str, errors: &mut X) -> Result<(), RunError>
+    ensures { OnOk result (Appends (X.contents errors.old) (X.contents errors.new)
+        (crates_line name.now)) }
+{
+    say(
+        alloc,
+        errors,
+        "the line of crates.txt is `",
+        name,
+        ": planus`",
+    )
+}
+
 fn print_to<X: Write>(
     rt: &HostRuntime,
     schema: &Schema,
@@ -139,7 +171,13 @@ fn print_to<X: Write>(
     errors: &mut X,
 ) -> Result<u8, RunError> {
     match print_crate(rt.alloc(), schema, folder.name) {
-        Ok(files) => print_files(rt, folder, &files, errors),
+        Ok(files) => {
+            let status = print_files(rt, folder, &files, errors)?;
+            if status == CLEAN && !folder.check {
+                say_line(rt.alloc(), folder.name, errors)?;
+            }
+            Ok(status)
+        }
         Err(Refusal::OutOfMemory) => Err(RunError::OutOfMemory),
         Err(Refusal::Unsupported { what, name }) => {
             say_unsupported(rt.alloc(), what, &name, errors)
@@ -155,7 +193,7 @@ pub fn print_code<X: Write>(
 ) -> Result<u8, RunError> {
     let path = words.output.unwrap_or("").trim_end_matches('/');
     let name = last_word(path);
-    if !is_crate_name(name) {
+    if !is_crate_name(name.as_bytes()) {
         return fail(
             rt.alloc(),
             errors,

@@ -5,7 +5,7 @@ ghost use Rattle.planus_commands.specs.Outcomes.{HasTokens, IsSpelled};
 ghost use Rattle.planus_commands.specs.Checks.{AreSpelled};
 
 use crate::checking::{File, resolve_or_report};
-use crate::include::{file_beside, file_in};
+use crate::include::{file_beside, file_in, normal};
 use crate::parsed::{Parsed, parse_or_report};
 use crate::placed::placed_report;
 use crate::said::{CLEAN, FAILED, FAULTY};
@@ -16,7 +16,7 @@ use std::alloc::{AllocError, Global};
 use std::fs;
 use std::io::{Input, Write};
 
-/// How deep files may include one another.
+/// How many files may include one another.
 const GREATEST_DEPTH: usize = 64;
 
 #[derive(Drop)]
@@ -180,7 +180,7 @@ fn read_file<X: Write>(
     }
 }
 
-/// Reads at most `left` files deep.
+/// Reads a file, and at most `left` more that include one another.
 #[cycle(load)]
 fn load<X: Write>(
     rt: &HostRuntime,
@@ -237,6 +237,14 @@ fn load_includes<X: Write>(
     Ok(worst)
 }
 
+fn name_of(alloc: Global, name: &str) -> Result<String, AllocError> {
+    if name == "-" {
+        String::from_str(alloc, name)
+    } else {
+        normal(alloc, name)
+    }
+}
+
 /// Reads a file and all that it includes. Returns what they mean, or reports their faults and
 /// returns the exit status.
 pub fn schema_of<X: Write>(
@@ -251,7 +259,15 @@ pub fn schema_of<X: Write>(
         files: Vec::new(alloc),
         declarations: Vec::new(alloc),
     };
-    let status = load(rt, folders, GREATEST_DEPTH, name, &mut sources, errors)?;
+    let name = name_of(alloc, name)?;
+    let status = load(
+        rt,
+        folders,
+        GREATEST_DEPTH - 1,
+        name.as_str(),
+        &mut sources,
+        errors,
+    )?;
     if status != CLEAN {
         return Ok(Err(status));
     }
