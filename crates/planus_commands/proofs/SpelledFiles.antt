@@ -13,6 +13,11 @@ use Rattle.planus_schema.specs.Faults.{AreWithin}
 use Rattle.planus_commands.specs.declared.checking.File.{File}
 use Rattle.planus_commands.specs.Outcomes.{HasTokens, IsSpelled}
 use Rattle.planus_commands.specs.Checks.{AreSpelled}
+use Rattle.planus_commands.specs.Files.{AreRead, IsTextOf}
+use Rattle.planus_commands.specs.Sources.{IsSource}
+use Rattle.planus_commands.specs.declared.sources.Source.{Source}
+use Rattle.std.specs.String.{string_bytes}
+use Rattle.std.proofs.lemmas.List.Elements.{All-append}
 
 pub spelled_tokens : (text : List ℕ) (ds : List Declaration) → IsSpelled text ds → HasTokens text
 spelled_tokens text ds h = (schema_pieces (schema_of ds), spelled_lexes text (schema_of ds) h.spelled)
@@ -42,3 +47,22 @@ pub within_files : (n m : ℕ) (e : Refusal) (faults : Vec Fault) (xs : List Fau
     → AreWithin n e → All (λ f. f.file < m) xs
 within_files n m e faults xs same is value h =
     subst (λ k. All (λ f. f.file < k) xs) (sym same) (subst (All (λ f. f.file < n)) (sym value) (subst (AreWithin n) is h))
+
+pub read_push : (Holds : List ℕ → List ℕ → Type 0) (fs : List File) (ds : List (Vec Declaration)) (f : File) (d : Vec Declaration)
+    → AreRead Holds fs ds → IsTextOf Holds (string_bytes f.name) f.text.items → IsSpelled f.text.items d.items
+    → AreRead Holds (fs ++ f ∷ []) (ds ++ d ∷ [])
+read_push Holds fs ds f d h text spelled = record {
+  texts = All-append (λ g. IsTextOf Holds (string_bytes g.name) g.text.items) fs (f ∷ []) h.texts (only text);
+  spelled = spelled_push fs ds f d h.spelled spelled;
+} where
+  only : IsTextOf Holds (string_bytes f.name) f.text.items → All (λ g. IsTextOf Holds (string_bytes g.name) g.text.items) (f ∷ [])
+  only text zero e lt = text
+  only text (suc k) e lt = absurd (omega arith)
+
+-- the files read before, and one more
+pub read_more : (Holds : List ℕ → List ℕ → Type 0) (fs gs : List File) (ds es : List (Vec Declaration)) (name : List ℕ) (s : Source)
+    → AreRead Holds fs ds → IsSource Holds name s → gs ≡ fs ++ s.file ∷ [] → es ≡ ds ++ s.declarations ∷ [] → AreRead Holds gs es
+read_more Holds fs gs ds es name s h is files declarations =
+    subst (λ xs. AreRead Holds xs es) (sym files) (subst (λ xs. AreRead Holds (fs ++ s.file ∷ []) xs) (sym declarations)
+    (read_push Holds fs ds s.file s.declarations h
+    (subst (λ n. IsTextOf Holds n s.file.text.items) (sym is.named) is.text) is.spelled))

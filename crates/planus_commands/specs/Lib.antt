@@ -5,6 +5,8 @@ pub mod Reports
 pub mod Outcomes
 pub mod Problems
 pub mod Checks
+pub mod Files
+pub mod Sources
 pub mod Rewriting
 pub mod Near
 pub mod Viewing

@@ -12,9 +12,10 @@ ghost use Rattle.planus_commands.specs.Arguments.{words_of};
 ghost use Rattle.planus_commands.specs.Viewing.{SplitsSized, EndsEarly};
 
 use crate::arguments::{Words, number_of};
+use crate::files::HostFiles;
 use crate::said::{CLEAN, FAILED, FAULTY};
 use crate::shown::put_shown;
-use crate::sources::{bytes_of, schema_of};
+use crate::sources::{bytes_of, schema_at};
 use crate::streams::{RunError, say, write_out};
 use crate::viewing::{Limits, view_buffer};
 use planus_inspect::dump_schema;
@@ -257,8 +258,8 @@ pub fn view_file<W: Write, X: Write>(
     let [schema, buffer] = words.files.as_slice() else {
         return Ok(FAILED);
     };
-    match schema_of(rt, &words.folders, *schema, errors)? {
-        Ok(schema) => match bytes_of(rt, *buffer, errors)? {
+    match schema_at(rt, &words.folders, *schema, errors)? {
+        Ok(schema) => match bytes_of(&HostFiles { rt }, rt.alloc(), *buffer, errors)? {
             Some(bytes) => view_by(rt.alloc(), &schema, words, *buffer, &bytes, writer, errors),
             None => Ok(FAILED),
         },

@@ -5,6 +5,7 @@
 mod arguments;
 mod buffers;
 mod checking;
+mod files;
 mod include;
 mod libraries;
 mod message;
@@ -26,10 +27,13 @@ mod viewing;
 
 pub use arguments::{Choice, Command, Request, Words, number_of, request_of};
 pub use buffers::{Viewing, view_by, view_bytes};
+pub use checking::File;
+pub use files::{Files, GivenFiles, HostFiles};
 pub use outcome::{Outcome, Printed, Rewritten};
 pub use program::{run_program, run_words};
 pub use rewrite::{print_text, rewritten};
 pub use said::{Said, said_of, say};
+pub use sources::{check_file, schema_of};
 pub use streams::{RunError, read_all, write_out};
 pub use texts::{format, has_comments, outcome_of};
 pub use viewing::{Limits, view_buffer};

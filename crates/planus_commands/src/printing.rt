@@ -13,7 +13,7 @@ use crate::arguments::Words;
 use crate::libraries::is_library;
 use crate::rewrite::replace;
 use crate::said::{CLEAN, FAILED, FAULTY, fail};
-use crate::sources::schema_of;
+use crate::sources::schema_at;
 use crate::streams::{RunError, say};
 use planus_codegen::{PrintedFile, Refusal, print_crate};
 use planus_plan::is_reserved;
@@ -210,7 +210,7 @@ pub fn print_code<X: Write>(
     let Some(schema) = words.files.first() else {
         return Ok(FAILED);
     };
-    match schema_of(rt, &words.folders, *schema, errors)? {
+    match schema_at(rt, &words.folders, *schema, errors)? {
         Ok(schema) => print_to(rt, &schema, folder, errors),
         Err(status) => Ok(status),
     }

@@ -10,7 +10,7 @@ use crate::buffers::view_file;
 use crate::printing::print_code;
 use crate::rewrite::format_file;
 use crate::said::{CLEAN, FAILED, say as say_of};
-use crate::sources::schema_of;
+use crate::sources::check_at;
 use crate::streams::{RunError, reason_of, write_out};
 use std::env;
 use std::io::Write;
@@ -26,10 +26,7 @@ fn run_file<W: Write, X: Write>(
     if let Command::Format = command {
         return format_file(rt, words, name, writer, errors);
     }
-    match schema_of(rt, &words.folders, name, errors)? {
-        Ok(_) => Ok(CLEAN),
-        Err(status) => Ok(status),
-    }
+    check_at(rt, &words.folders, name, errors)
 }
 
 /// Checks or formats each file. Returns the worst exit status.

@@ -4,6 +4,7 @@ ghost use Rattle.std.specs.Prelude.{IfOk};
 ghost use Rattle.planus_commands.specs.Rewriting.{FormatsText, IsRewritten};
 
 use crate::arguments::Words;
+use crate::files::HostFiles;
 use crate::outcome::{Outcome, Printed, Rewritten};
 use crate::said::{CLEAN, FAILED, FAULTY, fail};
 use crate::sources::text_of;
@@ -102,7 +103,7 @@ pub fn format_file<W: Write, X: Write>(
     errors: &mut X,
 ) -> Result<u8, RunError> {
     let alloc = rt.alloc();
-    let Some(text) = text_of(rt, name, errors)? else {
+    let Some(text) = text_of(&HostFiles { rt }, alloc, name, errors)? else {
         return Ok(FAILED);
     };
     if !words.write {

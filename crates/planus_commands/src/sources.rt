@@ -1,20 +1,24 @@
 //! The files of a schema: each is read once, after its includes.
 
-ghost use Rattle.std.specs.Prelude.{◌≡◌, ◌<◌, IfOk, IfSome, OnOk};
+ghost use Rattle.std.specs.Prelude.{◌≡◌, ◌≢◌, ◌<◌, ◌++◌, ◌∷◌, [], IfOk, IfErr, IfSome, OnOk};
+ghost use Rattle.std.specs.String.{string_bytes};
 ghost use Rattle.planus_commands.specs.Outcomes.{HasTokens, IsSpelled};
-ghost use Rattle.planus_commands.specs.Checks.{AreSpelled};
+ghost use Rattle.planus_commands.specs.Files.{AreRead, EndsWith, IsTextOf, MeansFile};
+ghost use Rattle.planus_commands.specs.Sources.{IsSource, status_in};
+ghost use Rattle.planus_layout.specs.declared.schema.Schema.{Schema};
+ghost use Rattle.std.specs.Io.KnownBytes.{Keeps};
 
 use crate::checking::{File, resolve_or_report};
+use crate::files::{Files, HostFiles};
 use crate::include::{file_beside, file_in, normal};
 use crate::parsed::{Parsed, parse_or_report};
 use crate::placed::placed_report;
 use crate::said::{CLEAN, FAILED, FAULTY};
-use crate::streams::{GREATEST_TEXT, RunError, read_all, say, write_out};
+use crate::streams::{GREATEST_TEXT, RunError, say, write_out};
 use planus_schema::{Schema, file_index};
 use planus_syntax::{Declaration, Item, after_order_mark};
 use std::alloc::{AllocError, Global};
-use std::fs;
-use std::io::{Input, Write};
+use std::io::Write;
 
 /// How many files may include one another.
 const GREATEST_DEPTH: usize = 64;
@@ -43,9 +47,10 @@ impl Sources {
     }
 
     fn add(&mut self, source: Source) -> Result<(), AllocError>
-        requires are { AreSpelled self.old.files.items self.old.declarations.items }
-        requires is { IsSpelled source.file.text.items source.declarations.items }
-        ensures { OnOk result (AreSpelled self.new.files.items self.new.declarations.items) }
+        ensures files { OnOk result (self.new.files.items
+            ≡ self.old.files.items ++ source.file ∷ []) }
+        ensures declarations { OnOk result (self.new.declarations.items
+            ≡ self.old.declarations.items ++ source.declarations ∷ []) }
     {
         self.files.push(source.file)?;
         self.declarations.push(source.declarations)?;
@@ -53,38 +58,27 @@ impl Sources {
     }
 }
 
-/// Returns the bytes of a file, or of standard input for `-`.
-fn read_bytes(rt: &HostRuntime, name: &str) -> Result<Vec<u8>, RunError> {
-    if name == "-" {
-        return read_all(rt.alloc(), &mut rt.reader());
-    }
-    match fs::open(rt, name) {
-        Ok(mut file) => read_all(rt.alloc(), &mut file),
-        Err(_) => Err(RunError::Read),
-    }
-}
-
 /// Returns the bytes of a file, or reports why it can't be read.
-pub fn bytes_of<X: Write>(
-    rt: &HostRuntime,
+pub fn bytes_of<F: Files, X: Write>(
+    files: &F,
+    alloc: Global,
     name: &str,
     errors: &mut X,
-) -> Result<Option<Vec<u8>>, RunError> {
-    match read_bytes(rt, name) {
-        Ok(text) if text.len() <= GREATEST_TEXT => Ok(Some(text)),
+) -> Result<Option<Vec<u8>>, RunError>
+    ensures bytes { IfOk result (λ found. IfSome found (λ bytes.
+        F.holds files.now name.now bytes.items)) }
+    ensures kept { IfOk result (λ found. IfSome found (λ _.
+        Keeps (X.contents errors.old) (X.contents errors.new))) }
+{
+    match files.read(alloc, name) {
+        Ok(bytes) if bytes.len() <= GREATEST_TEXT => Ok(Some(bytes)),
         Ok(_) => {
-            say(
-                rt.alloc(),
-                errors,
-                "",
-                name,
-                " is longer than 16777216 bytes",
-            )?;
+            say(alloc, errors, "", name, " is longer than 16777216 bytes")?;
             Ok(None)
         }
         Err(RunError::OutOfMemory) => Err(RunError::OutOfMemory),
         Err(_) => {
-            say(rt.alloc(), errors, "can't read ", name, "")?;
+            say(alloc, errors, "can't read ", name, "")?;
             Ok(None)
         }
     }
@@ -92,39 +86,41 @@ pub fn bytes_of<X: Write>(
 
 /// Returns the text of a schema, a file's bytes after a byte order mark, or reports why it can't be
 /// read.
-pub fn text_of<X: Write>(
-    rt: &HostRuntime,
+pub fn text_of<F: Files, X: Write>(
+    files: &F,
+    alloc: Global,
     name: &str,
     errors: &mut X,
-) -> Result<Option<Vec<u8>>, RunError> {
-    let Some(bytes) = bytes_of(rt, name, errors)? else {
-        return Ok(None);
-    };
-    let text = after_order_mark(&bytes);
-    if text.len() == bytes.len() {
-        return Ok(Some(bytes));
+) -> Result<Option<Vec<u8>>, RunError>
+    ensures text { IfOk result (λ found. IfSome found (λ text.
+        IsTextOf (F.holds files.now) name.now text.items)) }
+    ensures kept { IfOk result (λ found. IfSome found (λ _.
+        Keeps (X.contents errors.old) (X.contents errors.new))) }
+{
+    match bytes_of(files, alloc, name, errors)? {
+        None => Ok(None),
+        Some(bytes) => {
+            let text = Vec::from_slice(alloc, after_order_mark(&bytes))?;
+            Ok(Some(text))
+        }
     }
-    Ok(Some(Vec::from_slice(rt.alloc(), text)?))
-}
-
-fn is_there(rt: &HostRuntime, name: &str) -> bool {
-    fs::open(rt, name).is_ok()
 }
 
 /// The folder of the including file comes first.
-fn included(
-    rt: &HostRuntime,
+fn included<F: Files>(
+    files: &F,
+    alloc: Global,
     folders: &[&str],
     name: &str,
     path: &str,
 ) -> Result<Option<String>, AllocError> {
-    let beside = file_beside(rt.alloc(), name, path)?;
-    if is_there(rt, beside.as_str()) {
+    let beside = file_beside(alloc, name, path)?;
+    if files.is_there(beside.as_str()) {
         return Ok(Some(beside));
     }
     for folder in folders {
-        let found = file_in(rt.alloc(), *folder, path)?;
-        if is_there(rt, found.as_str()) {
+        let found = file_in(alloc, *folder, path)?;
+        if files.is_there(found.as_str()) {
             return Ok(Some(found));
         }
     }
@@ -132,8 +128,9 @@ fn included(
 }
 
 /// Returns the name of an included file, or reports why it isn't read.
-fn included_or_report<X: Write>(
-    rt: &HostRuntime,
+fn included_or_report<F: Files, X: Write>(
+    files: &F,
+    alloc: Global,
     folders: &[&str],
     left: usize,
     file: &File,
@@ -142,66 +139,96 @@ fn included_or_report<X: Write>(
     errors: &mut X,
 ) -> Result<Option<String>, RunError>
     requires { HasTokens file.now.text.items }
-    ensures { IfOk result (λ found. IfSome found (λ _. 0 < left)) }
+    ensures left { IfOk result (λ found. IfSome found (λ _. 0 < left)) }
+    ensures kept { IfOk result (λ found. IfSome found (λ _.
+        Keeps (X.contents errors.old) (X.contents errors.new))) }
 {
     let path = std::str::from_utf8(path).unwrap_or("");
-    let message = match included(rt, folders, file.name.as_str(), path)? {
+    let message = match included(files, alloc, folders, file.name.as_str(), path)? {
         Some(name) if left > 0 => return Ok(Some(name)),
         Some(_) => b"more than 64 files include one another".as_slice(),
         None => b"the included file can't be found",
     };
-    let report = placed_report(rt.alloc(), file.name.as_str(), &file.text, place, message)?;
+    let report = placed_report(alloc, file.name.as_str(), &file.text, place, message)?;
     write_out(errors, &report)?;
     Ok(None)
 }
 
 /// Returns a file, or reports what is wrong and returns the exit status.
-fn read_file<X: Write>(
-    rt: &HostRuntime,
+fn read_file<F: Files, X: Write>(
+    files: &F,
+    alloc: Global,
     name: &str,
     errors: &mut X,
 ) -> Result<Result<Source, u8>, RunError>
-    ensures { IfOk result (λ read. IfOk read (λ source.
-        IsSpelled source.file.text.items source.declarations.items)) }
+    ensures source { IfOk result (λ read. IfOk read (λ source.
+        IsSource (F.holds files.now) name.now source)) }
+    ensures status { IfOk result (λ read. IfErr read (λ status. status ≢ 0)) }
+    ensures kept { IfOk result (λ read. IfOk read (λ _.
+        Keeps (X.contents errors.old) (X.contents errors.new))) }
 {
-    let Some(text) = text_of(rt, name, errors)? else {
+    let Some(text) = text_of(files, alloc, name, errors)? else {
         return Ok(Err(FAILED));
     };
-    match parse_or_report(rt.alloc(), name, &text)? {
+    match parse_or_report(alloc, name, &text)? {
         Parsed::Faulty(report) => {
             write_out(errors, &report)?;
             Ok(Err(FAULTY))
         }
         Parsed::Declarations(declarations) => {
-            let name = String::from_str(rt.alloc(), name)?;
+            let name = String::from_str(alloc, name)?;
             let file = File { name, text };
             Ok(Ok(Source { file, declarations }))
         }
     }
 }
 
-/// Reads a file, and at most `left` more that include one another.
+/// Reads a file, if it isn't begun, and at most `left` more that include one another.
 #[cycle(load)]
-fn load<X: Write>(
-    rt: &HostRuntime,
+fn load<F: Files, X: Write>(
+    files: &F,
+    alloc: Global,
     folders: &[&str],
     left: usize,
     name: &str,
     sources: &mut Sources,
     errors: &mut X,
 ) -> Result<u8, RunError>
-    requires { AreSpelled sources.old.files.items sources.old.declarations.items }
-    ensures { OnOk result
-        (AreSpelled sources.new.files.items sources.new.declarations.items) }
+    requires { AreRead (F.holds files.now) sources.old.files.items sources.old.declarations.items }
+    ensures read { OnOk result
+        (AreRead (F.holds files.now) sources.new.files.items sources.new.declarations.items) }
+    ensures kept { IfOk result (λ status. status ≡ 0
+        → Keeps (X.contents errors.old) (X.contents errors.new)) }
 {
     if file_index(&sources.begun, name.as_bytes()).is_some() {
         return Ok(CLEAN);
     }
-    sources.begin(rt.alloc(), name)?;
-    match read_file(rt, name, errors)? {
+    load_file(files, alloc, folders, left, name, sources, errors)
+}
+
+#[cycle(load)]
+fn load_file<F: Files, X: Write>(
+    files: &F,
+    alloc: Global,
+    folders: &[&str],
+    left: usize,
+    name: &str,
+    sources: &mut Sources,
+    errors: &mut X,
+) -> Result<u8, RunError>
+    requires { AreRead (F.holds files.now) sources.old.files.items sources.old.declarations.items }
+    ensures read { OnOk result
+        (AreRead (F.holds files.now) sources.new.files.items sources.new.declarations.items) }
+    ensures last { IfOk result (λ status. status ≡ 0
+        → EndsWith sources.new.files.items name.now) }
+    ensures kept { IfOk result (λ status. status ≡ 0
+        → Keeps (X.contents errors.old) (X.contents errors.new)) }
+{
+    sources.begin(alloc, name)?;
+    match read_file(files, alloc, name, errors)? {
         Err(status) => Ok(status),
         Ok(source) => {
-            let status = load_includes(rt, folders, left, &source, sources, errors)?;
+            let status = load_includes(files, alloc, folders, left, &source, sources, errors)?;
             sources.add(source)?;
             Ok(status)
         }
@@ -209,32 +236,101 @@ fn load<X: Write>(
 }
 
 #[cycle(load)]
-fn load_includes<X: Write>(
-    rt: &HostRuntime,
+fn load_includes<F: Files, X: Write>(
+    files: &F,
+    alloc: Global,
     folders: &[&str],
     left: usize,
     source: &Source,
     sources: &mut Sources,
     errors: &mut X,
 ) -> Result<u8, RunError>
-    requires are { AreSpelled sources.old.files.items sources.old.declarations.items }
+    requires are { AreRead (F.holds files.now)
+        sources.old.files.items sources.old.declarations.items }
     requires is { IsSpelled source.now.file.text.items source.now.declarations.items }
-    ensures { OnOk result
-        (AreSpelled sources.new.files.items sources.new.declarations.items) }
+    ensures read { OnOk result
+        (AreRead (F.holds files.now) sources.new.files.items sources.new.declarations.items) }
+    ensures kept { IfOk result (λ status. status ≡ 0
+        → Keeps (X.contents errors.old) (X.contents errors.new)) }
 {
     let mut worst = CLEAN;
     let file = &source.file;
     for declaration in &source.declarations {
         if let Item::Include(path) = &declaration.item {
-            let place = declaration.left;
-            let status = match included_or_report(rt, folders, left, file, path, place, errors)? {
-                Some(name) => { load(rt, folders, left - 1, name.as_str(), sources, errors)? }
+            let at = declaration.left;
+            let found = included_or_report(files, alloc, folders, left, file, path, at, errors)?;
+            let status = match found {
+                Some(name) => {
+                    load(
+                        files,
+                        alloc,
+                        folders,
+                        left - 1,
+                        name.as_str(),
+                        sources,
+                        errors,
+                    )?
+                }
                 None => FAULTY,
             };
             worst = worst.max(status);
         }
     }
     Ok(worst)
+}
+
+/// Reads a file, under its normal name, and all that it includes. Returns what they mean, or
+/// reports their faults and returns the exit status.
+pub fn schema_of<F: Files, X: Write>(
+    files: &F,
+    alloc: Global,
+    folders: &[&str],
+    name: &str,
+    errors: &mut X,
+) -> Result<Result<Schema, u8>, RunError>
+    ensures means { IfOk result (λ found. IfOk found (λ schema.
+        MeansFile (F.holds files.now) name.now schema
+        (X.contents errors.old) (X.contents errors.new))) }
+    ensures status { IfOk result (λ found. IfErr found (λ status. status ≢ 0)) }
+{
+    let mut sources = Sources {
+        begun: Vec::new(alloc),
+        files: Vec::new(alloc),
+        declarations: Vec::new(alloc),
+    };
+    let most = GREATEST_DEPTH - 1;
+    let status = load_file(files, alloc, folders, most, name, &mut sources, errors)?;
+    if status != CLEAN {
+        return Ok(Err(status));
+    }
+    let schema = resolve_or_report(alloc, &sources.files, &sources.declarations, errors)?;
+    Ok(schema.ok_or(FAULTY))
+}
+
+fn status_of(found: Result<Schema, u8>) -> u8
+    ensures { result ≡ status_in found }
+{
+    match found {
+        Ok(_) => CLEAN,
+        Err(status) => status,
+    }
+}
+
+/// Reads a file and all that it includes, and reports their faults. Returns the exit status, 0 only
+/// where they mean something.
+pub fn check_file<F: Files, X: Write>(
+    files: &F,
+    alloc: Global,
+    folders: &[&str],
+    name: &str,
+    errors: &mut X,
+) -> Result<u8, RunError>
+    ensures { IfOk result (λ status. status ≡ 0 → (schema : Schema)
+        × MeansFile (F.holds files.now) name.now schema
+        (X.contents errors.old) (X.contents errors.new)) }
+{
+    let found = schema_of(files, alloc, folders, name, errors)?;
+    Ok(status_of(found))
 }
 
 fn name_of(alloc: Global, name: &str) -> Result<String, AllocError> {
@@ -245,32 +341,26 @@ fn name_of(alloc: Global, name: &str) -> Result<String, AllocError> {
     }
 }
 
-/// Reads a file and all that it includes. Returns what they mean, or reports their faults and
-/// returns the exit status.
-pub fn schema_of<X: Write>(
+/// Does what [`schema_of`] does with a file of the system.
+pub fn schema_at<X: Write>(
     rt: &HostRuntime,
     folders: &[&str],
     name: &str,
     errors: &mut X,
 ) -> Result<Result<Schema, u8>, RunError> {
     let alloc = rt.alloc();
-    let mut sources = Sources {
-        begun: Vec::new(alloc),
-        files: Vec::new(alloc),
-        declarations: Vec::new(alloc),
-    };
     let name = name_of(alloc, name)?;
-    let status = load(
-        rt,
-        folders,
-        GREATEST_DEPTH - 1,
-        name.as_str(),
-        &mut sources,
-        errors,
-    )?;
-    if status != CLEAN {
-        return Ok(Err(status));
-    }
-    let schema = resolve_or_report(alloc, &sources.files, &sources.declarations, errors)?;
-    Ok(schema.ok_or(FAULTY))
+    schema_of(&HostFiles { rt }, alloc, folders, name.as_str(), errors)
+}
+
+/// Does what [`check_file`] does with a file of the system.
+pub fn check_at<X: Write>(
+    rt: &HostRuntime,
+    folders: &[&str],
+    name: &str,
+    errors: &mut X,
+) -> Result<u8, RunError> {
+    let alloc = rt.alloc();
+    let name = name_of(alloc, name)?;
+    check_file(&HostFiles { rt }, alloc, folders, name.as_str(), errors)
 }

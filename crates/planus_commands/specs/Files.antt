@@ -1,0 +1,50 @@
+-- What the files of a schema hold, and what they mean.
+use Rattle.std.specs.Prelude.{◌≡◌, ℕ, List, [], ◌∷◌, ◌++◌, Option, Some, None, if◌then◌else◌}
+use Rattle.std.specs.Global.{Vec}
+use Rattle.std.specs.List.{All}
+use Rattle.std.specs.Str.{bytes_eq}
+use Rattle.std.specs.String.{string_bytes}
+use Rattle.planus_syntax.specs.Spelled.{after_order_mark}
+use Rattle.planus_syntax.specs.declared.value.Declaration.{Declaration}
+use Rattle.planus_layout.specs.declared.schema.Schema.{Schema}
+use Rattle.planus_commands.specs.declared.checking.File.{File}
+use Rattle.planus_commands.specs.Checks.{AreSpelled, ResolvesFiles}
+
+-- the text of the first file of this name
+abbrev pub text_named : List File → List ℕ → Option (List ℕ)
+text_named [] name = None
+text_named (f ∷ fs) name =
+    if bytes_eq (string_bytes f.name) name then Some f.text.items else text_named fs name
+
+-- the text of a schema: its file's bytes after a byte order mark
+pub record IsTextOf (Holds : List ℕ → List ℕ → Type 0) (name text : List ℕ) : Type 0 where
+  pub bytes : List ℕ
+  pub holds : Holds name bytes
+  pub is : text ≡ after_order_mark bytes
+
+-- Each file has the text of its name.
+abbrev pub AreTexts : (List ℕ → List ℕ → Type 0) → List File → Type 0
+AreTexts Holds files = All (λ f. IsTextOf Holds (string_bytes f.name) f.text.items) files
+
+-- files that were read, and their declarations
+pub record AreRead (Holds : List ℕ → List ℕ → Type 0) (files : List File)
+    (declarations : List (Vec Declaration)) : Type 0 where
+  pub texts : AreTexts Holds files
+  pub spelled : AreSpelled files declarations
+
+-- The last file has this name.
+pub record EndsWith (files : List File) (name : List ℕ) : Type 0 where
+  pub before : List File
+  pub file : File
+  pub are : files ≡ before ++ file ∷ []
+  pub named : string_bytes file.name ≡ name
+
+-- The named file was read, after others, and what they all spell means this schema. Nothing was
+-- reported.
+pub record MeansFile (Holds : List ℕ → List ℕ → Type 0) (name : List ℕ) (schema : Schema)
+    (unsaid said : Option (List ℕ)) : Type 0 where
+  pub files : List File
+  pub declarations : List (Vec Declaration)
+  pub read : AreRead Holds files declarations
+  pub last : EndsWith files name
+  pub means : ResolvesFiles files declarations (Some schema) unsaid said
