@@ -3,3 +3,4 @@ pub mod Reported
 pub mod Nearby
 pub mod SpelledFiles
 pub mod Sized
+pub mod LoadedFiles

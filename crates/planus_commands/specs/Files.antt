@@ -1,5 +1,7 @@
 -- What the files of a schema hold, and what they mean.
-use Rattle.std.specs.Prelude.{◌≡◌, ℕ, List, [], ◌∷◌, ◌++◌, Option, Some, None, if◌then◌else◌}
+use Rattle.std.specs.Prelude.{◌≡◌, ◌⊎◌, ℕ, List, [], ◌∷◌, ◌++◌, Option, Some, None}
+use Rattle.std.specs.Prelude.{if◌then◌else◌, codes}
+use Rattle.std.specs.Io.KnownBytes.{Appends}
 use Rattle.std.specs.Global.{Vec}
 use Rattle.std.specs.List.{All}
 use Rattle.std.specs.Str.{bytes_eq}
@@ -8,6 +10,8 @@ use Rattle.planus_syntax.specs.Spelled.{after_order_mark}
 use Rattle.planus_syntax.specs.declared.value.Declaration.{Declaration}
 use Rattle.planus_layout.specs.declared.schema.Schema.{Schema}
 use Rattle.planus_commands.specs.declared.checking.File.{File}
+use Rattle.planus_syntax.specs.declared.value.Item.TheVariants.{Include}
+use Rattle.planus_commands.specs.Outcomes.{Reports, line_of}
 use Rattle.planus_commands.specs.Checks.{AreSpelled, ResolvesFiles}
 
 -- the text of the first file of this name
@@ -48,3 +52,26 @@ pub record MeansFile (Holds : List ℕ → List ℕ → Type 0) (name : List ℕ
   pub read : AreRead Holds files declarations
   pub last : EndsWith files name
   pub means : ResolvesFiles files declarations (Some schema) unsaid said
+
+-- The file can't be read, or is too long, and this was said.
+abbrev pub SaysUnread : List ℕ → Option (List ℕ) → Option (List ℕ) → Type 0
+SaysUnread name unsaid said = Appends unsaid said (line_of (codes "can't read ") name [])
+    ⊎ Appends unsaid said (line_of [] name (codes " is longer than 16777216 bytes"))
+
+-- The first fault of the file's text was reported.
+pub record ReportsFile (Holds : List ℕ → List ℕ → Type 0) (name : List ℕ)
+    (unsaid said : Option (List ℕ)) : Type 0 where
+  pub text : List ℕ
+  pub is : IsTextOf Holds name text
+  pub report : List ℕ
+  pub reports : Reports name text report
+  pub told : Appends unsaid said report
+
+-- A file wasn't read, with status 2, or its text has a fault, with status 1; that was reported.
+abbrev pub FailsReading : (List ℕ → List ℕ → Type 0) → List ℕ → ℕ → Option (List ℕ)
+    → Option (List ℕ) → Type 0
+FailsReading Holds name status unsaid said = ((status ≡ 2) × SaysUnread name unsaid said)
+    ⊎ ((status ≡ 1) × ReportsFile Holds name unsaid said)
+
+abbrev pub HasNoInclude : List Declaration → Type 0
+HasNoInclude declarations = All (λ d. (path : Vec ℕ) → ¬ (d.item ≡ Include path)) declarations

@@ -1,11 +1,11 @@
 //! The files of a schema: each is read once, after its includes.
 
-ghost use Rattle.std.specs.Prelude.{◌≡◌, ◌≢◌, ◌<◌, ◌++◌, ◌∷◌, [], IfOk, IfErr, IfSome, OnOk};
+ghost use Rattle.std.specs.Prelude.{◌≡◌, ◌≢◌, ◌<◌, ◌++◌, ◌∷◌, [], IfOk, IfErr, IfNone, IfSome, OnOk};
 ghost use Rattle.std.specs.String.{string_bytes};
 ghost use Rattle.planus_commands.specs.Outcomes.{HasTokens, IsSpelled};
 ghost use Rattle.planus_commands.specs.Files.{AreRead, EndsWith, IsTextOf, MeansFile};
-ghost use Rattle.planus_commands.specs.Sources.{IsSource, status_in};
-ghost use Rattle.planus_layout.specs.declared.schema.Schema.{Schema};
+ghost use Rattle.planus_commands.specs.Files.{SaysUnread, FailsReading, HasNoInclude};
+ghost use Rattle.planus_commands.specs.Sources.{IsSource, LoadsFile, HasNoSchema, ChecksFile};
 ghost use Rattle.std.specs.Io.KnownBytes.{Keeps};
 
 use crate::checking::{File, resolve_or_report};
@@ -69,6 +69,8 @@ pub fn bytes_of<F: Files, X: Write>(
         F.holds files.now name.now bytes.items)) }
     ensures kept { IfOk result (λ found. IfSome found (λ _.
         Keeps (X.contents errors.old) (X.contents errors.new))) }
+    ensures unread { IfOk result (λ found. IfNone found
+        (SaysUnread name.now (X.contents errors.old) (X.contents errors.new))) }
 {
     match files.read(alloc, name) {
         Ok(bytes) if bytes.len() <= GREATEST_TEXT => Ok(Some(bytes)),
@@ -96,6 +98,8 @@ pub fn text_of<F: Files, X: Write>(
         IsTextOf (F.holds files.now) name.now text.items)) }
     ensures kept { IfOk result (λ found. IfSome found (λ _.
         Keeps (X.contents errors.old) (X.contents errors.new))) }
+    ensures unread { IfOk result (λ found. IfNone found
+        (SaysUnread name.now (X.contents errors.old) (X.contents errors.new))) }
 {
     match bytes_of(files, alloc, name, errors)? {
         None => Ok(None),
@@ -163,7 +167,9 @@ fn read_file<F: Files, X: Write>(
 ) -> Result<Result<Source, u8>, RunError>
     ensures source { IfOk result (λ read. IfOk read (λ source.
         IsSource (F.holds files.now) name.now source)) }
-    ensures status { IfOk result (λ read. IfErr read (λ status. status ≢ 0)) }
+    ensures failed { IfOk result (λ read. IfErr read (λ status.
+        FailsReading (F.holds files.now) name.now status
+        (X.contents errors.old) (X.contents errors.new))) }
     ensures kept { IfOk result (λ read. IfOk read (λ _.
         Keeps (X.contents errors.old) (X.contents errors.new))) }
 {
@@ -221,6 +227,10 @@ fn load_file<F: Files, X: Write>(
         (AreRead (F.holds files.now) sources.new.files.items sources.new.declarations.items) }
     ensures last { IfOk result (λ status. status ≡ 0
         → EndsWith sources.new.files.items name.now) }
+    ensures loads { IfOk result (λ status. LoadsFile (F.holds files.now) name.now status
+        sources.old.files.items sources.new.files.items
+        sources.old.declarations.items sources.new.declarations.items
+        (X.contents errors.old) (X.contents errors.new)) }
     ensures kept { IfOk result (λ status. status ≡ 0
         → Keeps (X.contents errors.old) (X.contents errors.new)) }
 {
@@ -248,6 +258,8 @@ fn load_includes<F: Files, X: Write>(
     requires are { AreRead (F.holds files.now)
         sources.old.files.items sources.old.declarations.items }
     requires is { IsSpelled source.now.file.text.items source.now.declarations.items }
+    ensures alone { IfOk result (λ status. HasNoInclude source.now.declarations.items
+        → (status ≡ 0) × (sources.new ≡ sources.old)) }
     ensures read { OnOk result
         (AreRead (F.holds files.now) sources.new.files.items sources.new.declarations.items) }
     ensures kept { IfOk result (λ status. status ≡ 0
@@ -291,7 +303,9 @@ pub fn schema_of<F: Files, X: Write>(
     ensures means { IfOk result (λ found. IfOk found (λ schema.
         MeansFile (F.holds files.now) name.now schema
         (X.contents errors.old) (X.contents errors.new))) }
-    ensures status { IfOk result (λ found. IfErr found (λ status. status ≢ 0)) }
+    ensures none { IfOk result (λ found. IfErr found (λ status.
+        HasNoSchema (F.holds files.now) name.now status
+        (X.contents errors.old) (X.contents errors.new))) }
 {
     let mut sources = Sources {
         begun: Vec::new(alloc),
@@ -303,17 +317,16 @@ pub fn schema_of<F: Files, X: Write>(
     if status != CLEAN {
         return Ok(Err(status));
     }
-    let schema = resolve_or_report(alloc, &sources.files, &sources.declarations, errors)?;
-    Ok(schema.ok_or(FAULTY))
+    match resolve_or_report(alloc, &sources.files, &sources.declarations, errors)? {
+        Some(schema) => Ok(Ok(schema)),
+        None => Ok(Err(FAULTY)),
+    }
 }
 
-fn status_of(found: Result<Schema, u8>) -> u8
-    ensures { result ≡ status_in found }
+fn clean(_schema: Schema) -> u8
+    ensures { result ≡ 0 }
 {
-    match found {
-        Ok(_) => CLEAN,
-        Err(status) => status,
-    }
+    CLEAN
 }
 
 /// Reads a file and all that it includes, and reports their faults. Returns the exit status, 0 only
@@ -325,12 +338,13 @@ pub fn check_file<F: Files, X: Write>(
     name: &str,
     errors: &mut X,
 ) -> Result<u8, RunError>
-    ensures { IfOk result (λ status. status ≡ 0 → (schema : Schema)
-        × MeansFile (F.holds files.now) name.now schema
+    ensures { IfOk result (λ status. ChecksFile (F.holds files.now) name.now status
         (X.contents errors.old) (X.contents errors.new)) }
 {
-    let found = schema_of(files, alloc, folders, name, errors)?;
-    Ok(status_of(found))
+    match schema_of(files, alloc, folders, name, errors)? {
+        Ok(schema) => Ok(clean(schema)),
+        Err(status) => Ok(status),
+    }
 }
 
 fn name_of(alloc: Global, name: &str) -> Result<String, AllocError> {

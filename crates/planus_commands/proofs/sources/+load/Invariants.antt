@@ -1,6 +1,6 @@
 use Rattle.std.proofs.Common.{◌≡◌, ◌+◌, ◌*◌}
 use Rattle.std.specs.Io.KnownBytes.{Keeps}
-use Rattle.planus_commands.specs.Files.{AreRead}
+use Rattle.planus_commands.specs.Files.{AreRead, HasNoInclude}
 use Rattle.planus_commands.proofs.sources.+load.Given as goal
 
 -- fewer files are left at each include
@@ -17,5 +17,6 @@ abbrev pub invariant-load_includes-loop-declaration : goal.invariant-load_includ
 invariant-load_includes-loop-declaration g l =
     record {
       read : AreRead (g.F.Files.holds l.files) l.sources.files.items l.sources.declarations.items;
+      alone : HasNoInclude l.source.declarations.items → (l.worst ≡ 0) × (l.sources ≡ l.initial.sources);
       kept : l.worst ≡ 0 → Keeps (g.X.Write.contents l.initial.errors) (g.X.Write.contents l.errors);
     }
