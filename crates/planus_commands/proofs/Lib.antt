@@ -4,3 +4,4 @@ pub mod Nearby
 pub mod SpelledFiles
 pub mod Sized
 pub mod LoadedFiles
+pub mod Seen

@@ -1,8 +1,8 @@
 -- Texts as a terminal may show them.
-use Rattle.std.specs.Prelude.{ℕ, ◌-◌, ◌==◌, ◌&&◌, ◌||◌, not, nat_lt, Bool, List, [], ◌∷◌, ◌++◌}
-use Rattle.std.specs.Prelude.{take, if◌then◌else◌}
+use Rattle.std.specs.Prelude.{◌≡◌, ℕ, ◌-◌, ◌==◌, ◌&&◌, ◌||◌, not, nat_lt, Bool, false, List, [], ◌∷◌}
+use Rattle.std.specs.Prelude.{◌++◌, take, if◌then◌else◌}
 use Rattle.std.specs.List.{list_any}
-use Rattle.std.specs.Str.{chars, is_utf8}
+use Rattle.std.specs.Str.{chars, is_utf8, IsUtf8}
 use Rattle.planus_dump.specs.Lines.{hex_of, is_unseen}
 
 -- a control character but a tab, or a mark that turns the direction of text
@@ -39,3 +39,8 @@ shown_from kept (b ∷ bs) =
 -- A character that is seen stays; each other byte is `\x` and two digits.
 abbrev pub shown : List ℕ → List ℕ
 shown bytes = shown_from 0 bytes
+
+-- a text in UTF-8, each character of which is seen
+pub record IsSeenText (bytes : List ℕ) : Type 0 where
+  pub utf8 : IsUtf8 bytes
+  pub seen : list_any is_hidden (chars bytes) ≡ false

@@ -7,6 +7,7 @@ mod buffers;
 mod checking;
 mod files;
 mod include;
+pub mod laws;
 mod libraries;
 mod message;
 mod near;
