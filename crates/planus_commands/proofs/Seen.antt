@@ -1,9 +1,9 @@
 -- What is shown is seen.
 use Rattle.std.specs.Prelude.{zero, suc, not, nat_lt, ◌&&◌, ◌||◌, ◌==◌, if◌then◌else◌}
-use Rattle.std.proofs.Common.{◌≡◌, ◌<◌, ◌≤◌, ◌+◌, ◌-◌, ◌/◌, ◌%◌, ℕ, Bool, true, false, List, [], ◌∷◌, ◌++◌, length, take, drop, get_or, length-drop, refl, sym, ap, ◌∙◌, subst, arith, append_assoc}
+use Rattle.std.proofs.Common.{◌≡◌, ◌<◌, ◌≤◌, ◌+◌, ◌-◌, ◌/◌, ◌%◌, ℕ, Bool, true, false, List, [], ◌∷◌, ◌++◌, length, take, drop, get_or, length-drop, refl, sym, ap, ◌∙◌, subst, arith}
 use Rattle.std.specs.Char.{digit_char}
 use Rattle.std.specs.List.{All, list_any}
-use Rattle.std.specs.Str.{chars, is_utf8, IsUtf8, IsAscii}
+use Rattle.std.specs.Str.{chars, is_utf8, IsAscii}
 use Rattle.std.proofs.lemmas.Str.{IsUtf8-from_is_utf8, IsUtf8-append, chars-append, IsUtf8-from_ascii, chars-IsAscii, chars-nil}
 use Rattle.std.proofs.lemmas.List.Folds.{list_any-append}
 use Rattle.std.proofs.lemmas.List.{get_or-drop}

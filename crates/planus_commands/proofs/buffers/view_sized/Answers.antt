@@ -1,4 +1,4 @@
-use Rattle.std.proofs.Common.{◌≡◌, ◌≢◌, ◌∷◌, [], length, rules, subst, arith}
+use Rattle.std.proofs.Common.{◌≡◌, ◌≢◌, ◌∷◌, [], length, rules, subst}
 use Rattle.planus_commands.specs.Buffers.{look_of, ViewsSized}
 use Rattle.planus_commands.proofs.Sized.{ended, ended_early}
 use Rattle.planus_commands.proofs.buffers.view_sized.Goals as goal

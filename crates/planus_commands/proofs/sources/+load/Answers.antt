@@ -1,4 +1,4 @@
-use Rattle.std.proofs.Common.{subst, ap, rules, ◌∙◌, ◌++◌, ◌∷◌, [], inl, inr}
+use Rattle.std.proofs.Common.{subst, ap, rules, ◌∙◌, ◌++◌, ◌∷◌, [], inr}
 use Rattle.std.specs.Prelude.{IfOk}
 use Rattle.planus_commands.specs.Sources.{IsSource}
 use Rattle.planus_commands.proofs.SpelledFiles.{spelled_tokens, read_more}
