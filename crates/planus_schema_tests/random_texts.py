@@ -24,7 +24,13 @@ WORDS += ["include ", "A", "B", "a", "b", "int", "ubyte", "string", "id", "key",
 WORDS += [*"{}()[]:;,=.", "\n"]
 
 # A fault: its place, what is wrong, the line, and a mark below.
-REPORT = re.compile(rb"(\d+)\.fbs:(\d+):(\d+): [^\n]+\n([^\n]*)\n[ \t]*\^+\n")
+REPORT = re.compile(rb"(\d+)\.fbs:(\d+):(\d+): [^\n]+\n([^\n]*\n[ \t]*\^\n)")
+
+# What a terminal must not get: control characters but tabs, and marks of direction.
+HIDDEN = re.compile("[\0-\x08\n-\x1f\x7f-\x9f\u061c\u200e\u200f\u202a-\u202e\u2066-\u2069]")
+
+# So many bytes of a line are shown on either side of a place.
+BESIDE = 80
 
 
 def cut(good):
@@ -44,11 +50,27 @@ def random_words(_good):
     return "".join(random.choices(WORDS, k=random.randrange(64))).encode()
 
 
+def shown(line):
+    """The bytes of a line as a terminal may show them."""
+    escaped = lambda found: "".join(f"\\x{byte:02x}" for byte in found[0].encode())
+    return HIDDEN.sub(escaped, line.decode(errors="backslashreplace"))
+
+
+def marked(line, column):
+    """What is shown of a line, and below it a mark at a column."""
+    front, rest = line[: column - 1], line[column - 1 :].split(b"\r")[0]
+    before = ("..." if len(front) > BESIDE else "") + shown(front[-BESIDE:])
+    after = shown(rest[:BESIDE]) + ("..." if len(rest) > BESIDE else "")
+    return before + after + "\n" + re.sub("[^\t]", " ", before) + "^\n"
+
+
 def lies_in(text, report):
-    """Whether the fault of a report lies in a text."""
+    """Whether the fault of a report lies in a text, and is marked in its line."""
     line, column = int(report[2]), int(report[3])
     lines = text.split(b"\n")
-    return line <= len(lines) and lines[line - 1] == report[4] and column <= len(report[4]) + 1
+    if line > len(lines) or column > len(lines[line - 1]) + 1:
+        return False
+    return marked(lines[line - 1], column).encode() == report[4]
 
 
 def are_faults(texts, told):
