@@ -1,5 +1,7 @@
 -- The names of crates.
-use Rattle.std.specs.Prelude.{ℕ, Bool, false, ◌&&◌, ◌||◌, ◌==◌, not, List, [], ◌∷◌, codes, nat_eq}
+use Rattle.std.specs.Prelude.{◌≡◌, ℕ, Bool, false, ◌&&◌, ◌||◌, ◌==◌, not, List, [], ◌∷◌, codes, nat_eq}
+use Rattle.std.specs.Prelude.{Option}
+use Rattle.std.specs.Io.KnownBytes.{Appends}
 use Rattle.std.specs.List.{list_all, starts_with}
 use Rattle.std.specs.Int.{is_in_range}
 use Rattle.planus_plan.specs.Names.{is_in, is_reserved}
@@ -72,3 +74,8 @@ is_crate_name w = is_word w && not (is_reserved w || is_library w || is_of_planu
 -- what a repository says of the crate: it stands on `planus`
 abbrev pub crates_line : List ℕ → List ℕ
 crates_line name = line_of (codes "the line of crates.txt is `") name (codes ": planus`")
+
+-- It was said that no crate can have some name.
+abbrev pub RefusesName : Option (List ℕ) → Option (List ℕ) → Type 0
+RefusesName unsaid said = (name : List ℕ) × (is_crate_name name ≡ false)
+    × Appends unsaid said (line_of (codes "no crate can have the name `") name (codes "`"))

@@ -1,8 +1,8 @@
 //! The command `rattle`: the code of a schema as a crate's files.
 
-ghost use Rattle.std.specs.Prelude.{◌≡◌, OnOk};
+ghost use Rattle.std.specs.Prelude.{◌≡◌, true, IfOk, OnOk, MatchOption};
 ghost use Rattle.std.specs.Io.KnownBytes.{Appends};
-ghost use Rattle.planus_commands.specs.Printing.{crates_line};
+ghost use Rattle.planus_commands.specs.Printing.{crates_line, RefusesName};
 ghost use Rattle.planus_commands.specs.Printing.{is_small_letter as is_small_letter_lem};
 ghost use Rattle.planus_commands.specs.Printing.{is_in_name as is_in_name_lem};
 ghost use Rattle.planus_commands.specs.Printing.{is_word as is_word_lem};
@@ -73,6 +73,26 @@ fn is_crate_name(word: &[u8]) -> bool
     ensures { result ≡ is_crate_name_lem word.now }
 {
     is_word(word) && !(is_reserved(word) || is_library(word) || is_of_planus(word))
+}
+
+/// Returns the folder of a crate, or reports that no crate can have its last word as its name.
+fn folder_or_report<'a, X: Write>(
+    alloc: Global,
+    path: &'a str,
+    check: bool,
+    errors: &mut X,
+) -> Result<Option<Folder<'a>>, RunError>
+    ensures { IfOk result (λ found. MatchOption found
+        (RefusesName (X.contents errors.old) (X.contents errors.new))
+        (λ folder. is_crate_name_lem folder.name.now ≡ true)) }
+{
+    let path = path.trim_end_matches('/');
+    let name = last_word(path);
+    if is_crate_name(name.as_bytes()) {
+        return Ok(Some(Folder { path, name, check }));
+    }
+    say(alloc, errors, "no crate can have the name `", name, "`")?;
+    Ok(None)
 }
 
 fn holds(rt: &HostRuntime, name: &str, bytes: &[u8]) -> bool {
@@ -169,7 +189,9 @@ fn print_to<X: Write>(
     schema: &Schema,
     folder: Folder<'_>,
     errors: &mut X,
-) -> Result<u8, RunError> {
+) -> Result<u8, RunError>
+    requires { is_crate_name_lem folder.name.now ≡ true }
+{
     match print_crate(rt.alloc(), schema, folder.name) {
         Ok(files) => {
             let status = print_files(rt, folder, &files, errors)?;
@@ -191,21 +213,9 @@ pub fn print_code<X: Write>(
     words: &Words<'_>,
     errors: &mut X,
 ) -> Result<u8, RunError> {
-    let path = words.output.unwrap_or("").trim_end_matches('/');
-    let name = last_word(path);
-    if !is_crate_name(name.as_bytes()) {
-        return fail(
-            rt.alloc(),
-            errors,
-            "no crate can have the name `",
-            name,
-            "`",
-        );
-    }
-    let folder = Folder {
-        path,
-        name,
-        check: words.check,
+    let path = words.output.unwrap_or("");
+    let Some(folder) = folder_or_report(rt.alloc(), path, words.check, errors)? else {
+        return Ok(FAILED);
     };
     let Some(schema) = words.files.first() else {
         return Ok(FAILED);
