@@ -2,7 +2,8 @@
 use Rattle.std.proofs.Common.{◌≡◌, ℕ, Bool, true, false, List, [], ◌∷◌, ◌++◌, map, refl, sym, ap, subst, ◌∙◌, append_assoc}
 use Rattle.std.specs.Prelude.{Option, Some, None, codes, if◌then◌else◌}
 use Rattle.std.specs.List.{list_any, list_all, IsDistinct}
-use Rattle.std.proofs.lemmas.List.{map_push}
+use Rattle.std.specs.Option.{option_map}
+use Rattle.std.proofs.lemmas.List.{map_push, append-nil}
 use Rattle.std.proofs.lemmas.List.Folds.{list_all-append}
 use Rattle.planus_syntax.specs.Values.{Name, VariantV, names_of, digits_of, path_of, attribute_of}
 use Rattle.planus_syntax.specs.declared.value.Enumeration.{Enumeration}
@@ -11,15 +12,15 @@ use Rattle.planus_layout.specs.Distinct.{is_in}
 use Rattle.planus_schema.specs.declared.fault.Problem.TheVariants as problem
 use Rattle.planus_schema.specs.declared.fault.Stop.{Stop}
 use Rattle.planus_schema.specs.declared.fault.Stop.TheVariants as stop
-use Rattle.planus_schema.specs.Names.{has}
+use Rattle.planus_schema.specs.Names.{has, listed, also_said}
 use Rattle.planus_schema.specs.Wrong.{Broken, broken, when, first, Stops}
-use Rattle.planus_schema.specs.WrongEnums.{value_said, wrong_value, wrong_values, wrong_names, wrong_enum}
+use Rattle.planus_schema.specs.WrongEnums.{wrong_value, wrong_values, wrong_names, wrong_enum}
 use Rattle.planus_schema.proofs.FaultLemmas.{skip, passes, stops_first, stops_now}
 use Rattle.planus_layout.specs.declared.number.Number.{Number}
 use Rattle.planus_layout.specs.declared.scalar.Scalar.{Scalar}
 use Rattle.planus_layout.specs.declared.schema.EnumValue.{EnumValue}
 use Rattle.planus_layout.specs.Numbers.{fits, scalar_named}
-use Rattle.planus_schema.specs.Enums.{integer_in, integer_type, integer_type_of, is_integer_type, same_number, number_of_value, number_of, number_said, numbers_from, settled, settled_said, is_spelled, IsValueAdded}
+use Rattle.planus_schema.specs.Enums.{integer_in, integer_type, integer_type_of, is_integer_type, same_number, number_of_value, number_said, settled_said, value_said, values_said, IsValueAdded}
 use Rattle.planus_layout.proofs.Lists.{distinct_push, distinct_none, list_any-map}
 
 pub value_added : (s : Scalar) (v : VariantV) (n : Number) (old new : List EnumValue) (x : EnumValue) → new ≡ old ++ x ∷ [] → x.name.items ≡ v.name → names_of x.docs.items ≡ v.docs → x.number ≡ n → fits s n ≡ true → list_any (λ v. same_number v.number n) old ≡ false → IsValueAdded s v n old new
@@ -39,15 +40,23 @@ no_values xs e = rw e (distinct_none same_number)
 pub numbers_any : (vs : List EnumValue) (n : Number) → list_any (λ m. same_number m n) (map number_of_value vs) ≡ list_any (λ v. same_number v.number n) vs
 numbers_any vs n = list_any-map (λ m. same_number m n) number_of_value vs
 
-pub spelled_push : (vs : List VariantV) (v : VariantV) → list_all is_spelled vs ≡ true → is_spelled v ≡ true → list_all is_spelled (vs ++ v ∷ []) ≡ true
-spelled_push vs v h e = list_all-append is_spelled vs (v ∷ []) ∙ rw (h, e) refl
+pub before_none : {A : Type 0} (o : Option (List A)) → option_map (λ xs. [] ++ xs) o ≡ o
+before_none None = refl
+before_none (Some xs) = refl
 
-pub numbers_next : (flags : Bool) (previous : Option Number) (front : List Number) (vs : List VariantV) (v : VariantV) (rest : List VariantV) (all : List Number) (n value : Number) → vs ≡ v ∷ rest → front ++ map (settled flags) (numbers_from previous vs) ≡ all → n ≡ number_of previous v.value → value ≡ settled flags n → (front ++ value ∷ []) ++ map (settled flags) (numbers_from (Some n) rest) ≡ all
+numbers_moved : (front : List Number) (value : Number) (o : Option (List Number)) → option_map (λ ns. (front ++ value ∷ []) ++ ns) o ≡ option_map (λ ns. front ++ ns) (also_said (Some value) o)
+numbers_moved front value None = refl
+numbers_moved front value (Some ns) = ap Some (append_assoc front (value ∷ []) ns)
+
+pub numbers_next : (flags : Bool) (previous : Option Number) (front : List Number) (vs : List VariantV) (v : VariantV) (rest : List VariantV) (all : Option (List Number)) (n value : Number) → vs ≡ v ∷ rest → option_map (λ ns. front ++ ns) (values_said flags previous vs) ≡ all → Some n ≡ number_said previous v.value → Some value ≡ settled_said flags n → option_map (λ ns. (front ++ value ∷ []) ++ ns) (values_said flags (Some n) rest) ≡ all
 numbers_next flags previous front vs v rest all n value here same is e =
-    append_assoc front (value ∷ []) (map (settled flags) (numbers_from (Some n) rest))
-    ∙ ap (λ m. front ++ m ∷ map (settled flags) (numbers_from (Some n) rest)) e
-    ∙ ap (λ m. front ++ settled flags m ∷ map (settled flags) (numbers_from (Some m) rest)) is
-    ∙ ap (λ ws. front ++ map (settled flags) (numbers_from previous ws)) (sym here) ∙ same
+    numbers_moved front value (values_said flags (Some n) rest)
+    ∙ ap (λ o. option_map (λ ns. front ++ ns) (also_said o (values_said flags (Some n) rest))) e
+    ∙ ap (λ o. option_map (λ ns. front ++ ns) (also_said (value_said flags o) (values_said flags o rest))) is
+    ∙ ap (λ ws. option_map (λ ns. front ++ ns) (values_said flags previous ws)) (sym here) ∙ same
+
+pub numbers_end : (front : List Number) (all : Option (List Number)) → option_map (λ ns. front ++ ns) (Some []) ≡ all → all ≡ Some front
+numbers_end front all e = sym e ∙ ap Some (append-nil front)
 
 pub value_is : (flags : Bool) (previous : Option Number) (w : Option (List ℕ)) (n value : Number) → Some n ≡ number_said previous w → Some value ≡ settled_said flags n → value_said flags (number_said previous w) ≡ Some value
 value_is flags previous w n value e f = ap (value_said flags) (sym e) ∙ sym f
@@ -61,10 +70,10 @@ pub no_value_stops : (s : Scalar) (flags : Bool) (previous : Option Number) (val
 no_value_stops s flags previous values vs v rest all here same said =
     value_stops s flags previous values vs v rest all None (stop.Wrong problem.ValueOutOfRange v.left) here same said refl
 
-pub values_next : (s : Scalar) (flags : Bool) (previous : Option Number) (values : List Number) (vs : List Variant) (v : Variant) (rest : List Variant) (all : Option Broken) (n : Number) (value : Number) (values' : List Number) → vs ≡ v ∷ rest → wrong_values s flags previous values vs ≡ all → value_said flags (number_said previous (digits_of v.value)) ≡ Some value → wrong_value s values v (Some value) ≡ None → n ≡ number_of previous (digits_of v.value) → value ≡ settled flags n → values' ≡ values ++ value ∷ [] → wrong_values s flags (Some n) values' rest ≡ all
-values_next s flags previous values vs v rest all n value values' here same said none is e added =
-    ap (λ ws. wrong_values s flags (Some n) ws rest) (added ∙ ap (λ m. values ++ m ∷ []) e)
-    ∙ ap (λ m. wrong_values s flags (Some m) (values ++ settled flags m ∷ []) rest) is
+pub values_next : (s : Scalar) (flags : Bool) (previous : Option Number) (values : List Number) (vs : List Variant) (v : Variant) (rest : List Variant) (all : Option Broken) (n : Number) (value : Number) (values' : List Number) → vs ≡ v ∷ rest → wrong_values s flags previous values vs ≡ all → value_said flags (number_said previous (digits_of v.value)) ≡ Some value → wrong_value s values v (Some value) ≡ None → Some n ≡ number_said previous (digits_of v.value) → values' ≡ values ++ value ∷ [] → wrong_values s flags (Some n) values' rest ≡ all
+values_next s flags previous values vs v rest all n value values' here same said none is added =
+    ap (λ ws. wrong_values s flags (Some n) ws rest) (added ∙ ap (λ o. values ++ listed o) (sym said))
+    ∙ ap (λ o. wrong_values s flags o (values ++ listed (value_said flags (number_said previous (digits_of v.value)))) rest) is
     ∙ sym (skip (wrong_value s values v (value_said flags (number_said previous (digits_of v.value)))) _ (ap (wrong_value s values v) said ∙ none))
     ∙ ap (wrong_values s flags previous values) (sym here) ∙ same
 

@@ -1,6 +1,6 @@
 -- Each fault of a use is in one of the files.
-use Rattle.std.proofs.Common.{◌≡◌, ℕ, zero, suc, ◌+◌, ◌<◌, ◌≤◌, Bool, true, false, cond, ◌&&◌, List, [], ◌∷◌, ◌++◌, length, map, replicate, refl, subst, arith}
-use Rattle.std.specs.Prelude.{Option, Some, None, slice_get, slice_set, nat_eq, nat_lt, codes}
+use Rattle.std.proofs.Common.{◌≡◌, ℕ, zero, suc, ◌+◌, ◌<◌, ◌≤◌, Bool, true, false, cond, List, [], ◌∷◌, ◌++◌, length, refl, arith}
+use Rattle.std.specs.Prelude.{Option, Some, None, nat_eq, codes}
 use Rattle.std.specs.Option.{option_map}
 use Rattle.std.specs.List.{All}
 use Rattle.std.specs.Global.{Vec}
@@ -28,7 +28,7 @@ use Rattle.planus_schema.specs.Tables.{nested_name}
 use Rattle.planus_schema.specs.Unions.{wanted_of}
 use Rattle.planus_schema.specs.Wrong.{path_in_kind}
 use Rattle.planus_schema.specs.WrongUnions.{target_path}
-use Rattle.planus_schema.specs.Uses.{SpotV, UseV, EventV, begins, uses, WaitingV, used, path_used, text_used, nested_used, field_used, fields_used, member_used, members_used, method_used, methods_used, item_used, begins_if, declaration_used, declarations_used, files_used, put_at, single_word, wait_as, wait, tells, use_fault, after_use, bound_fault, begin_faults, after_begin, event_faults, after_event, events_faults, nothing_waits, taken_otherwise, ending}
+use Rattle.planus_schema.specs.Uses.{SpotV, UseV, EventV, begins, uses, WaitingV, used, path_used, text_used, nested_used, field_used, fields_used, member_used, members_used, method_used, methods_used, item_used, begins_if, declaration_used, declarations_used, files_used, put_at, single_word, wait_as, tells, use_fault, after_use, bound_fault, begin_faults, event_faults, after_event, events_faults, nothing_waits, taken_otherwise, ending}
 
 abbrev Within : ℕ → Fault → Type 0
 Within n f = f.file < n

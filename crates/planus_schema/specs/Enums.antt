@@ -8,41 +8,20 @@ use Rattle.planus_layout.specs.declared.number.Number.{Number}
 use Rattle.planus_layout.specs.declared.scalar.Scalar.{Scalar}
 use Rattle.planus_layout.specs.declared.schema.Enum.{Enum}
 use Rattle.planus_layout.specs.declared.schema.EnumValue.{EnumValue}
-use Rattle.planus_layout.specs.Numbers.{integer_of, is_integer, zero_number, following, fits}
+use Rattle.planus_layout.specs.Numbers.{zero_number, fits}
 use Rattle.planus_layout.specs.Numbers.{integer_said, following_said}
 use Rattle.planus_layout.specs.Numbers.{scalar_named, is_float, is_bool}
-use Rattle.planus_schema.specs.Names.{has}
+use Rattle.planus_schema.specs.Names.{has, also_said}
 use Rattle.planus_layout.specs.Distinct.{AreDistinct}
 
 -- ---- numbers
 
-abbrev pub next_number : Option Number → Number
-next_number None = zero_number
-next_number (Some n) = following n
-
--- the given number, or the next
-abbrev pub number_of : Option Number → Option (List ℕ) → Number
-number_of previous None = next_number previous
-number_of previous (Some digits) = integer_of digits
-
-abbrev pub numbers_from : Option Number → List VariantV → List Number
-numbers_from previous [] = []
-numbers_from previous (v ∷ vs) =
-    number_of previous v.value ∷ numbers_from (Some (number_of previous v.value)) vs
-
--- each given value is an integer
-abbrev pub is_spelled : VariantV → Bool
-is_spelled v = is_spelled_value v.value
-  where
-    is_spelled_value : Option (List ℕ) → Bool
-    is_spelled_value None = true
-    is_spelled_value (Some digits) = is_integer digits
-
--- the given number, or the next, if it is below 2^64
+-- zero, or one more than that before, if it is below 2^64
 abbrev pub next_said : Option Number → Option Number
 next_said None = Some zero_number
 next_said (Some n) = following_said n
 
+-- the given number, or the next; `None` where it is no integer below 2^64
 abbrev pub number_said : Option Number → Option (List ℕ) → Option Number
 number_said previous None = next_said previous
 number_said previous (Some digits) = integer_said digits
@@ -57,22 +36,26 @@ numbers_said previous [] = []
 numbers_said previous (v ∷ vs) =
     also (number_said previous v.value) (numbers_said (number_said previous v.value) vs)
 
--- with `bit_flags` a number is the index of a bit
-abbrev pub settled : Bool → Number → Number
-settled true n = record { negative = false; magnitude = 2 ^ n.magnitude }
-settled false n = n
-
--- with `bit_flags` one of 64 bits
+-- with `bit_flags` a number is the index of one of 64 bits
 abbrev pub settled_said : Bool → Number → Option Number
 settled_said false n = Some n
-settled_said true n =
-    if not n.negative && nat_lt n.magnitude 64 then Some (settled true n) else None
+settled_said true n = if not n.negative && nat_lt n.magnitude 64
+    then Some (record { negative = false; magnitude = 2 ^ n.magnitude }) else None
+
+-- the value of a variant of this number
+abbrev pub value_said : Bool → Option Number → Option Number
+value_said flags None = None
+value_said flags (Some n) = settled_said flags n
+
+-- the values of these variants, after the number `previous`; `None` where one has none
+abbrev pub values_said : Bool → Option Number → List VariantV → Option (List Number)
+values_said flags previous [] = Some []
+values_said flags previous (v ∷ vs) =
+    also_said (value_said flags (number_said previous v.value))
+    (values_said flags (number_said previous v.value) vs)
 
 abbrev pub is_flags : EnumerationV → Bool
 is_flags e = has (codes "bit_flags") e.attributes
-
-abbrev pub enum_numbers : EnumerationV → List Number
-enum_numbers e = map (settled (is_flags e)) (numbers_from None e.variants)
 
 -- ---- what an enum is
 
@@ -111,8 +94,7 @@ pub record AreValues (s : Scalar) (flags : Bool) (vs : List VariantV) (values : 
     : Type 0 where
   pub names : map (λ x. x.name.items) values ≡ map (λ v. v.name) vs
   pub docs : map (λ x. names_of x.docs.items) values ≡ map (λ v. v.docs) vs
-  pub spelled : list_all is_spelled vs ≡ true
-  pub numbers : map number_of_value values ≡ map (settled flags) (numbers_from None vs)
+  pub numbers : values_said flags None vs ≡ Some (map number_of_value values)
   pub within : list_all (λ x. fits s x.number) values ≡ true
   pub distinct : IsDistinct same_number (map number_of_value values)
 
@@ -130,5 +112,5 @@ pub record SaysEnum (d : EnumerationV) (e : Enum) : Type 0 where
   pub flags : e.flags ≡ is_flags d
   pub names : map (λ v. v.name.items) e.values.items ≡ map (λ v. v.name) d.variants
   pub docs : map (λ v. names_of v.docs.items) e.values.items ≡ map (λ v. v.docs) d.variants
-  pub spelled : list_all is_spelled d.variants ≡ true
-  pub numbers : map number_of_value e.values.items ≡ enum_numbers d
+  pub numbers : values_said (is_flags d) None d.variants
+      ≡ Some (map number_of_value e.values.items)

@@ -117,6 +117,16 @@ abbrev pub is_set : {A : Type 0} → Option A → Bool
 is_set None = false
 is_set (Some x) = true
 
+-- none or one
+abbrev pub listed : {A : Type 0} → Option A → List A
+listed None = []
+listed (Some x) = x ∷ []
+
+-- one more before these, if there is one and there are these
+abbrev pub also_said : {A : Type 0} → Option A → Option (List A) → Option (List A)
+also_said None o = None
+also_said (Some x) o = option_map (λ xs. x ∷ xs) o
+
 -- ---- look-up
 
 abbrev pub has_name : List ℕ → HeadV → Bool

@@ -8,7 +8,7 @@ use Rattle.planus_layout.specs.declared.schema.Body.{Body}
 use Rattle.planus_layout.specs.declared.schema.Struct.{Struct}
 use Rattle.planus_layout.specs.declared.schema.StructField.{StructField}
 use Rattle.planus_layout.specs.declared.number.Number.{Number}
-use Rattle.planus_layout.specs.Numbers.{magnitude_of, integer_said}
+use Rattle.planus_layout.specs.Numbers.{integer_said}
 use Rattle.planus_layout.specs.Distinct.{Each2}
 use Rattle.planus_layout.specs.Layouts.{measure_in, greatest_alignment}
 use Rattle.planus_schema.specs.Names.{HeadV, SpaceV, type_named, setting, has, is_set}
@@ -26,32 +26,25 @@ pub record SaysStructField (hs : List HeadV) (space : SpaceV) (bodies : List Bod
   pub measure : measure_in bodies f.base ≡ Some (record { size = f.size; alignment = f.alignment })
   pub plain : is_plain d ≡ true
 
-abbrev pub literal_number : Option LiteralV → ℕ
-literal_number None = 0
-literal_number (Some (numeral w)) = magnitude_of w
-literal_number (Some (named p)) = 0
-literal_number (Some (quote w)) = 0
-literal_number (Some nothing) = 0
-
--- `force_align`, or the greatest alignment of the fields
-abbrev pub alignment_said : Option AttributeV → ℕ → ℕ
-alignment_said None greatest = greatest
-alignment_said (Some a) greatest = literal_number a.value
-
-pub record SaysStruct (hs : List HeadV) (space : SpaceV) (bodies : List Body) (d : RecordV)
-    (s : Struct) : Type 0 where
-  pub fields : Each2 (SaysStructField hs space bodies) d.fields s.fields.items
-  pub alignment : s.alignment
-      ≡ alignment_said (setting (codes "force_align") d.attributes)
-      (greatest_alignment s.fields.items)
-
 abbrev pub natural_of : Option Number → Option ℕ
 natural_of None = None
 natural_of (Some n) = if n.negative then None else Some n.magnitude
 
+-- the number of an attribute, if its value is one
 abbrev pub number_in : Option LiteralV → Option ℕ
 number_in None = None
 number_in (Some (numeral w)) = natural_of (integer_said w)
 number_in (Some (named p)) = None
 number_in (Some (quote w)) = None
 number_in (Some nothing) = None
+
+-- `force_align`, or the greatest alignment of the fields
+abbrev pub alignment_said : Option AttributeV → ℕ → Option ℕ
+alignment_said None greatest = Some greatest
+alignment_said (Some a) greatest = number_in a.value
+
+pub record SaysStruct (hs : List HeadV) (space : SpaceV) (bodies : List Body) (d : RecordV)
+    (s : Struct) : Type 0 where
+  pub fields : Each2 (SaysStructField hs space bodies) d.fields s.fields.items
+  pub alignment : alignment_said (setting (codes "force_align") d.attributes)
+      (greatest_alignment s.fields.items) ≡ Some s.alignment

@@ -2,25 +2,17 @@
 use Rattle.std.specs.Prelude.{◌≡◌, ℕ, ◌+◌, Bool, true, false, ◌&&◌, nat_le, nat_eq, List, [], ◌∷◌}
 use Rattle.std.specs.Prelude.{map, Option, Some, None, codes, if◌then◌else◌}
 use Rattle.std.specs.List.{IsDistinct, list_all}
+use Rattle.std.specs.Option.{option_map}
 use Rattle.planus_syntax.specs.Values.{PathV, MemberV, UnionV, names_of}
 use Rattle.planus_layout.specs.declared.schema.Base.TheVariants as base
 use Rattle.planus_layout.specs.declared.schema.Union.{Union}
 use Rattle.planus_layout.specs.declared.schema.UnionMember.{UnionMember}
-use Rattle.planus_layout.specs.Numbers.{magnitude_of, integer_said}
+use Rattle.planus_layout.specs.Numbers.{integer_said}
 use Rattle.planus_schema.specs.declared.lookup.Wanted.{Wanted}
 use Rattle.planus_schema.specs.declared.lookup.Wanted.TheVariants as wanted
 use Rattle.planus_schema.specs.Structs.{natural_of}
-use Rattle.planus_schema.specs.Names.{HeadV, SpaceV, words_of, dotted, base_as, has}
+use Rattle.planus_schema.specs.Names.{HeadV, SpaceV, words_of, dotted, base_as, has, also_said}
 use Rattle.planus_layout.specs.Distinct.{AreDistinct, Each2}
-
--- the given number, or one more than that before; `NONE` is 0
-abbrev pub tag_of : ℕ → Option (List ℕ) → ℕ
-tag_of previous None = previous + 1
-tag_of previous (Some digits) = magnitude_of digits
-
-abbrev pub tags_from : ℕ → List MemberV → List ℕ
-tags_from previous [] = []
-tags_from previous (m ∷ ms) = tag_of previous m.value ∷ tags_from (tag_of previous m.value) ms
 
 abbrev pub is_tag : ℕ → Bool
 is_tag n = nat_le 1 n && nat_le n 255
@@ -29,10 +21,16 @@ abbrev pub in_tags : Option ℕ → Option ℕ
 in_tags None = None
 in_tags (Some n) = if is_tag n then Some n else None
 
--- the same, if it is from 1 to 255
-abbrev pub tag_said : ℕ → Option (List ℕ) → Option ℕ
-tag_said previous None = in_tags (Some (previous + 1))
+-- the given number, or one more than that before, if it is from 1 to 255; `NONE` is 0
+abbrev pub tag_said : Option ℕ → Option (List ℕ) → Option ℕ
+tag_said previous None = in_tags (option_map (λ n. n + 1) previous)
 tag_said previous (Some digits) = in_tags (natural_of (integer_said digits))
+
+-- the tags of these members, after the tag `previous`; `None` where one has none
+abbrev pub tags_said : Option ℕ → List MemberV → Option (List ℕ)
+tags_said previous [] = Some []
+tags_said previous (m ∷ ms) =
+    also_said (tag_said previous m.value) (tags_said (tag_said previous m.value) ms)
 
 -- the name after a member's alias, or its own
 abbrev pub target_of : MemberV → PathV
@@ -69,4 +67,4 @@ pub record IsUnion (u : Union) : Type 0 where
 pub record SaysUnion (hs : List HeadV) (space : SpaceV) (d : UnionV) (u : Union) : Type 0 where
   pub plain : has (codes "bit_flags") d.attributes ≡ false
   pub members : Each2 (SaysMember hs space) d.members u.members.items
-  pub tags : map tag_in u.members.items ≡ tags_from 0 d.members
+  pub tags : tags_said (Some 0) d.members ≡ Some (map tag_in u.members.items)

@@ -5,9 +5,9 @@
 -- with dots for the one of exactly this full name. Until then each use of the same words is the same
 -- name, wherever it stands. Where that is not what a name means here, the schema is refused, so that
 -- no schema means one thing here and another to flatc.
-use Rattle.std.specs.Prelude.{ℕ, ◌+◌, ◌==◌, ◌&&◌, Bool, true, false, not, nat_eq, nat_lt, codes}
-use Rattle.std.specs.Prelude.{List, [], ◌∷◌, ◌++◌, length, map, position, if◌then◌else◌}
-use Rattle.std.specs.Prelude.{slice_get, slice_set, Option, Some, None, replicate}
+use Rattle.std.specs.Prelude.{ℕ, ◌+◌, ◌==◌, ◌&&◌, Bool, nat_eq, nat_lt, codes}
+use Rattle.std.specs.Prelude.{List, [], ◌∷◌, ◌++◌, length, position, if◌then◌else◌}
+use Rattle.std.specs.Prelude.{slice_set, Option, Some, None, replicate}
 use Rattle.std.specs.List.{list_any}
 use Rattle.std.specs.Option.{option_map}
 use Rattle.std.specs.Str.{bytes_eq}

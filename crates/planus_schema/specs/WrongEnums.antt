@@ -11,8 +11,8 @@ use Rattle.planus_layout.specs.declared.scalar.Scalar.{Scalar}
 use Rattle.planus_layout.specs.Numbers.{fits}
 use Rattle.planus_layout.specs.Distinct.{is_in}
 use Rattle.planus_schema.specs.declared.fault.Problem.TheVariants as problem
-use Rattle.planus_schema.specs.Names.{is_set, has}
-use Rattle.planus_schema.specs.Enums.{number_of, number_said, settled, settled_said, same_number}
+use Rattle.planus_schema.specs.Names.{is_set, has, listed}
+use Rattle.planus_schema.specs.Enums.{number_said, value_said, same_number}
 use Rattle.planus_schema.specs.Enums.{integer_type}
 use Rattle.planus_schema.specs.Wrong.{Broken, broken, when, first}
 
@@ -31,16 +31,12 @@ wrong_value s values v None = broken problem.ValueOutOfRange v.left
 wrong_value s values v (Some n) = first (when (not (fits s n)) problem.ValueOutOfRange v.left)
     (when (list_any (λ m. same_number m n) values) problem.ValueTaken v.left)
 
-abbrev pub value_said : Bool → Option Number → Option Number
-value_said flags None = None
-value_said flags (Some n) = settled_said flags n
-
 abbrev pub wrong_values : Scalar → Bool → Option Number → List Number → List Variant → Option Broken
 wrong_values s flags previous values [] = None
 wrong_values s flags previous values (v ∷ vs) =
-    let n = number_of previous (digits_of v.value) in
-    first (wrong_value s values v (value_said flags (number_said previous (digits_of v.value))))
-    (wrong_values s flags (Some n) (values ++ settled flags n ∷ []) vs)
+    let n = number_said previous (digits_of v.value) in
+    first (wrong_value s values v (value_said flags n))
+    (wrong_values s flags n (values ++ listed (value_said flags n)) vs)
 
 abbrev pub wrong_values_in : Option Scalar → Bool → List Variant → Option Broken
 wrong_values_in None flags vs = None

@@ -3,6 +3,7 @@ use Rattle.std.specs.Prelude.{ℕ, ◌+◌, max, Bool, true, false, ◌&&◌, �
 use Rattle.std.specs.Prelude.{codes}
 use Rattle.std.specs.Prelude.{if◌then◌else◌, List, [], ◌∷◌, ◌++◌, map, Option, Some, None}
 use Rattle.std.specs.Prelude.{slice_get}
+use Rattle.std.specs.Option.{option_map}
 use Rattle.planus_syntax.specs.Values.{Name, kind_of, attribute_of}
 use Rattle.planus_syntax.specs.declared.value.Attribute.{Attribute}
 use Rattle.planus_syntax.specs.declared.value.Field.{Field}
@@ -151,8 +152,9 @@ wrong_struct hs space ms r left =
 abbrev pub measure_laid : ℕ → ℕ → Measure
 measure_laid alignment end = record { size = next_multiple alignment end; alignment = alignment }
 
-abbrev pub struct_measure : List HeadV → SpaceV → List (Option Measure) → Record → Measure
+abbrev pub struct_measure : List HeadV → SpaceV → List (Option Measure) → Record
+    → Option Measure
 struct_measure hs space ms r =
-    measure_laid (alignment_said
-    (setting (codes "force_align") (map attribute_of r.attributes.items))
-    (greatest_after hs space ms 1 r.fields.items)) (end_after hs space ms 0 r.fields.items)
+    option_map (λ n. measure_laid n (end_after hs space ms 0 r.fields.items))
+    (alignment_said (setting (codes "force_align") (map attribute_of r.attributes.items))
+    (greatest_after hs space ms 1 r.fields.items))

@@ -1,12 +1,10 @@
 //! Enums.
 
-ghost use Rattle.std.specs.Prelude.{◌≡◌, ◌^◌, ◌<◌, true, false, map, IfOk, IfSome, [], Some, None};
+ghost use Rattle.std.specs.Prelude.{◌≡◌, ◌^◌, ◌<◌, true, false, map, IfOk, [], Some, None};
 ghost use Rattle.std.specs.List.{list_any};
 ghost use Rattle.planus_syntax.specs.Values.{path_of, variant_of, enumeration_of};
-ghost use Rattle.planus_schema.specs.Enums.{number_of as number_of_lem, settled};
 ghost use Rattle.planus_schema.specs.Enums.{same_number as same_number_lem, number_of_value};
 ghost use Rattle.planus_schema.specs.Enums.{SaysEnum, IsEnum};
-ghost use Rattle.planus_schema.specs.Enums.{is_spelled};
 ghost use Rattle.planus_schema.specs.Enums.{IsValueAdded, AreValues, number_said};
 ghost use Rattle.planus_schema.specs.Enums.{settled_said, integer_type as integer_type_lem};
 ghost use Rattle.planus_schema.specs.Wrong.{Tells};
@@ -35,10 +33,7 @@ fn integer_type(path: &Path) -> Option<Scalar>
 }
 
 pub(crate) fn number_of(previous: Option<Number>, variant: &Variant) -> Option<Number>
-    ensures number { IfSome result (λ n. n
-        ≡ number_of_lem previous (variant_of variant.now).value) }
-    ensures spelled { IfSome result (λ _. is_spelled (variant_of variant.now) ≡ true) }
-    ensures said { result ≡ number_said previous (variant_of variant.now).value }
+    ensures { result ≡ number_said previous (variant_of variant.now).value }
 {
     match &variant.value {
         Some(digits) => integer(digits),
@@ -53,8 +48,7 @@ pub(crate) fn number_of(previous: Option<Number>, variant: &Variant) -> Option<N
 }
 
 pub(crate) fn value_of(flags: bool, number: Number) -> Option<Number>
-    ensures value { IfSome result (λ n. n ≡ settled flags number) }
-    ensures said { result ≡ settled_said flags number }
+    ensures { result ≡ settled_said flags number }
 {
     if !flags {
         Some(number)

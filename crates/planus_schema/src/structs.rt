@@ -1,6 +1,6 @@
 //! The places of a struct's fields.
 
-ghost use Rattle.std.specs.Prelude.{◌≡◌, ◌≤◌, ◌<◌, ◌+◌, true, false, map, IfOk, IfSome, Some};
+ghost use Rattle.std.specs.Prelude.{◌≡◌, ◌≤◌, ◌<◌, ◌+◌, true, false, map, IfOk, Some};
 ghost use Rattle.std.specs.Prelude.{[], codes};
 ghost use Rattle.planus_syntax.specs.Values.{field_of, attribute_of};
 ghost use Rattle.planus_schema.specs.inner.Read.{IsMeasureRead, IsStructFieldRead};
@@ -9,7 +9,7 @@ ghost use Rattle.planus_schema.specs.inner.Scopes.{scope_heads, scope_space};
 ghost use Rattle.planus_schema.specs.Names.{type_named, setting as setting_lem};
 ghost use Rattle.planus_layout.specs.Layouts.{is_alignment as is_alignment_lem};
 ghost use Rattle.planus_schema.specs.Structs.{is_plain};
-ghost use Rattle.planus_schema.specs.Structs.{alignment_said, literal_number, number_in};
+ghost use Rattle.planus_schema.specs.Structs.{alignment_said, number_in};
 ghost use Rattle.planus_schema.specs.Names.{attribute_named};
 ghost use Rattle.planus_schema.specs.Wrong.{Tells};
 ghost use Rattle.planus_schema.specs.WrongStructs.{wrong_plain, wrong_measure, wrong_struct};
@@ -129,8 +129,7 @@ fn struct_fields(scope: &Scope, bodies: &[Declared], declared: &[Field]) -> Resu
 }
 
 pub(crate) fn setting_number(attribute: &Attribute) -> Option<u64>
-    ensures value { IfSome result (λ n. n ≡ literal_number (attribute_of attribute.now).value) }
-    ensures said { result ≡ number_in (attribute_of attribute.now).value }
+    ensures { result ≡ number_in (attribute_of attribute.now).value }
 {
     match &attribute.value {
         Some(Literal::Number(digits)) => match integer(digits) {
@@ -142,8 +141,8 @@ pub(crate) fn setting_number(attribute: &Attribute) -> Option<u64>
 }
 
 fn alignment_of(attributes: &[Attribute], greatest: usize, left: usize) -> Result<usize, Stop>
-    ensures said { IfOk result (λ n. n ≡ alignment_said
-        (setting_lem (codes "force_align") (map attribute_of attributes.now)) greatest) }
+    ensures said { IfOk result (λ n. alignment_said
+        (setting_lem (codes "force_align") (map attribute_of attributes.now)) greatest ≡ Some n) }
     ensures aligned { IfOk result (λ n. is_alignment_lem n ≡ true) }
     ensures greatest { IfOk result (λ n. greatest ≤ n) }
     ensures wrong { Tells (wrong_alignment greatest left

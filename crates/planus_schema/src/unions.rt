@@ -8,7 +8,8 @@ ghost use Rattle.planus_layout.specs.Distinct.{is_in};
 ghost use Rattle.planus_schema.specs.inner.Read.{names_of_members};
 ghost use Rattle.planus_schema.specs.inner.Read.{IsMemberRead, IsUnionRead};
 ghost use Rattle.planus_schema.specs.inner.Scopes.{scope_heads, scope_space};
-ghost use Rattle.planus_schema.specs.Unions.{tag_of as tag_of_lem, target_of as target_of_lem, wanted_of as wanted_of_lem};
+ghost use Rattle.planus_schema.specs.Unions.{target_of as target_of_lem};
+ghost use Rattle.planus_schema.specs.Unions.{wanted_of as wanted_of_lem};
 ghost use Rattle.planus_schema.specs.Unions.{SaysMember, tag_in};
 ghost use Rattle.planus_schema.specs.Unions.{is_tag, tag_said};
 ghost use Rattle.planus_schema.specs.Wrong.{Tells, wrong_table};
@@ -49,9 +50,8 @@ pub(crate) fn wanted_of(member: &Member) -> Wanted
 }
 
 fn tag_of(previous: u8, member: &Member) -> Option<u8>
-    ensures tag { IfSome result (λ n. n ≡ tag_of_lem previous (member_of member.now).value) }
     ensures within { IfSome result (λ n. is_tag n ≡ true) }
-    ensures said { result ≡ tag_said previous (member_of member.now).value }
+    ensures said { result ≡ tag_said (Some previous) (member_of member.now).value }
 {
     match &member.value {
         Some(digits) => match integer(digits) {
@@ -130,7 +130,7 @@ fn next_member(
 ) -> Result<UnionMember, Stop>
     ensures read { IfOk result (λ m. IsMemberRead (scope_heads scope.now) (scope_space scope.now)
         previous members.now declared.now m) }
-    ensures wrong { Tells (wrong_member (scope_heads scope.now) (scope_space scope.now) previous
+    ensures wrong { Tells (wrong_member (scope_heads scope.now) (scope_space scope.now) (Some previous)
         (map tag_in members.now) declared.now) result }
 {
     let tag = match tag_of(previous, declared) {
@@ -146,8 +146,8 @@ fn next_member(
 fn members_of(scope: &Scope, declared: &[Member]) -> Result<Union, Stop>
     ensures read { IfOk result (λ u. IsUnionRead (scope_heads scope.now) (scope_space scope.now)
         declared.now u) }
-    ensures wrong { Tells (wrong_members (scope_heads scope.now) (scope_space scope.now) 0 []
-        (codes "NONE" ∷ []) declared.now) result }
+    ensures wrong { Tells (wrong_members (scope_heads scope.now) (scope_space scope.now) (Some 0)
+        [] (codes "NONE" ∷ []) declared.now) result }
 {
     let mut members = Vec::new(scope.alloc);
     let mut previous = 0;

@@ -29,7 +29,7 @@ use Rattle.planus_schema.specs.Faults.{Adds, AreInOrder, sound_measure}
 use Rattle.planus_schema.specs.Names.{HeadV, SpaceV}
 use Rattle.planus_schema.specs.Schemas.{AreFaults, IsBody, IsFour, SaysBody, StatementsV, said_of}
 use Rattle.planus_schema.specs.Structs.{SaysStruct, SaysStructField}
-use Rattle.planus_schema.specs.Unions.{IsUnion, SaysMember, is_tag, tag_in, tag_of, tags_from}
+use Rattle.planus_schema.specs.Unions.{IsUnion, SaysMember, is_tag, tag_in, tag_said, tags_said}
 use Rattle.planus_schema.specs.Tables.{SaysField, all_names, is_lawful, AreNamed, names_taken}
 use Rattle.planus_schema.specs.WrongStructs.{alignment_in, end_after, end_of, field_measure}
 use Rattle.planus_schema.specs.WrongStructs.{greatest_after, measure_among, measures_of}
@@ -76,7 +76,7 @@ pub record IsLayoutRead (hs : List HeadV) (space : SpaceV) (bodies : List Declar
 pub record IsMemberRead (hs : List HeadV) (space : SpaceV) (previous : ℕ)
     (members : List UnionMember) (d : Member) (m : UnionMember) : Type 0 where
   pub says : SaysMember hs space (member_of d) m
-  pub tag : m.tag ≡ tag_of previous (member_of d).value
+  pub tag : tag_said (Some previous) (member_of d).value ≡ Some m.tag
   pub within : is_tag m.tag ≡ true
   pub new : list_any (λ x. nat_eq x.tag m.tag) members ≡ false
 
@@ -87,7 +87,7 @@ names_of_members members = codes "NONE" ∷ map (λ m. m.name.items) members
 pub record IsUnionRead (hs : List HeadV) (space : SpaceV) (ds : List Member) (u : Union)
     : Type 0 where
   pub says : Each2 (SaysMember hs space) (map member_of ds) u.members.items
-  pub tags : map tag_in u.members.items ≡ tags_from 0 (map member_of ds)
+  pub tags : tags_said (Some 0) (map member_of ds) ≡ Some (map tag_in u.members.items)
   pub sound : IsUnion u
 
 -- the names of a field after these, and whether there is a `key` before it and after it
@@ -110,8 +110,8 @@ pub record IsStructRead (hs : List HeadV) (space : SpaceV) (bodies : List Declar
     (s : Struct) : Type 0 where
   pub says : SaysStruct hs space (map body_in bodies) (record_of r) s
   pub sound : IsStruct s
-  pub measure : record { size = s.size; alignment = s.alignment }
-      ≡ struct_measure hs space (measures_of bodies) r
+  pub measure : struct_measure hs space (measures_of bodies) r
+      ≡ Some (record { size = s.size; alignment = s.alignment })
 
 pub record IsBodyRead (hs : List HeadV) (space : SpaceV) (bodies : List Declared) (i : Item)
     (b : Body) : Type 0 where

@@ -2,7 +2,7 @@ use Rattle.std.proofs.Common.{ap, sym, ◌∙◌, map, subst}
 use Rattle.std.specs.Prelude.{None}
 use Rattle.planus_syntax.specs.Values.{VariantV, variant_of, path_of, enumeration_of}
 use Rattle.planus_layout.specs.Distinct.{AreDistinct}
-use Rattle.planus_schema.specs.Enums.{settled, numbers_from}
+use Rattle.planus_schema.specs.Enums.{values_said}
 use Rattle.planus_schema.specs.Wrong.{Stops}
 use Rattle.planus_schema.proofs.FaultLemmas.{skip, stops_first, stops_next}
 use Rattle.planus_schema.proofs.EnumLemmas.{integer_known, typed, untyped}
@@ -54,6 +54,5 @@ returns-clause-says c =
       flags = flags;
       names = values.names;
       docs = values.docs;
-      spelled = values.spelled;
-      numbers = values.numbers ∙ ap (λ f. map (settled f) (numbers_from None d.variants)) flags;
+      numbers = ap (λ f. values_said f None d.variants) (sym flags) ∙ values.numbers;
     }

@@ -1,4 +1,4 @@
-use Rattle.std.proofs.Common.{rules, refl, ap, Some}
+use Rattle.std.proofs.Common.{rules, refl, sym}
 use Rattle.planus_schema.proofs.meaning.body_of.Goals as goal
 
 pub returns-in-Err-clause-wrong : goal.returns-in-Err-clause-wrong
@@ -39,7 +39,7 @@ pub returns-in-Ok-struct_of-clause-read : goal.returns-in-Ok-struct_of-clause-re
 returns-in-Ok-struct_of-clause-read c = record {
   says = rw c.in-Struct.is c.in-Ok-struct_of.ensures.read.says;
   sound = c.in-Ok-struct_of.ensures.read.sound;
-  measure = rw c.in-Struct.is (ap Some c.in-Ok-struct_of.ensures.read.measure);
+  measure = rw c.in-Struct.is (sym c.in-Ok-struct_of.ensures.read.measure);
 }
 
 pub returns-in-Ok-enum_of-clause-read : goal.returns-in-Ok-enum_of-clause-read

@@ -1,5 +1,5 @@
 use Rattle.std.proofs.Common.{rules, ◌≡◌, false, length, map, ap, sym, subst, ◌∙◌, arith}
-use Rattle.std.specs.Prelude.{codes, vec_len, ◌==◌}
+use Rattle.std.specs.Prelude.{codes, vec_len, ◌==◌, Some}
 use Rattle.planus_syntax.specs.Values.{attribute_of}
 use Rattle.planus_layout.specs.Layouts.{greatest_alignment}
 use Rattle.planus_schema.specs.declared.fault.Problem.TheVariants as problem
@@ -38,9 +38,9 @@ pub returns-clause-read : goal.returns-clause-read
 returns-clause-read c = record {
   says = record {
     fields = rw c.finished.ensures.fields (rw c.deref.ensures.value at c.in-Ok.ensures.read.says);
-    alignment = c.finished.ensures.alignment ∙ (rw c.deref-2.ensures.value at c.in-Ok-alignment_of.ensures.said)
-        ∙ ap (alignment_said (setting (codes "force_align") (map attribute_of c.args.declared.now.attributes.items)))
-        (c.in-Ok.ensures.read.greatest ∙ ap greatest_alignment (sym c.finished.ensures.fields));
+    alignment = ap (alignment_said (setting (codes "force_align") (map attribute_of c.args.declared.now.attributes.items)))
+        (ap greatest_alignment c.finished.ensures.fields ∙ sym c.in-Ok.ensures.read.greatest)
+        ∙ (rw c.deref-2.ensures.value at c.in-Ok-alignment_of.ensures.said) ∙ ap Some (sym c.finished.ensures.alignment);
   };
   sound = search rules;
   measure = search rules;

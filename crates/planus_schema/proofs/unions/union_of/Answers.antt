@@ -1,5 +1,5 @@
 use Rattle.std.proofs.Common.{◌≡◌, ◌∷◌, [], false, map, subst}
-use Rattle.std.specs.Prelude.{List, None, codes}
+use Rattle.std.specs.Prelude.{List, None, Some, codes}
 use Rattle.planus_syntax.specs.Values.{attribute_of}
 use Rattle.planus_syntax.specs.declared.value.Attribute.{Attribute}
 use Rattle.planus_syntax.specs.declared.value.Member.{Member}
@@ -8,7 +8,7 @@ use Rattle.planus_schema.specs.inner.Read.{IsUnionRead}
 use Rattle.planus_schema.specs.inner.Scopes.{scope_heads, scope_space}
 use Rattle.planus_schema.specs.Wrong.{Stops}
 use Rattle.planus_schema.specs.WrongUnions.{wrong_flags, wrong_members}
-use Rattle.planus_schema.proofs.FaultLemmas.{skip, stops_first, stops_next}
+use Rattle.planus_schema.proofs.FaultLemmas.{stops_first, stops_next}
 use Rattle.planus_schema.proofs.unions.union_of.Goals as goal
 
 pub returns-in-Err-clause-wrong : goal.returns-in-Err-clause-wrong
@@ -20,7 +20,7 @@ pub returns-in-Err-members_of-clause-wrong : goal.returns-in-Err-members_of-clau
 returns-in-Err-members_of-clause-wrong c =
     let none = subst (λ (xs : List Attribute). wrong_flags (attribute_named (codes "bit_flags") xs) ≡ None) c.deref.ensures.value c.in-Ok.ensures.wrong in
     stops_next _ _ c.in-Err-members_of.error none
-    (subst (λ (ms : List Member). Stops (wrong_members (scope_heads c.args.scope.now) (scope_space c.args.scope.now) 0 [] (codes "NONE" ∷ []) ms) c.in-Err-members_of.error) c.deref-2.ensures.value c.in-Err-members_of.ensures.wrong)
+    (subst (λ (ms : List Member). Stops (wrong_members (scope_heads c.args.scope.now) (scope_space c.args.scope.now) (Some 0) [] (codes "NONE" ∷ []) ms) c.in-Err-members_of.error) c.deref-2.ensures.value c.in-Err-members_of.ensures.wrong)
 
 pub returns-clause-wrong : goal.returns-clause-wrong
 returns-clause-wrong c =

@@ -1,7 +1,6 @@
 use Rattle.std.proofs.Common.{◌+◌, ◌++◌, ap, sym, ◌∙◌, map, append_assoc, arith}
 use Rattle.std.proofs.lemmas.List.{append-nil, drop_all}
-use Rattle.std.specs.Prelude.{None}
-use Rattle.planus_schema.specs.Uses.{event_of, files_used, declarations_used}
+use Rattle.planus_schema.specs.Uses.{event_of, files_used}
 use Rattle.planus_schema.proofs.StructLemmas.{drop_next}
 use Rattle.planus_schema.proofs.uses.events.Goals as goal
 

@@ -1,4 +1,4 @@
-use Rattle.std.proofs.Common.{ℕ, ◌∷◌, List, map, ap, subst, sym, ◌∙◌}
+use Rattle.std.proofs.Common.{ℕ, ◌∷◌, List, map, ap, ◌∙◌}
 use Rattle.std.specs.Prelude.{Option}
 use Rattle.planus_syntax.specs.Values.{names_of}
 use Rattle.planus_schema.specs.declared.awaited.Awaited.{Awaited}

@@ -1,4 +1,3 @@
-use Rattle.std.proofs.Common.{refl}
 use Rattle.planus_schema.specs.Uses.{bound_fault}
 use Rattle.planus_schema.proofs.UseLemmas.{none_noted, bound_same, bound_none}
 use Rattle.planus_schema.proofs.waiting.note_bound.Goals as goal

@@ -1,8 +1,8 @@
-use Rattle.std.proofs.Common.{map, ◌++◌, ap, subst, sym, ◌∙◌}
+use Rattle.std.proofs.Common.{map, ap, subst, sym, ◌∙◌}
 use Rattle.std.specs.Prelude.{Some}
 use Rattle.planus_schema.specs.Names.{head_of, at_index}
 use Rattle.planus_schema.specs.inner.Read.{AreNoted}
-use Rattle.planus_schema.specs.Uses.{waiting_of, begin_faults, bound_fault, ending}
+use Rattle.planus_schema.specs.Uses.{waiting_of, begin_faults, bound_fault}
 use Rattle.planus_schema.proofs.UseLemmas.{none_noted, both_noted, begins_choice, begins_record}
 use Rattle.planus_schema.proofs.waiting.read_begin.Goals as goal
 

@@ -1,6 +1,5 @@
-use Rattle.std.proofs.Common.{◌≡◌, [], map, ap, sym, ◌∙◌}
-use Rattle.planus_schema.specs.Names.{head_of}
-use Rattle.planus_schema.specs.Uses.{waiting_of, use_of, use_fault, tells}
+use Rattle.std.proofs.Common.{ap, sym, ◌∙◌}
+use Rattle.planus_schema.specs.Uses.{use_of, use_fault}
 use Rattle.planus_schema.proofs.FaultLemmas.{ok_anyway}
 use Rattle.planus_schema.proofs.UseLemmas.{none_noted}
 use Rattle.planus_schema.proofs.waiting.read_use.Goals as goal
