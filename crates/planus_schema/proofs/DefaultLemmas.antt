@@ -6,7 +6,9 @@ use Rattle.std.proofs.lemmas.List.{take-append-drop, map-append}
 use Rattle.std.proofs.lemmas.List.Sums.{fold-append}
 use Rattle.std.proofs.lemmas.List.Folds.{fold_stays}
 use Rattle.planus_schema.proofs.StructLemmas.{map_rest}
-use Rattle.std.specs.Prelude.{Option, Some, None, codes, ◌||◌}
+use Rattle.std.specs.Prelude.{Option, Some, None, codes, ◌==◌, if◌then◌else◌}
+use Rattle.std.specs.Str.{bytes_eq}
+use Rattle.planus_syntax.specs.Tokens.{is_number, is_float_name}
 use Rattle.planus_syntax.specs.Values.{Name, PathV, LiteralV, numeral, named, quote, nothing, EnumerationV, names_of}
 use Rattle.planus_layout.specs.declared.number.Number.{Number}
 use Rattle.planus_layout.specs.declared.scalar.Scalar.{Scalar}
@@ -17,7 +19,7 @@ use Rattle.planus_layout.specs.declared.schema.FieldType.{FieldType}
 use Rattle.planus_layout.specs.Numbers.{integer_said, is_float, is_bool, fits, zero_number, is_hexadecimal, without_sign}
 use Rattle.planus_schema.specs.Names.{HeadV, item_at, cut_words}
 use Rattle.planus_schema.specs.Enums.{is_flags}
-use Rattle.planus_schema.specs.Defaults.{ValueV, absent, integer, float, text, empty, is_word, absent_or, if_fits, whole_number, number_default, truth, named_bool, named_float, float_number, scalar_default, value_named, value_name, value_in, as_integer, enum_named, is_among_values, among_values, flags_named, with_flag, or_flag, as_flags, text_default, vector_default, enum_at, default_in, base_default, zero_in, zero_scalar, zero_default, some_default, default_said, is_scalar_value, is_enum_value, is_text_value, is_vector_value, is_value, is_default}
+use Rattle.planus_schema.specs.Defaults.{ValueV, absent, integer, float, text, empty, lone_word, is_null, null_or, if_fits, whole_number, number_default, truth, bool_number, named_bool, named_float, float_number, scalar_number, scalar_word, scalar_named_by, scalar_default, enum_quoted, value_named, value_name, value_in, as_integer, enum_named, is_among_values, among_values, flags_named, with_flag, or_flag, as_flags, text_default, vector_default, enum_at, default_in, base_default, zero_in, zero_scalar, zero_default, some_default, default_said, is_scalar_value, is_enum_value, is_text_value, is_vector_value, is_value, is_default}
 
 record Allowed (p : ValueV → Bool) (o : Option ValueV) : Type 0 where
   each : (v : ValueV) → o ≡ Some v → p v ≡ true
@@ -61,27 +63,48 @@ bool_fits scalar.ULong n h e = absurd cc
 bool_fits scalar.Float n h e = absurd cc
 bool_fits scalar.Double n h e = absurd cc
 
-named_float_allowed : (s : Scalar) (p : PathV) → is_float s ≡ true → Allowed (is_scalar_value s) (named_float p)
-named_float_allowed s p h = chosen (is_scalar_value s) (is_word (codes "nan") p || is_word (codes "inf") p) (Some (float p.first)) None (λ _. one_allowed (is_scalar_value s) (float p.first) h) (λ _. none_allowed (is_scalar_value s))
+named_float_allowed : (s : Scalar) (w : List ℕ) → is_float s ≡ true → Allowed (is_scalar_value s) (named_float w)
+named_float_allowed s w h = chosen (is_scalar_value s) (is_float_name w) (Some (float w)) None (λ _. one_allowed (is_scalar_value s) (float w) h) (λ _. none_allowed (is_scalar_value s))
 
-named_bool_allowed : (s : Scalar) (p : PathV) → is_bool s ≡ true → Allowed (is_scalar_value s) (named_bool p)
-named_bool_allowed s p h =
+truth_fits : (q : Bool) → fits scalar.Bool (if q then zero_number else truth) ≡ true
+truth_fits true = refl
+truth_fits false = refl
+
+bool_number_allowed : (s : Scalar) (o : Option Number) → is_bool s ≡ true → Allowed (is_scalar_value s) (bool_number o)
+bool_number_allowed s None h = none_allowed (is_scalar_value s)
+bool_number_allowed s (Some n) h =
+    let kept : Number = if n.magnitude == 0 then zero_number else truth in
+    chosen (is_scalar_value s) (fits scalar.UByte n) (Some (integer kept)) None (λ _. one_allowed (is_scalar_value s) (integer kept) (bool_fits s kept h (truth_fits (n.magnitude == 0)))) (λ _. none_allowed (is_scalar_value s))
+
+named_bool_allowed : (s : Scalar) (w : List ℕ) → is_bool s ≡ true → Allowed (is_scalar_value s) (named_bool w)
+named_bool_allowed s w h =
     let no = none_allowed (is_scalar_value s) in
     let zero = one_allowed (is_scalar_value s) (integer zero_number) (bool_fits s zero_number h refl) in
     let one = one_allowed (is_scalar_value s) (integer truth) (bool_fits s truth h refl) in
-    chosen (is_scalar_value s) (is_word (codes "true") p) (Some (integer truth)) (cond (is_word (codes "false") p) (Some (integer zero_number)) None) (λ _. one)
-    (λ _. chosen (is_scalar_value s) (is_word (codes "false") p) (Some (integer zero_number)) None (λ _. zero) (λ _. no))
+    chosen (is_scalar_value s) (bytes_eq w (codes "true")) (Some (integer truth)) (cond (bytes_eq w (codes "false")) (Some (integer zero_number)) None) (λ _. one)
+    (λ _. chosen (is_scalar_value s) (bytes_eq w (codes "false")) (Some (integer zero_number)) None (λ _. zero) (λ _. no))
 
-absent_allowed : (p : ValueV → Bool) (path : PathV) (o : Option ValueV) → p absent ≡ true → Allowed p o → Allowed p (absent_or path o)
-absent_allowed p path o h a = chosen p (is_word (codes "null") path) (Some absent) o (λ _. one_allowed p absent h) (λ _. a)
+null_allowed : (p : ValueV → Bool) (w : List ℕ) (o : Option ValueV) → p absent ≡ true → Allowed p o → Allowed p (cond (is_null w) (Some absent) o)
+null_allowed p w o h a = chosen p (is_null w) (Some absent) o (λ _. one_allowed p absent h) (λ _. a)
+
+scalar_number_allowed : (s : Scalar) (w : List ℕ) → Allowed (is_scalar_value s) (scalar_number s w)
+scalar_number_allowed s w = chosen (is_scalar_value s) (is_float s) (float_number w) (cond (is_bool s) (bool_number (integer_said w)) (whole_number s w)) (float_allowed s w)
+    (λ f. chosen (is_scalar_value s) (is_bool s) (bool_number (integer_said w)) (whole_number s w) (bool_number_allowed s (integer_said w)) (λ _. whole_allowed s w f))
+
+scalar_word_allowed : (s : Scalar) (w : List ℕ) → Allowed (is_scalar_value s) (scalar_word s w)
+scalar_word_allowed s w =
+    null_allowed (is_scalar_value s) w _ refl
+    (chosen (is_scalar_value s) (is_float s) (named_float w) (cond (is_bool s) (named_bool w) None) (named_float_allowed s w)
+    (λ _. chosen (is_scalar_value s) (is_bool s) (named_bool w) None (named_bool_allowed s w) (λ _. none_allowed (is_scalar_value s))))
+
+scalar_named_allowed : (s : Scalar) (o : Option Name) → Allowed (is_scalar_value s) (scalar_named_by s o)
+scalar_named_allowed s None = none_allowed (is_scalar_value s)
+scalar_named_allowed s (Some w) = scalar_word_allowed s w
 
 scalar_allowed : (s : Scalar) (l : LiteralV) → Allowed (is_scalar_value s) (scalar_default s l)
-scalar_allowed s (numeral w) = chosen (is_scalar_value s) (is_float s) (float_number w) (whole_number s w) (float_allowed s w) (whole_allowed s w)
-scalar_allowed s (named p) =
-    absent_allowed (is_scalar_value s) p _ refl
-    (chosen (is_scalar_value s) (is_float s) (named_float p) (cond (is_bool s) (named_bool p) None) (named_float_allowed s p)
-    (λ _. chosen (is_scalar_value s) (is_bool s) (named_bool p) None (named_bool_allowed s p) (λ _. none_allowed (is_scalar_value s))))
-scalar_allowed s (quote w) = none_allowed (is_scalar_value s)
+scalar_allowed s (numeral w) = scalar_number_allowed s w
+scalar_allowed s (named p) = scalar_named_allowed s (lone_word p)
+scalar_allowed s (quote w) = chosen (is_scalar_value s) (is_number w) (scalar_number s w) (scalar_word s w) (λ _. scalar_number_allowed s w) (λ _. scalar_word_allowed s w)
 scalar_allowed s nothing = none_allowed (is_scalar_value s)
 
 integer_allowed : (o : Option Number) → Allowed is_enum_value (as_integer o)
@@ -103,11 +126,20 @@ number_allowed : (e : EnumerationV) (o : Option Number) → Allowed is_enum_valu
 number_allowed e None = none_allowed is_enum_value
 number_allowed e (Some n) = among_allowed e n
 
+null_or_allowed : (p : ValueV → Bool) (w : Option Name) (o : Option ValueV) → p absent ≡ true → Allowed p o → Allowed p (null_or w o)
+null_or_allowed p None o h a = a
+null_or_allowed p (Some w) o h a = null_allowed p w o h a
+
+enum_quoted_allowed : (e : EnumerationV) (w : List ℕ) → Allowed is_enum_value (enum_quoted e w)
+enum_quoted_allowed e w = chosen is_enum_value (is_number w) (number_default e (integer_said w)) _ (λ _. number_allowed e (integer_said w))
+    (λ _. null_allowed is_enum_value w _ refl
+    (chosen is_enum_value (is_flags e) (as_flags (flags_named e (cut_words [] w))) (value_in e (Some w)) (λ _. flags_allowed (flags_named e (cut_words [] w))) (λ _. value_allowed e (Some w))))
+
 enum_allowed : (o : Option EnumerationV) (l : LiteralV) → Allowed is_enum_value (default_in o l)
 enum_allowed None l = none_allowed is_enum_value
 enum_allowed (Some e) (numeral w) = number_allowed e (integer_said w)
-enum_allowed (Some e) (named p) = absent_allowed is_enum_value p (enum_named e p) refl (value_allowed e (value_name e p))
-enum_allowed (Some e) (quote w) = chosen is_enum_value (is_flags e) (as_flags (flags_named e (cut_words [] w))) None (λ _. flags_allowed (flags_named e (cut_words [] w))) (λ _. none_allowed is_enum_value)
+enum_allowed (Some e) (named p) = null_or_allowed is_enum_value (lone_word p) (enum_named e p) refl (value_allowed e (value_name e p))
+enum_allowed (Some e) (quote w) = enum_quoted_allowed e w
 enum_allowed (Some e) nothing = none_allowed is_enum_value
 
 text_allowed : (l : LiteralV) → Allowed is_text_value (text_default l)

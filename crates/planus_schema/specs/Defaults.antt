@@ -1,5 +1,5 @@
 -- Defaults.
-use Rattle.std.specs.Prelude.{ℕ, Bool, true, false, ◌&&◌, ◌||◌}
+use Rattle.std.specs.Prelude.{ℕ, Bool, true, false, ◌&&◌, ◌||◌, ◌==◌}
 use Rattle.std.specs.Prelude.{not, if◌then◌else◌, fold, bit_or}
 use Rattle.std.specs.Prelude.{List, [], ◌∷◌, Option, Some, None, codes}
 use Rattle.std.specs.List.{list_any}
@@ -9,8 +9,10 @@ use Rattle.planus_syntax.specs.Values.{ItemV, include, namespace, attribute, tab
 use Rattle.planus_syntax.specs.Values.{native_include}
 use Rattle.planus_syntax.specs.Values.{enumeration, union, service, root, identifier, extension}
 use Rattle.planus_syntax.specs.Values.{VariantV, EnumerationV}
+use Rattle.planus_syntax.specs.Tokens.{is_number, is_float_name}
 use Rattle.planus_layout.specs.declared.number.Number.{Number}
 use Rattle.planus_layout.specs.declared.scalar.Scalar.{Scalar}
+use Rattle.planus_layout.specs.declared.scalar.Scalar.TheVariants.{UByte}
 use Rattle.planus_layout.specs.declared.schema.Base.{Base}
 use Rattle.planus_layout.specs.declared.schema.Base.TheVariants as base
 use Rattle.planus_layout.specs.declared.schema.FieldType.{FieldType}
@@ -41,15 +43,16 @@ value_of value.EmptyVector = empty
 
 -- ---- literals of each type; `None` where one is no value of the type
 
-abbrev pub is_word : List ℕ → PathV → Bool
-is_word w p = is_alone p.more && bytes_eq p.first w
+-- a word without dots
+abbrev pub lone_word : PathV → Option Name
+lone_word p = lone_in p.more
   where
-    is_alone : List Name → Bool
-    is_alone [] = true
-    is_alone (n ∷ ns) = false
+    lone_in : List Name → Option Name
+    lone_in [] = Some p.first
+    lone_in (n ∷ ns) = None
 
-abbrev pub absent_or : PathV → Option ValueV → Option ValueV
-absent_or p o = if is_word (codes "null") p then Some absent else o
+abbrev pub is_null : Name → Bool
+is_null w = bytes_eq w (codes "null")
 
 abbrev pub if_fits : Scalar → Option Number → Option ValueV
 if_fits s None = None
@@ -61,23 +64,44 @@ whole_number s w = if_fits s (integer_said w)
 abbrev pub truth : Number
 truth = record { negative = false; magnitude = 1 }
 
-abbrev pub named_bool : PathV → Option ValueV
-named_bool p = if is_word (codes "true") p then Some (integer truth)
-    else if is_word (codes "false") p then Some (integer zero_number) else None
+-- a byte, of which counts whether it is zero
+abbrev pub bool_number : Option Number → Option ValueV
+bool_number None = None
+bool_number (Some n) = if fits UByte n
+    then Some (integer (if n.magnitude == 0 then zero_number else truth)) else None
 
-abbrev pub named_float : PathV → Option ValueV
-named_float p =
-    if is_word (codes "nan") p || is_word (codes "inf") p then Some (float p.first) else None
+abbrev pub named_bool : Name → Option ValueV
+named_bool w = if bytes_eq w (codes "true") then Some (integer truth)
+    else if bytes_eq w (codes "false") then Some (integer zero_number) else None
+
+-- `inf`, `infinity` or `nan`, in lower or upper case
+abbrev pub named_float : Name → Option ValueV
+named_float w = if is_float_name w then Some (float w) else None
 
 -- no hexadecimal digits
 abbrev pub float_number : List ℕ → Option ValueV
 float_number w = if is_hexadecimal (without_sign w) then None else Some (float w)
 
+abbrev pub scalar_number : Scalar → List ℕ → Option ValueV
+scalar_number s w = if is_float s then float_number w
+    else if is_bool s then bool_number (integer_said w) else whole_number s w
+
+abbrev pub scalar_word : Scalar → Name → Option ValueV
+scalar_word s w = if is_null w then Some absent
+    else if is_float s then named_float w else if is_bool s then named_bool w else None
+
+abbrev pub scalar_named_by : Scalar → Option Name → Option ValueV
+scalar_named_by s None = None
+scalar_named_by s (Some w) = scalar_word s w
+
+-- in quotes stands a number or a word
+abbrev pub scalar_quoted : Scalar → List ℕ → Option ValueV
+scalar_quoted s w = if is_number w then scalar_number s w else scalar_word s w
+
 abbrev pub scalar_default : Scalar → LiteralV → Option ValueV
-scalar_default s (numeral w) = if is_float s then float_number w else whole_number s w
-scalar_default s (named p) = absent_or p
-    (if is_float s then named_float p else if is_bool s then named_bool p else None)
-scalar_default s (quote w) = None
+scalar_default s (numeral w) = scalar_number s w
+scalar_default s (named p) = scalar_named_by s (lone_word p)
+scalar_default s (quote w) = scalar_quoted s w
 scalar_default s nothing = None
 
 abbrev pub this_or : Bool → Bool → Option Number → Option Number → Option Number
@@ -138,18 +162,25 @@ abbrev pub as_flags : Option ℕ → Option ValueV
 as_flags None = None
 as_flags (Some n) = Some (integer (record { negative = false; magnitude = n }))
 
--- several values of an enum with `bit_flags`
-abbrev pub flags_default : EnumerationV → List ℕ → Option ValueV
-flags_default e w = if is_flags e then as_flags (flags_named e (cut_words [] w)) else None
-
 abbrev pub number_default : EnumerationV → Option Number → Option ValueV
 number_default e None = None
 number_default e (Some n) = among_values e n
 
+-- in quotes stands a number, `null`, a value, or with `bit_flags` several
+abbrev pub enum_quoted : EnumerationV → List ℕ → Option ValueV
+enum_quoted e w = if is_number w then number_default e (integer_said w)
+    else if is_null w then Some absent
+    else if is_flags e then as_flags (flags_named e (cut_words [] w))
+    else value_in e (Some w)
+
+abbrev pub null_or : Option Name → Option ValueV → Option ValueV
+null_or None o = o
+null_or (Some w) o = if is_null w then Some absent else o
+
 abbrev pub enum_default : EnumerationV → LiteralV → Option ValueV
 enum_default e (numeral w) = number_default e (integer_said w)
-enum_default e (named p) = absent_or p (enum_named e p)
-enum_default e (quote w) = flags_default e w
+enum_default e (named p) = null_or (lone_word p) (enum_named e p)
+enum_default e (quote w) = enum_quoted e w
 enum_default e nothing = None
 
 abbrev pub text_default : LiteralV → Option ValueV

@@ -4,6 +4,7 @@ use Rattle.std.specs.Prelude.{if◌then◌else◌}
 use Rattle.std.specs.Prelude.{List, Option, Some, None, codes}
 use Rattle.planus_syntax.specs.Values.{LiteralV, numeral, named, quote, nothing, AttributeV}
 use Rattle.planus_syntax.specs.Values.{FieldV, RecordV, names_of}
+use Rattle.planus_syntax.specs.Tokens.{is_number}
 use Rattle.planus_layout.specs.declared.schema.Body.{Body}
 use Rattle.planus_layout.specs.declared.schema.Struct.{Struct}
 use Rattle.planus_layout.specs.declared.schema.StructField.{StructField}
@@ -30,12 +31,12 @@ abbrev pub natural_of : Option Number → Option ℕ
 natural_of None = None
 natural_of (Some n) = if n.negative then None else Some n.magnitude
 
--- the number of an attribute, if its value is one
+-- the number of an attribute, if its value is one, in quotes or not
 abbrev pub number_in : Option LiteralV → Option ℕ
 number_in None = None
 number_in (Some (numeral w)) = natural_of (integer_said w)
 number_in (Some (named p)) = None
-number_in (Some (quote w)) = None
+number_in (Some (quote w)) = if is_number w then natural_of (integer_said w) else None
 number_in (Some nothing) = None
 
 -- `force_align`, or the greatest alignment of the fields

@@ -10,7 +10,16 @@ ghost use Rattle.planus_schema.specs.Wrong.{Tells, when};
 ghost use Rattle.planus_schema.specs.WrongTables.{wrong_default};
 ghost use Rattle.planus_schema.specs.Defaults.{some_default};
 ghost use Rattle.planus_schema.specs.Enums.{same_number as same_number_lem, numbers_said};
-ghost use Rattle.planus_schema.specs.Defaults.{value_of, float, integer, is_word as is_word_lem};
+ghost use Rattle.planus_schema.specs.Defaults.{value_of, float, number_default, as_flags};
+ghost use Rattle.planus_schema.specs.Defaults.{lone_word as lone_word_lem, is_null as is_null_lem};
+ghost use Rattle.planus_schema.specs.Defaults.{bool_number as bool_number_lem};
+ghost use Rattle.planus_schema.specs.Defaults.{named_bool as named_bool_lem};
+ghost use Rattle.planus_schema.specs.Defaults.{scalar_number as scalar_number_lem};
+ghost use Rattle.planus_schema.specs.Defaults.{scalar_word as scalar_word_lem};
+ghost use Rattle.planus_schema.specs.Defaults.{value_in as value_in_lem};
+ghost use Rattle.planus_schema.specs.Defaults.{enum_quoted as enum_quoted_lem};
+ghost use Rattle.planus_schema.specs.Names.{cut_words as cut_words_lem};
+ghost use Rattle.planus_layout.specs.Numbers.{integer_said};
 ghost use Rattle.planus_schema.specs.Defaults.{default_said};
 ghost use Rattle.planus_schema.specs.Defaults.{scalar_default as scalar_default_lem};
 ghost use Rattle.planus_schema.specs.Defaults.{value_named as value_named_lem};
@@ -21,7 +30,6 @@ ghost use Rattle.planus_schema.specs.Defaults.{enum_default as enum_default_lem}
 ghost use Rattle.planus_schema.specs.Defaults.{enum_at as enum_at_lem};
 ghost use Rattle.planus_schema.specs.Defaults.{zero_default as zero_default_lem};
 ghost use Rattle.planus_schema.specs.Defaults.{flags_named as flags_named_lem};
-ghost use Rattle.planus_schema.specs.Defaults.{flags_default as flags_default_lem};
 ghost use Rattle.planus_syntax.specs.Values.{names_of};
 
 use crate::attributes::has;
@@ -34,13 +42,23 @@ use crate::words::cut_words;
 use planus_layout::{
     Base, FieldType, Number, Scalar, Value, integer, is_hexadecimal, without_sign,
 };
-use planus_syntax::{Enumeration, Item, Literal, Path, Variant};
+use planus_syntax::{Enumeration, Item, Literal, Path, Variant, is_float_name, is_number};
 use std::alloc::{AllocError, Global};
 
-fn is_word(path: &Path, word: &[u8]) -> bool
-    ensures { result ≡ is_word_lem word.now (path_of path.now) }
+fn lone_word(path: &Path) -> Option<&[u8]>
+    ensures { option_map (λ w. w.now) result ≡ lone_word_lem (path_of path.now) }
 {
-    path.more.is_empty() && path.first.as_slice() == word
+    if path.more.is_empty() {
+        Some(&path.first)
+    } else {
+        None
+    }
+}
+
+fn is_null(word: &[u8]) -> bool
+    ensures { result ≡ is_null_lem word.now }
+{
+    word == b"null".as_slice()
 }
 
 fn float_of(alloc: Global, word: &[u8]) -> Result<Option<Value>, AllocError>
@@ -50,30 +68,68 @@ fn float_of(alloc: Global, word: &[u8]) -> Result<Option<Value>, AllocError>
     Ok(Some(Value::Float(word)))
 }
 
-fn named_scalar(alloc: Global, scalar: Scalar, path: &Path) -> Result<Option<Value>, AllocError>
-    ensures { IfOk result (λ o. option_map value_of o
-        ≡ scalar_default_lem scalar (named (path_of path.now))) }
+fn bool_number(digits: &[u8]) -> Option<Value>
+    ensures { option_map value_of result ≡ bool_number_lem (integer_said digits.now) }
 {
-    if is_word(path, b"null") {
+    match integer(digits) {
+        Some(number) if Scalar::UByte.fits(number) => Some(Value::Integer(Number {
+            negative: false,
+            magnitude: if number.magnitude == 0 { 0 } else { 1 },
+        })),
+        _ => None,
+    }
+}
+
+fn named_bool(word: &[u8]) -> Option<Value>
+    ensures { option_map value_of result ≡ named_bool_lem word.now }
+{
+    if word == b"true".as_slice() {
+        Some(Value::Integer(Number {
+            negative: false,
+            magnitude: 1,
+        }))
+    } else if word == b"false".as_slice() {
+        Some(Value::Integer(Number {
+            negative: false,
+            magnitude: 0,
+        }))
+    } else {
+        None
+    }
+}
+
+fn scalar_number(alloc: Global, scalar: Scalar, digits: &[u8]) -> Result<Option<Value>, AllocError>
+    ensures { IfOk result (λ o. option_map value_of o ≡ scalar_number_lem scalar digits.now) }
+{
+    if scalar.is_float() {
+        if is_hexadecimal(without_sign(digits)) {
+            Ok(None)
+        } else {
+            float_of(alloc, digits)
+        }
+    } else if scalar.is_bool() {
+        Ok(bool_number(digits))
+    } else {
+        match integer(digits) {
+            Some(number) if scalar.fits(number) => Ok(Some(Value::Integer(number))),
+            _ => Ok(None),
+        }
+    }
+}
+
+fn scalar_word(alloc: Global, scalar: Scalar, word: &[u8]) -> Result<Option<Value>, AllocError>
+    ensures { IfOk result (λ o. option_map value_of o ≡ scalar_word_lem scalar word.now) }
+{
+    if is_null(word) {
         Ok(Some(Value::Absent))
     } else if scalar.is_float() {
-        if is_word(path, b"nan") || is_word(path, b"inf") {
-            float_of(alloc, &path.first)
+        if is_float_name(word) {
+            float_of(alloc, word)
         } else {
             Ok(None)
         }
-    } else if !scalar.is_bool() {
-        Ok(None)
-    } else if is_word(path, b"true") {
-        Ok(Some(Value::Integer(Number {
-            negative: false,
-            magnitude: 1,
-        })))
-    } else if is_word(path, b"false") {
-        Ok(Some(Value::Integer(Number {
-            negative: false,
-            magnitude: 0,
-        })))
+    } else if scalar.is_bool() {
+        Ok(named_bool(word))
     } else {
         Ok(None)
     }
@@ -88,19 +144,14 @@ fn scalar_default(
         ≡ scalar_default_lem scalar (literal_of literal.now)) }
 {
     match literal {
-        Literal::Number(digits) if scalar.is_float() => {
-            if is_hexadecimal(without_sign(digits)) {
-                Ok(None)
-            } else {
-                float_of(alloc, digits)
-            }
-        }
-        Literal::Number(digits) => match integer(digits) {
-            Some(number) if scalar.fits(number) => Ok(Some(Value::Integer(number))),
-            _ => Ok(None),
+        Literal::Number(digits) => scalar_number(alloc, scalar, digits),
+        Literal::Name(path) => match lone_word(path) {
+            Some(word) => scalar_word(alloc, scalar, word),
+            None => Ok(None),
         },
-        Literal::Name(path) => named_scalar(alloc, scalar, path),
-        _ => Ok(None),
+        Literal::Text(text) if is_number(text) => scalar_number(alloc, scalar, text),
+        Literal::Text(text) => scalar_word(alloc, scalar, text),
+        Literal::EmptyVector => Ok(None),
     }
 }
 
@@ -167,17 +218,34 @@ fn value_name<'a>(declared: &Enumeration, path: &'a Path) -> Option<&'a [u8]>
     }
 }
 
+fn value_in(declared: &Enumeration, name: &[u8]) -> Option<Value>
+    ensures { option_map value_of result
+        ≡ value_in_lem (enumeration_of declared.now) (Some name.now) }
+{
+    let flags = has(&declared.attributes, b"bit_flags");
+    match value_named(&declared.variants, name, flags) {
+        Some(number) => Some(Value::Integer(number)),
+        None => None,
+    }
+}
+
 fn enum_named(declared: &Enumeration, path: &Path) -> Option<Value>
     ensures { option_map value_of result
         ≡ enum_named_lem (enumeration_of declared.now) (path_of path.now) }
 {
-    let flags = has(&declared.attributes, b"bit_flags");
     match value_name(declared, path) {
-        Some(name) => match value_named(&declared.variants, name, flags) {
-            Some(number) => Some(Value::Integer(number)),
-            None => None,
-        },
+        Some(name) => value_in(declared, name),
         None => None,
+    }
+}
+
+fn enum_number(declared: &Enumeration, digits: &[u8]) -> Option<Value>
+    ensures { option_map value_of result
+        ≡ number_default (enumeration_of declared.now) (integer_said digits.now) }
+{
+    match integer(digits) {
+        Some(number) if is_among_values(declared, number) => Some(Value::Integer(number)),
+        _ => None,
     }
 }
 
@@ -200,11 +268,8 @@ fn flags_default(
     text: &[u8],
 ) -> Result<Option<Value>, AllocError>
     ensures { IfOk result (λ o. option_map value_of o
-        ≡ flags_default_lem (enumeration_of declared.now) text.now) }
+        ≡ as_flags (flags_named_lem (enumeration_of declared.now) (cut_words_lem [] text.now))) }
 {
-    if !has(&declared.attributes, b"bit_flags") {
-        return Ok(None);
-    }
     let words = or_return!(cut_words(alloc, text));
     match flags_named(declared, &words) {
         Some(magnitude) => Ok(Some(Value::Integer(Number {
@@ -212,6 +277,35 @@ fn flags_default(
             magnitude,
         }))),
         None => Ok(None),
+    }
+}
+
+fn enum_quoted(
+    alloc: Global,
+    declared: &Enumeration,
+    text: &[u8],
+) -> Result<Option<Value>, AllocError>
+    ensures { IfOk result (λ o. option_map value_of o
+        ≡ enum_quoted_lem (enumeration_of declared.now) text.now) }
+{
+    if is_number(text) {
+        Ok(enum_number(declared, text))
+    } else if is_null(text) {
+        Ok(Some(Value::Absent))
+    } else if has(&declared.attributes, b"bit_flags") {
+        flags_default(alloc, declared, text)
+    } else {
+        Ok(value_in(declared, text))
+    }
+}
+
+fn enum_word(declared: &Enumeration, path: &Path) -> Option<Value>
+    ensures { option_map value_of result
+        ≡ enum_default_lem (enumeration_of declared.now) (named (path_of path.now)) }
+{
+    match lone_word(path) {
+        Some(word) if is_null(word) => Some(Value::Absent),
+        _ => enum_named(declared, path),
     }
 }
 
@@ -224,13 +318,9 @@ fn enum_default(
         ≡ enum_default_lem (enumeration_of declared.now) (literal_of literal.now)) }
 {
     match literal {
-        Literal::Number(digits) => match integer(digits) {
-            Some(number) if is_among_values(declared, number) => Ok(Some(Value::Integer(number))),
-            _ => Ok(None),
-        },
-        Literal::Name(path) if is_word(path, b"null") => Ok(Some(Value::Absent)),
-        Literal::Name(path) => Ok(enum_named(declared, path)),
-        Literal::Text(text) => flags_default(alloc, declared, text),
+        Literal::Number(digits) => Ok(enum_number(declared, digits)),
+        Literal::Name(path) => Ok(enum_word(declared, path)),
+        Literal::Text(text) => enum_quoted(alloc, declared, text),
         Literal::EmptyVector => Ok(None),
     }
 }

@@ -9,7 +9,8 @@ ghost use Rattle.planus_schema.specs.inner.Scopes.{scope_heads, scope_space};
 ghost use Rattle.planus_schema.specs.Names.{type_named, setting as setting_lem};
 ghost use Rattle.planus_layout.specs.Layouts.{is_alignment as is_alignment_lem};
 ghost use Rattle.planus_schema.specs.Structs.{is_plain};
-ghost use Rattle.planus_schema.specs.Structs.{alignment_said, number_in};
+ghost use Rattle.planus_schema.specs.Structs.{alignment_said, natural_of, number_in};
+ghost use Rattle.planus_layout.specs.Numbers.{integer_said};
 ghost use Rattle.planus_schema.specs.Names.{attribute_named};
 ghost use Rattle.planus_schema.specs.Wrong.{Tells};
 ghost use Rattle.planus_schema.specs.WrongStructs.{wrong_plain, wrong_measure, wrong_struct};
@@ -26,7 +27,7 @@ use planus_layout::{
     Base, Declared, Layout, Measure, Struct, StructField, greater, integer, is_alignment,
     measure_of, next_multiple,
 };
-use planus_syntax::{Attribute, Field, Literal, Record};
+use planus_syntax::{Attribute, Field, Literal, Record, is_number};
 use std::alloc::Global;
 
 fn base_in_struct(scope: &Scope, field: &Field) -> Result<Base, Stop>
@@ -128,14 +129,21 @@ fn struct_fields(scope: &Scope, bodies: &[Declared], declared: &[Field]) -> Resu
     })
 }
 
+fn natural(digits: &[u8]) -> Option<u64>
+    ensures { result ≡ natural_of (integer_said digits.now) }
+{
+    match integer(digits) {
+        Some(number) if !number.negative => Some(number.magnitude),
+        _ => None,
+    }
+}
+
 pub(crate) fn setting_number(attribute: &Attribute) -> Option<u64>
     ensures { result ≡ number_in (attribute_of attribute.now).value }
 {
     match &attribute.value {
-        Some(Literal::Number(digits)) => match integer(digits) {
-            Some(number) if !number.negative => Some(number.magnitude),
-            _ => None,
-        },
+        Some(Literal::Number(digits)) => natural(digits),
+        Some(Literal::Text(text)) if is_number(text) => natural(text),
         _ => None,
     }
 }

@@ -362,7 +362,15 @@ table T { a: uint8 = 200; b: int64 = -1; }
 => T.a slot 0; T.a of ubyte; T.a default 200; T.b slot 1; T.b of long; T.b default -1
 
 table T { b: bool = false; c: bool = 0; }
-=> T.b slot 0; T.b of bool; T.c slot 1; T.c of bool";
+=> T.b slot 0; T.b of bool; T.c slot 1; T.c of bool
+
+enum E: ubyte { A, B } enum F: ubyte (bit_flags) { X, Y } table T { a: int = \"5\"; b: E = \
+    \"B\"; c: F = \"X Y\"; d: bool = \"true\"; e: int = \"null\"; f: int = \"-0x10\"; g: E = \
+    \"1\"; h: F = \"2\"; }
+=> T.a slot 0; T.a of int; T.a default 5; T.b slot 1; T.b of E; T.b default 1; T.c slot 2; T.c of \
+    F; T.c default 3; T.d slot 3; T.d of bool; T.d default 1; T.e slot 4; T.e of int; T.e has \
+    null; T.f slot 5; T.f of int; T.f default -16; T.g slot 6; T.g of E; T.g default 1; T.h slot \
+    7; T.h of F; T.h default 2; E of ubyte; E.A is 0; E.B is 1; F of ubyte; F.X is 1; F.Y is 2";
 
 /// Taken by both, with the facts: fields of tables.
 pub const FIELDS: &str = "\
@@ -387,6 +395,9 @@ table T { a: int8; b: uint8; c: int16; d: uint16; e: int32; f: uint32; g: int64;
 table T { a: int; b: string; c: [int]; d: T; }
 => T.a slot 0; T.a of int; T.b slot 1; T.b of string; T.c slot 2; T.c of [int]; T.d slot 3; T.d \
     of T
+
+table T { a: int (id: \"1\"); b: int (id: \"0x0\"); }
+=> T.a slot 1; T.a of int; T.b slot 0; T.b of int
 
 table T { a: int (id: 2); b: int (id: 0); c: int (id: 1); }
 => T.a slot 2; T.a of int; T.b slot 0; T.b of int; T.c slot 1; T.c of int
@@ -503,7 +514,10 @@ table A {} root_type A; file_identifier \"AAAA\"; file_extension \"a\";
 /// As `INCLUDED`, with other facts than those of `flatc`, which are written by hand.
 pub const SETTLED_HERE: &str = "\
 + namespace n; table A {} namespace m; union U { n.A }
-=> m.U.NONE is 0; m.U.n.A is 1; m.U.n.A of n.A";
+=> m.U.NONE is 0; m.U.n.A is 1; m.U.n.A of n.A
+
++ table T { b: bool = 2; }
+=> T.b slot 0; T.b of bool; T.b default 1";
 
 /// Refused by `flatc` alone. The facts are written by hand.
 pub const TAKEN_HERE: &str = "\

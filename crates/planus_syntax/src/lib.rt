@@ -19,6 +19,7 @@ pub use laws::{
     declarations_again, layout_spells, one_place, one_schema, spelling_found, spelling_read,
 };
 pub use lexer::LexFault;
+pub use number::{is_float_name, is_number};
 pub use parse_fault::ParseFault;
 pub use text::{SchemaError, after_order_mark, format_text, parse_text, place_from_end};
 pub use value::{

@@ -169,7 +169,8 @@ fn is_end(state: NumberState) -> bool
     }
 }
 
-fn is_float_name(word: &[u8]) -> bool
+/// Returns whether the word is `inf`, `infinity` or `nan`, in lower or upper case.
+pub fn is_float_name(word: &[u8]) -> bool
     ensures { result ≡ is_float_name_lem word.now }
 {
     word.eq_ignore_ascii_case(b"inf")
@@ -188,7 +189,7 @@ fn is_signed_name(bytes: &[u8]) -> bool
 
 /// Returns whether the bytes are an integer, a float, each decimal or hexadecimal, or `inf`,
 /// `infinity` or `nan` with a sign.
-pub(crate) fn is_number(bytes: &[u8]) -> bool
+pub fn is_number(bytes: &[u8]) -> bool
     ensures { result ≡ is_number_lem bytes.now }
 {
     let mut state = NumberState::Start;
