@@ -1,10 +1,11 @@
 -- The names that a schema uses, in order, and those that flatc takes for another declaration.
 --
--- flatc reads a schema once, and keeps a name that it does not know yet as it is written. It takes a
--- single word for the next table or struct whose name ends with it, in whatever namespace, and words
--- with dots for the one of exactly this full name. Until then each use of the same words is the same
--- name, wherever it stands. Where that is not what a name means here, the schema is refused, so that
--- no schema means one thing here and another to flatc.
+-- As far as it was tried, flatc reads a schema once, and keeps a name that it does not know yet as it
+-- is written. It takes a single word for the next table or struct whose name ends with it, in
+-- whatever namespace, and words with dots for the one of exactly this full name. Until then each use
+-- of the same words is the same name, wherever it stands. These definitions follow it declaration by
+-- declaration. Each use that such a reading takes for another declaration than `found` is a fault,
+-- among those that a refusal tells (`faults_found`). That flatc itself reads so is only tested.
 use Rattle.std.specs.Prelude.{ℕ, ◌+◌, ◌==◌, ◌&&◌, Bool, nat_eq, nat_lt, codes}
 use Rattle.std.specs.Prelude.{List, [], ◌∷◌, ◌++◌, length, position, if◌then◌else◌}
 use Rattle.std.specs.Prelude.{slice_set, Option, Some, None, replicate}

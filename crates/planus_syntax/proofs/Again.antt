@@ -2,8 +2,8 @@
 use Rattle.std.proofs.Common.{◌≡◌, ℕ, Bool, true, false, List, [], ◌∷◌, length, Option, Some, None, Result, Ok, refl, ap, ◌∙◌}
 use Rattle.std.specs.Prelude.{codes, ◌==◌, ◌||◌, not}
 use Rattle.planus_syntax.specs.Tokens.{Piece, word, text, doc, mark}
-use Rattle.planus_syntax.specs.Values.{PathV, KindV, single, vector, LiteralV, numeral, named, quote, nothing, LabelV, AttributeV, FieldV, RecordV, VariantV, EnumerationV, MemberV, UnionV, MethodV, ServiceV, ItemV, include, native_include, namespace, attribute, table, struct, enumeration, union, service, root, identifier, extension, DeclarationV, Before, each_before, doc_before, docs_before, dotted_before, path_before, kind_before, literal_before, after_before, number_before, label_piece, label_before, attribute_before, next_before, attributes_before, field_before, record_before, variant_before, list_before, comma_before, enumeration_before, member_before, union_before, method_before, service_before, quoted_before, rooted_before, declared_before, namespace_before, item_before, declaration_before, schema_pieces}
-use Rattle.planus_syntax.specs.Reading.{Fault, Reads, optional_at, ◌>>=◌, begins_mark, begins_doc, begins_next, is_some, inside, mark_at, word_at, doc_at, number_at, label_at, list_at, with_items, docs_at, dotted_at, path_at, kind_at, brackets_at, name_at, literal_at, attribute_at, next_attribute_at, attributes_at, field_at, record_at, comma_at, variant_at, next_variant_at, variants_at, enumeration_at, member_at, next_member_at, members_at, union_at, method_at, service_at, quoted_at, rooted_at, namespace_at, declared_at, as_item, statement_at, item_at, declaration_at, schema_at}
+use Rattle.planus_syntax.specs.Values.{closing_before, PathV, KindV, single, vector, LiteralV, numeral, named, quote, nothing, LabelV, AttributeV, FieldV, RecordV, VariantV, EnumerationV, MemberV, UnionV, MethodV, ServiceV, ItemV, include, native_include, namespace, attribute, table, struct, enumeration, union, service, root, identifier, extension, DeclarationV, Before, each_before, doc_before, docs_before, dotted_before, path_before, kind_before, literal_before, after_before, number_before, label_piece, label_before, attribute_before, next_before, attributes_before, field_before, record_before, variant_before, list_before, comma_before, enumeration_before, member_before, union_before, method_before, service_before, quoted_before, rooted_before, declared_before, namespace_before, item_before, declaration_before, schema_pieces}
+use Rattle.planus_syntax.specs.Reading.{begins_closing, closing_at, Fault, Reads, optional_at, ◌>>=◌, begins_mark, begins_doc, begins_next, is_some, inside, mark_at, word_at, doc_at, number_at, label_at, list_at, with_items, docs_at, dotted_at, path_at, kind_at, brackets_at, name_at, literal_at, attribute_at, next_attribute_at, attributes_at, field_at, record_at, comma_at, variant_at, next_variant_at, variants_at, enumeration_at, member_at, next_member_at, members_at, union_at, method_at, service_at, quoted_at, rooted_at, namespace_at, declared_at, as_item, statement_at, item_at, declaration_at, schema_at}
 use Rattle.planus_syntax.specs.Values.{is_whole, is_whole_item, is_some_of, AreWhole}
 use Rattle.planus_syntax.proofs.Many.{Again, list_again, suits_all, always, all_always}
 use Rattle.planus_syntax.proofs.Loops.{dotted_looped, docs_looped, attributes_looped, fields_looped, variants_looped, members_looped, methods_looped, declarations_looped}
@@ -36,6 +36,26 @@ docs_are_again = record { again = λ a rest w s. refl; begins = λ a rest. (refl
 
 docs_again : (docs : List (List ℕ)) (rest : List Piece) → begins_doc rest ≡ false → docs_at (docs_before docs rest) ≡ Ok (docs, rest)
 docs_again docs rest h = list_again begins_doc doc_at doc_before any always docs_looped docs_are_again docs rest (all_always docs) h refl
+
+docs_closing : (docs : List (List ℕ)) (rest : List Piece) → begins_closing (docs_before docs rest) ≡ begins_closing rest
+docs_closing [] rest = refl
+docs_closing (d ∷ docs) rest = docs_closing docs rest
+
+docs_inside : (docs : List (List ℕ)) (w : List ℕ) (rest : List Piece) → inside (docs_before docs (word w ∷ rest)) ≡ true
+docs_inside [] w rest = refl
+docs_inside (d ∷ docs) w rest = ap not (docs_closing docs (word w ∷ rest))
+
+closing_outside : (docs : List (List ℕ)) (rest : List Piece) → inside (closing_before docs rest) ≡ false
+closing_outside [] rest = refl
+closing_outside (d ∷ docs) rest = ap not (docs_closing docs (mark 125 ∷ rest))
+
+closing_again : (docs : List (List ℕ)) (rest : List Piece) → closing_at (closing_before docs rest) ≡ Ok (docs, rest)
+unfolding closing_at
+closing_again docs rest = step (docs_at (docs_before docs (mark 125 ∷ rest))) (docs, mark 125 ∷ rest) _ (docs_again docs (mark 125 ∷ rest) refl)
+
+closing_mark : (m : ℕ) (docs : List (List ℕ)) (rest : List Piece) → (125 == m) ≡ false → begins_mark m (closing_before docs rest) ≡ false
+closing_mark m [] rest h = h
+closing_mark m (d ∷ docs) rest h = refl
 
 path_again : (p : PathV) (rest : List Piece) → begins_mark 46 rest ≡ false → path_at (path_before p rest) ≡ Ok (p, rest)
 unfolding path_at
@@ -124,28 +144,32 @@ field_again f rest =
 fields_are_again : Again inside field_at field_before any always
 fields_are_again = record {
   again = λ f rest w s. field_again f rest;
-  begins = λ f rest. (docs_front inside f.docs (word f.name ∷ mark 58 ∷ kind_before f.kind (after_before 61 literal_before f.default (attributes_before f.attributes (mark 59 ∷ rest)))) (λ d ps. refl) refl, refl);
+  begins = λ f rest. (docs_inside f.docs f.name (mark 58 ∷ kind_before f.kind (after_before 61 literal_before f.default (attributes_before f.attributes (mark 59 ∷ rest)))), refl);
 }
 
 record_again : (r : RecordV) (rest : List Piece) → record_at (record_before r rest) ≡ Ok (r, rest)
 unfolding record_at
 record_again r rest =
-    let b = mark 123 ∷ each_before field_before r.fields (mark 125 ∷ rest) in
+    let e = closing_before r.trailing rest in
+    let b = mark 123 ∷ each_before field_before r.fields e in
     step (attributes_at (attributes_before r.attributes b)) (r.attributes, b) _ (attributes_again r.attributes b refl)
-    ∙ step (list_at inside field_at (each_before field_before r.fields (mark 125 ∷ rest))) (r.fields, mark 125 ∷ rest) _ (list_again inside field_at field_before any always fields_looped fields_are_again r.fields (mark 125 ∷ rest) (all_always r.fields) refl refl)
+    ∙ step (list_at inside field_at (each_before field_before r.fields e)) (r.fields, e) _ (list_again inside field_at field_before any always fields_looped fields_are_again r.fields e (all_always r.fields) (closing_outside r.trailing rest) refl)
+    ∙ step (closing_at e) (r.trailing, rest) _ (closing_again r.trailing rest)
 
-comma_again : (c : Bool) (rest : List Piece) → comma_at (comma_before c (mark 125 ∷ rest)) ≡ Ok (c, mark 125 ∷ rest)
+comma_again : (c : Bool) (docs : List (List ℕ)) (rest : List Piece) → comma_at (comma_before c (closing_before docs rest)) ≡ Ok (c, closing_before docs rest)
 unfolding comma_at
-comma_again true rest = refl
-comma_again false rest = refl
+comma_again true docs rest = refl
+comma_again false docs rest = rw (closing_mark 44 docs rest refl) refl
 
-comma_stops : (c : Bool) (rest : List Piece) → begins_next (comma_before c (mark 125 ∷ rest)) ≡ false
-comma_stops true rest = refl
-comma_stops false rest = refl
+comma_stops : (c : Bool) (docs : List (List ℕ)) (rest : List Piece) → begins_next (comma_before c (closing_before docs rest)) ≡ false
+comma_stops true docs rest = ap not (docs_closing docs (mark 125 ∷ rest))
+comma_stops false [] rest = refl
+comma_stops false (d ∷ docs) rest = refl
 
-comma_ends : (c : Bool) (rest : List Piece) → ends_value (comma_before c (mark 125 ∷ rest)) ≡ true
-comma_ends true rest = refl
-comma_ends false rest = refl
+comma_ends : (c : Bool) (docs : List (List ℕ)) (rest : List Piece) → ends_value (comma_before c (closing_before docs rest)) ≡ true
+comma_ends true docs rest = refl
+comma_ends false [] rest = refl
+comma_ends false (d ∷ docs) rest = refl
 
 variant_again : (v : VariantV) (rest : List Piece) → ends_value rest ≡ true → variant_at (variant_before v rest) ≡ Ok (v, rest)
 unfolding variant_at
@@ -166,14 +190,11 @@ member_again m rest h =
     ∙ step (optional_at 58 path_at t) (m.target, v) _ (optional_again 58 path_at path_before path_again m.target v (after_front 61 46 number_before m.value rest refl n.0) (after_front 61 58 number_before m.value rest refl n.1))
     ∙ step (optional_at 61 number_at v) (m.value, rest) _ (optional_again 61 number_at number_before number_again m.value rest n.0 n.2)
 
-abbrev goes_inside : List Piece → Bool
-goes_inside ps = not (begins_mark 125 ps)
-
 variants_are_again : Again begins_next next_variant_at (next_before variant_before) ends_value always
 unfolding next_variant_at
 variants_are_again = record {
   again = λ v rest w s. variant_again v rest s;
-  begins = λ v rest. (docs_front goes_inside v.docs (word v.name ∷ after_before 61 number_before v.value rest) (λ d ps. refl) refl, refl);
+  begins = λ v rest. (ap not (docs_closing v.docs (word v.name ∷ after_before 61 number_before v.value rest)), refl);
 }
 
 variants_again : (xs : List VariantV) (rest : List Piece) → is_some_of xs ≡ true → begins_next rest ≡ false → ends_value rest ≡ true → variants_at (list_before variant_before xs rest) ≡ Ok (xs, rest)
@@ -189,7 +210,7 @@ members_are_again : Again begins_next next_member_at (next_before member_before)
 unfolding next_member_at
 members_are_again = record {
   again = λ v rest w s. member_again v rest s;
-  begins = λ v rest. (docs_front goes_inside v.docs (path_before v.path (after_before 58 path_before v.target (after_before 61 number_before v.value rest))) (λ d ps. refl) refl, refl);
+  begins = λ v rest. (ap not (docs_closing v.docs (path_before v.path (after_before 58 path_before v.target (after_before 61 number_before v.value rest)))), refl);
 }
 
 members_again : (xs : List MemberV) (rest : List Piece) → is_some_of xs ≡ true → begins_next rest ≡ false → ends_value rest ≡ true → members_at (list_before member_before xs rest) ≡ Ok (xs, rest)
@@ -204,22 +225,24 @@ members_again (v ∷ more) rest i h k =
 enumeration_again : (e : EnumerationV) (rest : List Piece) → is_some_of e.variants ≡ true → enumeration_at (enumeration_before e rest) ≡ Ok (e, rest)
 unfolding enumeration_at
 enumeration_again e rest i =
-    let c = comma_before e.comma (mark 125 ∷ rest) in
+    let c = comma_before e.comma (closing_before e.trailing rest) in
     let v = list_before variant_before e.variants c in
     let a = attributes_before e.attributes (mark 123 ∷ v) in
     step (path_at (path_before e.base a)) (e.base, a) _ (path_again e.base a (attributes_front 46 e.attributes (mark 123 ∷ v) refl refl))
     ∙ step (attributes_at a) (e.attributes, mark 123 ∷ v) _ (attributes_again e.attributes (mark 123 ∷ v) refl)
-    ∙ step (variants_at v) (e.variants, c) _ (variants_again e.variants c i (comma_stops e.comma rest) (comma_ends e.comma rest))
-    ∙ step (comma_at c) (e.comma, mark 125 ∷ rest) _ (comma_again e.comma rest)
+    ∙ step (variants_at v) (e.variants, c) _ (variants_again e.variants c i (comma_stops e.comma e.trailing rest) (comma_ends e.comma e.trailing rest))
+    ∙ step (comma_at c) (e.comma, closing_before e.trailing rest) _ (comma_again e.comma e.trailing rest)
+    ∙ step (closing_at (closing_before e.trailing rest)) (e.trailing, rest) _ (closing_again e.trailing rest)
 
 union_again : (u : UnionV) (rest : List Piece) → is_some_of u.members ≡ true → union_at (union_before u rest) ≡ Ok (u, rest)
 unfolding union_at
 union_again u rest i =
-    let c = comma_before u.comma (mark 125 ∷ rest) in
+    let c = comma_before u.comma (closing_before u.trailing rest) in
     let v = list_before member_before u.members c in
     step (attributes_at (attributes_before u.attributes (mark 123 ∷ v))) (u.attributes, mark 123 ∷ v) _ (attributes_again u.attributes (mark 123 ∷ v) refl)
-    ∙ step (members_at v) (u.members, c) _ (members_again u.members c i (comma_stops u.comma rest) (comma_ends u.comma rest))
-    ∙ step (comma_at c) (u.comma, mark 125 ∷ rest) _ (comma_again u.comma rest)
+    ∙ step (members_at v) (u.members, c) _ (members_again u.members c i (comma_stops u.comma u.trailing rest) (comma_ends u.comma u.trailing rest))
+    ∙ step (comma_at c) (u.comma, closing_before u.trailing rest) _ (comma_again u.comma u.trailing rest)
+    ∙ step (closing_at (closing_before u.trailing rest)) (u.trailing, rest) _ (closing_again u.trailing rest)
 
 method_again : (m : MethodV) (rest : List Piece) → method_at (method_before m rest) ≡ Ok (m, rest)
 unfolding method_at
@@ -235,15 +258,17 @@ method_again m rest =
 methods_are_again : Again inside method_at method_before any always
 methods_are_again = record {
   again = λ m rest w s. method_again m rest;
-  begins = λ m rest. (docs_front inside m.docs (word m.name ∷ mark 40 ∷ path_before m.request (mark 41 ∷ mark 58 ∷ path_before m.response (attributes_before m.attributes (mark 59 ∷ rest)))) (λ d ps. refl) refl, refl);
+  begins = λ m rest. (docs_inside m.docs m.name (mark 40 ∷ path_before m.request (mark 41 ∷ mark 58 ∷ path_before m.response (attributes_before m.attributes (mark 59 ∷ rest)))), refl);
 }
 
 service_again : (s : ServiceV) (rest : List Piece) → service_at (service_before s rest) ≡ Ok (s, rest)
 unfolding service_at
 service_again s rest =
-    let b = mark 123 ∷ each_before method_before s.methods (mark 125 ∷ rest) in
+    let e = closing_before s.trailing rest in
+    let b = mark 123 ∷ each_before method_before s.methods e in
     step (attributes_at (attributes_before s.attributes b)) (s.attributes, b) _ (attributes_again s.attributes b refl)
-    ∙ step (list_at inside method_at (each_before method_before s.methods (mark 125 ∷ rest))) (s.methods, mark 125 ∷ rest) _ (list_again inside method_at method_before any always methods_looped methods_are_again s.methods (mark 125 ∷ rest) (all_always s.methods) refl refl)
+    ∙ step (list_at inside method_at (each_before method_before s.methods e)) (s.methods, e) _ (list_again inside method_at method_before any always methods_looped methods_are_again s.methods e (all_always s.methods) (closing_outside s.trailing rest) refl)
+    ∙ step (closing_at e) (s.trailing, rest) _ (closing_again s.trailing rest)
 
 quoted_again : (w : List ℕ) (rest : List Piece) → quoted_at (text w ∷ mark 59 ∷ rest) ≡ Ok (w, rest)
 unfolding quoted_at

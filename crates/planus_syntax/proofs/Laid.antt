@@ -6,7 +6,7 @@ use Rattle.std.specs.Char.{is_ascii_digit}
 use Rattle.std.proofs.lemmas.Bool.{eqb-true}
 use Rattle.planus_syntax.specs.declared.layout.Place.{Place}
 use Rattle.planus_syntax.specs.Tokens.{Piece, word, number, text, doc, mark, begins, is_word_byte, is_number_start, is_number_byte, is_line_byte, is_blank, is_mark, is_lawful, bytes_of}
-use Rattle.planus_syntax.specs.Layout.{is_mark_of, place_after, outside, is_tight, is_open, is_number_piece, is_glued, is_grouped, new_line, between_declarations, after_mark, spaced, apart, gap_before, laid_out, printed}
+use Rattle.planus_syntax.specs.Layout.{is_doc, is_mark_of, place_after, outside, is_tight, is_open, is_number_piece, is_glued, is_grouped, new_line, between_declarations, after_mark, spaced, apart, gap_before, laid_out, printed}
 use Rattle.planus_syntax.specs.Spelled.{Part, token, blank, goes_on, spelled, tokens_in, AreParts}
 use Rattle.planus_syntax.proofs.Marks.{one_of, never, neither, not_true}
 
@@ -46,7 +46,7 @@ line_blank : (p : Place) (q : Piece) → IsBlank (new_line p q)
 line_blank p q = either IsBlank (p.braces && not (is_mark_of 125 q)) (codes "\n  ") (codes "\n") refl refl
 
 spaced_blank : (q : Piece) → IsBlank (spaced q)
-spaced_blank q = either IsBlank (is_mark_of 125 q) (codes "\n") (codes " ") refl refl
+spaced_blank q = either IsBlank (is_mark_of 125 q) (codes "\n") _ refl (either IsBlank (is_doc q) (codes "\n  ") (codes " ") refl refl)
 
 between_blank : (q : Piece) → IsBlank (between_declarations q)
 between_blank q = either IsBlank (is_grouped q) (codes "\n") (codes "\n\n") refl refl
@@ -96,7 +96,7 @@ number_glued w (doc v) rest h = absurd cc
 number_glued w (mark b) rest h = number_tight b h
 
 spaced_stops : (p : ℕ → Bool) (q : Piece) (rest : List ℕ) → p 32 ≡ false → p 10 ≡ false → Stops p (spaced q ++ rest)
-spaced_stops p q rest h k = either (λ bs. Stops p (bs ++ rest)) (is_mark_of 125 q) (codes "\n") (codes " ") k h
+spaced_stops p q rest h k = either (λ bs. Stops p (bs ++ rest)) (is_mark_of 125 q) (codes "\n") _ k (either (λ bs. Stops p (bs ++ rest)) (is_doc q) (codes "\n  ") (codes " ") k h)
 
 line_stops : (place : Place) (q : Piece) (rest : List ℕ) → Stops is_line_byte (new_line place q ++ rest)
 line_stops place q rest = either (λ bs. Stops is_line_byte (bs ++ rest)) (place.braces && not (is_mark_of 125 q)) (codes "\n  ") (codes "\n") refl refl
@@ -145,7 +145,7 @@ mark_stops p b q rest =
     let line : P (new_line p q) = either P (p.braces && not (is_mark_of 125 q)) (codes "\n  ") (codes "\n") refl refl in
     either P (b == 125) (codes "\n\n") _ refl
     (either P (b == 59) _ _ (either P p.braces (new_line p q) (between_declarations q) line (either P (is_grouped q) (codes "\n") (codes "\n\n") refl refl))
-    (either P (b == 123 || (b == 44 && not p.parentheses)) (new_line p q) (spaced q) line (either P (is_mark_of 125 q) (codes "\n") (codes " ") refl refl)))
+    (either P (b == 123 || (b == 44 && not p.parentheses)) (new_line p q) (spaced q) line (either P (is_mark_of 125 q) (codes "\n") _ refl (either P (is_doc q) (codes "\n  ") (codes " ") refl refl))))
 
 gap_stops : (place : Place) (a : Piece) (qs : List Piece) → AllByRecursion (λ q. is_lawful q ≡ true) qs → Stops (goes_on (token a)) (gap_before place a qs ++ laid_out place qs)
 gap_stops place (word w) [] l = refl

@@ -4,9 +4,9 @@ use Rattle.std.specs.Prelude.{codes, ◌==◌, ◌&&◌}
 use Rattle.std.specs.Str.{bytes_eq}
 use Rattle.std.proofs.lemmas.Bool.{eqb-true}
 use Rattle.planus_syntax.specs.Tokens.{Piece, word, number, text, doc, mark}
-use Rattle.planus_syntax.specs.Values.{Name, PathV, KindV, single, vector, LiteralV, numeral, named, quote, nothing, LabelV, AttributeV, FieldV, RecordV, VariantV, EnumerationV, MemberV, UnionV, MethodV, ServiceV, ItemV, include, native_include, namespace, attribute, table, struct, enumeration, union, service, root, identifier, extension, DeclarationV, Before, each_before, doc_before, docs_before, dotted_before, path_before, kind_before, literal_before, after_before, number_before, label_before, attribute_before, next_before, attributes_before, field_before, record_before, variant_before, list_before, comma_before, enumeration_before, member_before, union_before, method_before, service_before, quoted_before, rooted_before, declared_before, namespace_before, item_before, declaration_before, schema_pieces}
+use Rattle.planus_syntax.specs.Values.{closing_before, Name, PathV, KindV, single, vector, LiteralV, numeral, named, quote, nothing, LabelV, AttributeV, FieldV, RecordV, VariantV, EnumerationV, MemberV, UnionV, MethodV, ServiceV, ItemV, include, native_include, namespace, attribute, table, struct, enumeration, union, service, root, identifier, extension, DeclarationV, Before, each_before, doc_before, docs_before, dotted_before, path_before, kind_before, literal_before, after_before, number_before, label_before, attribute_before, next_before, attributes_before, field_before, record_before, variant_before, list_before, comma_before, enumeration_before, member_before, union_before, method_before, service_before, quoted_before, rooted_before, declared_before, namespace_before, item_before, declaration_before, schema_pieces}
 use Rattle.planus_syntax.specs.declared.parse_fault.ParseFault.TheVariants as fault
-use Rattle.planus_syntax.specs.Reading.{Looped, Takes, Fault, Reads, optional_at, begins_mark, begins_doc, begins_next, is_some, inside, mark_at, word_at, doc_at, number_at, text_at, label_at, list_at, with_items, docs_at, dotted_at, path_at, kind_at, brackets_at, name_at, literal_at, attribute_at, next_attribute_at, attributes_at, field_at, record_at, comma_at, variant_at, next_variant_at, variants_at, enumeration_at, member_at, next_member_at, members_at, union_at, method_at, service_at, quoted_at, rooted_at, namespace_at, declared_at, as_item, statement_at, item_at, declaration_at, schema_at}
+use Rattle.planus_syntax.specs.Reading.{closing_at, Looped, Takes, Fault, Reads, optional_at, begins_mark, begins_doc, begins_next, is_some, inside, mark_at, word_at, doc_at, number_at, text_at, label_at, list_at, with_items, docs_at, dotted_at, path_at, kind_at, brackets_at, name_at, literal_at, attribute_at, next_attribute_at, attributes_at, field_at, record_at, comma_at, variant_at, next_variant_at, variants_at, enumeration_at, member_at, next_member_at, members_at, union_at, method_at, service_at, quoted_at, rooted_at, namespace_at, declared_at, as_item, statement_at, item_at, declaration_at, schema_at}
 use Rattle.planus_syntax.proofs.Many.{bind_ok, ok_is, ok, list_takes}
 
 guard : {A : Type 0} (b : Bool) (x y : A) (e : Fault) → cond b (ok x) (Err e) ≡ Ok y → (b ≡ true) × (x ≡ y)
@@ -88,6 +88,15 @@ docs_looped = record { none = refl; shrinks = λ ps x e. shrunk ps _ _ x.1 (doc_
 
 pub docs_take : Takes docs_at docs_before
 docs_take ps x e = (list_takes begins_doc doc_at doc_before docs_looped doc_takes ps x e).0
+
+pub closing_takes : Takes closing_at closing_before
+unfolding closing_at
+closing_takes ps x e =
+    let y0 = bind_ok _ _ x e in
+    let y1 = bind_ok _ _ x y0.2 in
+    subst (λ (y : List (List ℕ) × List Piece). ps ≡ closing_before y.0 y.1) (ok_is _ x y1.2)
+    ((docs_take ps y0.0 y0.1) ∙ ap (λ (r : List Piece). docs_before y0.0.0 r) (
+    mark_takes 125 y0.0.1 y1.0 y1.1))
 
 pub path_takes : Takes path_at path_before
 unfolding path_at
@@ -287,7 +296,7 @@ record_takes ps x e =
     (attributes_takes y0.0.1 y1.0 y1.1) ∙ ap (λ (r : List Piece). attributes_before y1.0.0 r) (
     (mark_takes 123 y1.0.1 y2.0 y2.1) ∙ ap (λ (r : List Piece). mark 123 ∷ r) (
     ((list_takes inside field_at field_before fields_looped field_takes y2.0 y3.0 y3.1).0) ∙ ap (λ (r : List Piece). each_before field_before y3.0.0 r) (
-    mark_takes 125 y3.0.1 y4.0 y4.1)))))
+    closing_takes y3.0.1 y4.0 y4.1)))))
 
 pub comma_takes : Takes comma_at comma_before
 unfolding comma_at
@@ -347,7 +356,7 @@ enumeration_takes ps x e =
     (mark_takes 123 y3.0.1 y4.0 y4.1) ∙ ap (λ (r : List Piece). mark 123 ∷ r) (
     (variants_take y4.0 y5.0 y5.1) ∙ ap (λ (r : List Piece). list_before variant_before y5.0.0 r) (
     (comma_takes y5.0.1 y6.0 y6.1) ∙ ap (λ (r : List Piece). comma_before y6.0.0 r) (
-    mark_takes 125 y6.0.1 y7.0 y7.1))))))))
+    closing_takes y6.0.1 y7.0 y7.1))))))))
 
 pub member_takes : Takes member_at member_before
 unfolding member_at
@@ -398,7 +407,7 @@ union_takes ps x e =
     (mark_takes 123 y1.0.1 y2.0 y2.1) ∙ ap (λ (r : List Piece). mark 123 ∷ r) (
     (members_take y2.0 y3.0 y3.1) ∙ ap (λ (r : List Piece). list_before member_before y3.0.0 r) (
     (comma_takes y3.0.1 y4.0 y4.1) ∙ ap (λ (r : List Piece). comma_before y4.0.0 r) (
-    mark_takes 125 y4.0.1 y5.0 y5.1))))))
+    closing_takes y4.0.1 y5.0 y5.1))))))
 
 pub method_takes : Takes method_at method_before
 unfolding method_at
@@ -444,7 +453,7 @@ service_takes ps x e =
     (attributes_takes y0.0.1 y1.0 y1.1) ∙ ap (λ (r : List Piece). attributes_before y1.0.0 r) (
     (mark_takes 123 y1.0.1 y2.0 y2.1) ∙ ap (λ (r : List Piece). mark 123 ∷ r) (
     ((list_takes inside method_at method_before methods_looped method_takes y2.0 y3.0 y3.1).0) ∙ ap (λ (r : List Piece). each_before method_before y3.0.0 r) (
-    mark_takes 125 y3.0.1 y4.0 y4.1)))))
+    closing_takes y3.0.1 y4.0 y4.1)))))
 
 pub quoted_takes : Takes quoted_at quoted_before
 unfolding quoted_at
@@ -536,10 +545,13 @@ declaration_takes ps x e =
     subst (λ (y : DeclarationV × List Piece). ps ≡ declaration_before y.0 y.1) (ok_is _ x y2.2)
     (docs_take ps y0.0 y0.1 ∙ ap (λ (r : List Piece). docs_before y0.0.0 r) (word_takes y0.0.1 y1.0 y1.1 ∙ item_takes y1.0.0 (length y0.0.1) y1.0.1 y2.0 y2.1))
 
+closing_longer : Longer closing_before
+closing_longer docs rest = omega (arith, docs_longer docs (mark 125 ∷ rest))
+
 record_longer : Longer record_before
 record_longer r rest =
-    let f = each_before field_before r.fields (mark 125 ∷ rest) in
-    omega (arith, attributes_longer r.attributes (mark 123 ∷ f), each_longer field_before (λ (a : FieldV) (s : List Piece). omega (arith, field_rest_longer a s, docs_longer a.docs (word a.name ∷ mark 58 ∷ kind_before a.kind (after_before 61 literal_before a.default (attributes_before a.attributes (mark 59 ∷ s)))))) r.fields (mark 125 ∷ rest))
+    let f = each_before field_before r.fields (closing_before r.trailing rest) in
+    omega (arith, attributes_longer r.attributes (mark 123 ∷ f), each_longer field_before (λ (a : FieldV) (s : List Piece). omega (arith, field_rest_longer a s, docs_longer a.docs (word a.name ∷ mark 58 ∷ kind_before a.kind (after_before 61 literal_before a.default (attributes_before a.attributes (mark 59 ∷ s)))))) r.fields (closing_before r.trailing rest), closing_longer r.trailing rest)
 
 comma_longer : Longer comma_before
 comma_longer true rest = omega arith
@@ -551,21 +563,21 @@ list_longer f h (x ∷ xs) rest = omega (arith, h x (each_before (next_before f)
 
 enumeration_longer : Longer enumeration_before
 enumeration_longer e rest =
-    let c = comma_before e.comma (mark 125 ∷ rest) in
+    let c = comma_before e.comma (closing_before e.trailing rest) in
     let v = list_before variant_before e.variants c in
     let a = attributes_before e.attributes (mark 123 ∷ v) in
-    omega (arith, path_longer e.base a, attributes_longer e.attributes (mark 123 ∷ v), list_longer variant_before variant_longer e.variants c, comma_longer e.comma (mark 125 ∷ rest))
+    omega (arith, path_longer e.base a, attributes_longer e.attributes (mark 123 ∷ v), list_longer variant_before variant_longer e.variants c, comma_longer e.comma (closing_before e.trailing rest), closing_longer e.trailing rest)
 
 union_longer : Longer union_before
 union_longer u rest =
-    let c = comma_before u.comma (mark 125 ∷ rest) in
+    let c = comma_before u.comma (closing_before u.trailing rest) in
     let v = list_before member_before u.members c in
-    omega (arith, attributes_longer u.attributes (mark 123 ∷ v), list_longer member_before member_longer u.members c, comma_longer u.comma (mark 125 ∷ rest))
+    omega (arith, attributes_longer u.attributes (mark 123 ∷ v), list_longer member_before member_longer u.members c, comma_longer u.comma (closing_before u.trailing rest), closing_longer u.trailing rest)
 
 service_longer : Longer service_before
 service_longer s rest =
-    let f = each_before method_before s.methods (mark 125 ∷ rest) in
-    omega (arith, attributes_longer s.attributes (mark 123 ∷ f), each_longer method_before (λ (a : MethodV) (r : List Piece). omega (arith, method_rest_longer a r, docs_longer a.docs (word a.name ∷ mark 40 ∷ path_before a.request (mark 41 ∷ mark 58 ∷ path_before a.response (attributes_before a.attributes (mark 59 ∷ r)))))) s.methods (mark 125 ∷ rest))
+    let f = each_before method_before s.methods (closing_before s.trailing rest) in
+    omega (arith, attributes_longer s.attributes (mark 123 ∷ f), each_longer method_before (λ (a : MethodV) (r : List Piece). omega (arith, method_rest_longer a r, docs_longer a.docs (word a.name ∷ mark 40 ∷ path_before a.request (mark 41 ∷ mark 58 ∷ path_before a.response (attributes_before a.attributes (mark 59 ∷ r)))))) s.methods (closing_before s.trailing rest), closing_longer s.trailing rest)
 
 namespace_longer : Longer namespace_before
 namespace_longer None rest = omega arith

@@ -5,7 +5,7 @@ use Rattle.std.specs.List.{AllByRecursion}
 use Rattle.std.specs.Str.{bytes_eq}
 use Rattle.planus_syntax.specs.Tokens.{Piece}
 use Rattle.planus_syntax.specs.Values.{Name, EnumerationV, UnionV, ItemV, include, native_include, namespace, attribute, table, struct, enumeration, union, service, root, identifier, extension, DeclarationV, is_some_of, is_whole_item, is_whole, AreWhole}
-use Rattle.planus_syntax.specs.Reading.{Reads, ◌>>=◌, many, list_at, with_items, is_some, begins_next, docs_at, word_at, mark_at, path_at, attributes_at, comma_at, variant_at, next_variant_at, member_at, next_member_at, variants_at, members_at, enumeration_at, union_at, record_at, service_at, quoted_at, rooted_at, namespace_at, declared_at, as_item, statement_at, item_at, declaration_at, schema_at}
+use Rattle.planus_syntax.specs.Reading.{closing_at, Reads, ◌>>=◌, many, list_at, with_items, is_some, begins_next, docs_at, word_at, mark_at, path_at, attributes_at, comma_at, variant_at, next_variant_at, member_at, next_member_at, variants_at, members_at, enumeration_at, union_at, record_at, service_at, quoted_at, rooted_at, namespace_at, declared_at, as_item, statement_at, item_at, declaration_at, schema_at}
 use Rattle.planus_syntax.proofs.Many.{bind_ok, ok_is, joined}
 use Rattle.planus_syntax.proofs.Loops.{chosen}
 
@@ -62,7 +62,7 @@ enumeration_whole ps x e =
     let y4 = bind_ok (mark_at 123 y3.0.1) _ x y3.2 in
     let y5 = bind_ok (variants_at y4.0) _ x y4.2 in
     let y6 = bind_ok (comma_at y5.0.1) _ x y5.2 in
-    let y7 = bind_ok (mark_at 125 y6.0.1) _ x y6.2 in
+    let y7 = bind_ok (closing_at y6.0.1) _ x y6.2 in
     subst (λ (y : EnumerationV × List Piece). is_some_of y.0.variants ≡ true) (ok_is _ x y7.2) (variants_some y4.0 y5.0 y5.1)
 
 union_whole : Makes union_at (λ u. is_some_of u.members)
@@ -73,7 +73,7 @@ union_whole ps x e =
     let y2 = bind_ok (mark_at 123 y1.0.1) _ x y1.2 in
     let y3 = bind_ok (members_at y2.0) _ x y2.2 in
     let y4 = bind_ok (comma_at y3.0.1) _ x y3.2 in
-    let y5 = bind_ok (mark_at 125 y4.0.1) _ x y4.2 in
+    let y5 = bind_ok (closing_at y4.0.1) _ x y4.2 in
     subst (λ (y : UnionV × List Piece). is_some_of y.0.members ≡ true) (ok_is _ x y5.2) (members_some y2.0 y3.0 y3.1)
 
 made : {A : Type 0} (make : A → ItemV) (read : List Piece → Reads A) (p : A → Bool) (ps : List Piece) (x : ItemV × List Piece) → Makes read p

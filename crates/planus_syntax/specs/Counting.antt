@@ -30,7 +30,7 @@ use Rattle.planus_syntax.specs.Values.{variant_before, member_before, list_befor
 use Rattle.planus_syntax.specs.Values.{method_before, item_before, declaration_before}
 use Rattle.planus_syntax.specs.Values.{path_of, kind_of, literal_of, label_of, attribute_of}
 use Rattle.planus_syntax.specs.Values.{field_of, variant_of, digits_of, member_of, method_of}
-use Rattle.planus_syntax.specs.Values.{item_of, declaration_of}
+use Rattle.planus_syntax.specs.Values.{item_of, declaration_of, names_of, closing_before}
 use Rattle.planus_syntax.specs.Reading.{Fault, Fails}
 
 -- at a name, its first word
@@ -86,30 +86,35 @@ pub record FieldCounted (f : Field) (rest : List Piece) : Type 0 where
   pub default : IfAny LiteralCounted f.default (after_default f rest)
   pub attributes : AttributesCounted f.attributes.items (mark 59 ∷ rest)
 
+abbrev pub record_end : Record → List Piece → List Piece
+record_end r rest = closing_before (names_of r.trailing.items) rest
+
 abbrev pub after_attributes : Record → List Piece → List Piece
 after_attributes r rest =
-    mark 123 ∷ each_before field_before (map field_of r.fields.items) (mark 125 ∷ rest)
+    mark 123 ∷ each_before field_before (map field_of r.fields.items) (record_end r rest)
 
 abbrev pub RecordCounted : Record → List Piece → Type 0
 RecordCounted r rest = AttributesCounted r.attributes.items (after_attributes r rest)
-    × EachCounted FieldCounted field_of field_before r.fields.items (mark 125 ∷ rest)
+    × EachCounted FieldCounted field_of field_before r.fields.items (record_end r rest)
 
 -- at a variant, its name
 abbrev pub VariantCounted : Variant → List Piece → Type 0
 VariantCounted v rest = v.left
     ≡ length (word v.name.items ∷ after_before 61 number_before (digits_of v.value) rest)
 
+abbrev pub enumeration_end : Enumeration → List Piece → List Piece
+enumeration_end e rest = comma_before e.comma (closing_before (names_of e.trailing.items) rest)
+
 abbrev pub enumeration_body : Enumeration → List Piece → List Piece
 enumeration_body e rest =
-    mark 123 ∷ list_before variant_before (map variant_of e.variants.items)
-    (comma_before e.comma (mark 125 ∷ rest))
+    mark 123 ∷ list_before variant_before (map variant_of e.variants.items) (enumeration_end e rest)
 
 pub record EnumerationCounted (e : Enumeration) (rest : List Piece) : Type 0 where
   pub base : PathCounted e.base
       (attributes_before (map attribute_of e.attributes.items) (enumeration_body e rest))
   pub attributes : AttributesCounted e.attributes.items (enumeration_body e rest)
   pub variants : EachCounted VariantCounted variant_of (next_before variant_before) e.variants.items
-      (comma_before e.comma (mark 125 ∷ rest))
+      (enumeration_end e rest)
 
 abbrev pub after_target : Member → List Piece → List Piece
 after_target m rest = after_before 61 number_before (digits_of m.value) rest
@@ -120,15 +125,17 @@ MemberCounted m rest =
     (after_before 58 path_before (option_map path_of m.target) (after_target m rest))
     × IfAny PathCounted m.target (after_target m rest)
 
+abbrev pub union_end : UnionBody → List Piece → List Piece
+union_end u rest = comma_before u.comma (closing_before (names_of u.trailing.items) rest)
+
 abbrev pub union_body : UnionBody → List Piece → List Piece
 union_body u rest =
-    mark 123 ∷ list_before member_before (map member_of u.members.items)
-    (comma_before u.comma (mark 125 ∷ rest))
+    mark 123 ∷ list_before member_before (map member_of u.members.items) (union_end u rest)
 
 abbrev pub UnionCounted : UnionBody → List Piece → Type 0
 UnionCounted u rest = AttributesCounted u.attributes.items (union_body u rest)
     × EachCounted MemberCounted member_of (next_before member_before) u.members.items
-    (comma_before u.comma (mark 125 ∷ rest))
+    (union_end u rest)
 
 abbrev pub after_response : Method → List Piece → List Piece
 after_response m rest = attributes_before (map attribute_of m.attributes.items) (mark 59 ∷ rest)
@@ -146,13 +153,16 @@ pub record MethodCounted (m : Method) (rest : List Piece) : Type 0 where
   pub response : PathCounted m.response (after_response m rest)
   pub attributes : AttributesCounted m.attributes.items (mark 59 ∷ rest)
 
+abbrev pub service_end : Service → List Piece → List Piece
+service_end s rest = closing_before (names_of s.trailing.items) rest
+
 abbrev pub service_body : Service → List Piece → List Piece
 service_body s rest =
-    mark 123 ∷ each_before method_before (map method_of s.methods.items) (mark 125 ∷ rest)
+    mark 123 ∷ each_before method_before (map method_of s.methods.items) (service_end s rest)
 
 abbrev pub ServiceCounted : Service → List Piece → Type 0
 ServiceCounted s rest = AttributesCounted s.attributes.items (service_body s rest)
-    × EachCounted MethodCounted method_of method_before s.methods.items (mark 125 ∷ rest)
+    × EachCounted MethodCounted method_of method_before s.methods.items (service_end s rest)
 
 abbrev pub ItemCounted : Item → List Piece → Type 0
 ItemCounted (item.Include w) rest = Unit {0}

@@ -51,6 +51,13 @@ is_number_piece (text w) = false
 is_number_piece (doc w) = false
 is_number_piece (mark b) = false
 
+abbrev pub is_doc : Piece → Bool
+is_doc (word w) = false
+is_doc (number w) = false
+is_doc (text w) = false
+is_doc (doc w) = true
+is_doc (mark b) = false
+
 -- A point is apart from a number, which it would begin.
 abbrev pub is_glued : Piece → Piece → Bool
 is_glued (word w) q = is_tight_piece q || is_mark_of 46 q
@@ -78,8 +85,9 @@ new_line p q = if p.braces && not (is_mark_of 125 q) then codes "\n  " else code
 abbrev pub between_declarations : Piece → List ℕ
 between_declarations q = if is_grouped q then codes "\n" else codes "\n\n"
 
+-- documentation begins its line
 abbrev pub spaced : Piece → List ℕ
-spaced q = if is_mark_of 125 q then codes "\n" else codes " "
+spaced q = if is_mark_of 125 q then codes "\n" else if is_doc q then codes "\n  " else codes " "
 
 -- after a mark: a new line after `{`, and in braces after `;` and after a `,` outside parentheses
 abbrev pub after_mark : Place → ℕ → Piece → List ℕ

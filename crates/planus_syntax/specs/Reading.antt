@@ -58,9 +58,19 @@ begins_text (text w ∷ ps) = true
 begins_text (doc w ∷ ps) = false
 begins_text (mark b ∷ ps) = false
 
+-- documentation or none, and then a closing brace
+abbrev pub begins_closing : List Piece → Bool
+begins_closing [] = false
+begins_closing (word w ∷ ps) = false
+begins_closing (number w ∷ ps) = false
+begins_closing (text w ∷ ps) = false
+begins_closing (doc w ∷ ps) = begins_closing ps
+begins_closing (mark b ∷ ps) = b == 125
+
+-- a comma that is not the last
 abbrev pub begins_next : List Piece → Bool
 begins_next [] = false
-begins_next (p ∷ ps) = is_mark_of 44 p && not (begins_mark 125 ps)
+begins_next (p ∷ ps) = is_mark_of 44 p && not (begins_closing ps)
 
 abbrev pub is_some : List Piece → Bool
 is_some [] = false
@@ -68,7 +78,7 @@ is_some (p ∷ ps) = true
 
 abbrev pub inside : List Piece → Bool
 inside [] = false
-inside (p ∷ ps) = not (is_mark_of 125 p)
+inside (p ∷ ps) = not (begins_closing (p ∷ ps))
 
 abbrev pub mark_at : ℕ → List Piece → Result (List Piece) Fault
 mark_at m [] = Err (fault.Mark m, 0)
@@ -145,6 +155,12 @@ with_items front read = read >>= λ x. Ok (front ++ x.0, x.1)
 
 abbrev pub docs_at : List Piece → Reads (List (List ℕ))
 docs_at ps = list_at begins_doc doc_at ps
+
+unfoldable pub closing_at : List Piece → Reads (List (List ℕ))
+closing_at ps = do
+  docs ← docs_at ps
+  end ← mark_at 125 docs.1
+  Ok (docs.0, end)
 
 unfoldable pub dotted_at : List Piece → Reads Name
 dotted_at ps = mark_at 46 ps >>= λ dot. word_at dot
@@ -231,8 +247,16 @@ record_at ps = do
   attributes ← attributes_at name.1
   start ← mark_at 123 attributes.1
   fields ← list_at inside field_at start
-  end ← mark_at 125 fields.1
-  Ok (record { name = name.0; attributes = attributes.0; fields = fields.0 }, end)
+  end ← closing_at fields.1
+  Ok (
+    record {
+      name = name.0;
+      attributes = attributes.0;
+      fields = fields.0;
+      trailing = end.0;
+    },
+    end.1,
+  )
 
 unfoldable pub comma_at : List Piece → Reads Bool
 comma_at ps =
@@ -262,7 +286,7 @@ enumeration_at ps = do
   start ← mark_at 123 attributes.1
   variants ← variants_at start
   comma ← comma_at variants.1
-  end ← mark_at 125 comma.1
+  end ← closing_at comma.1
   Ok (
     record {
       name = name.0;
@@ -270,8 +294,9 @@ enumeration_at ps = do
       attributes = attributes.0;
       variants = variants.0;
       comma = comma.0;
+      trailing = end.0;
     },
-    end,
+    end.1,
   )
 
 unfoldable pub member_at : List Piece → Reads MemberV
@@ -297,15 +322,16 @@ union_at ps = do
   start ← mark_at 123 attributes.1
   members ← members_at start
   comma ← comma_at members.1
-  end ← mark_at 125 comma.1
+  end ← closing_at comma.1
   Ok (
     record {
       name = name.0;
       attributes = attributes.0;
       members = members.0;
       comma = comma.0;
+      trailing = end.0;
     },
-    end,
+    end.1,
   )
 
 unfoldable pub method_at : List Piece → Reads MethodV
@@ -336,8 +362,16 @@ service_at ps = do
   attributes ← attributes_at name.1
   start ← mark_at 123 attributes.1
   methods ← list_at inside method_at start
-  end ← mark_at 125 methods.1
-  Ok (record { name = name.0; attributes = attributes.0; methods = methods.0 }, end)
+  end ← closing_at methods.1
+  Ok (
+    record {
+      name = name.0;
+      attributes = attributes.0;
+      methods = methods.0;
+      trailing = end.0;
+    },
+    end.1,
+  )
 
 unfoldable pub quoted_at : List Piece → Reads (List ℕ)
 quoted_at ps = do

@@ -61,10 +61,12 @@ pub record FieldV : Type 0 where
   pub default : Option LiteralV
   pub attributes : List AttributeV
 
+-- `trailing`: documentation before the closing brace, which is of nothing
 pub record RecordV : Type 0 where
   pub name : Name
   pub attributes : List AttributeV
   pub fields : List FieldV
+  pub trailing : List (List ℕ)
 
 pub record VariantV : Type 0 where
   pub docs : List (List ℕ)
@@ -78,6 +80,7 @@ pub record EnumerationV : Type 0 where
   pub attributes : List AttributeV
   pub variants : List VariantV
   pub comma : Bool
+  pub trailing : List (List ℕ)
 
 pub record MemberV : Type 0 where
   pub docs : List (List ℕ)
@@ -90,6 +93,7 @@ pub record UnionV : Type 0 where
   pub attributes : List AttributeV
   pub members : List MemberV
   pub comma : Bool
+  pub trailing : List (List ℕ)
 
 pub record MethodV : Type 0 where
   pub docs : List (List ℕ)
@@ -102,6 +106,7 @@ pub record ServiceV : Type 0 where
   pub name : Name
   pub attributes : List AttributeV
   pub methods : List MethodV
+  pub trailing : List (List ℕ)
 
 pub data ItemV : Type 0 where
   include : List ℕ → ItemV
@@ -135,6 +140,10 @@ doc_before w rest = doc w ∷ rest
 
 abbrev pub docs_before : Before (List (List ℕ))
 docs_before docs rest = each_before doc_before docs rest
+
+-- the end of what is in braces
+abbrev pub closing_before : Before (List (List ℕ))
+closing_before docs rest = docs_before docs (mark 125 ∷ rest)
 
 abbrev pub dotted_before : Before Name
 dotted_before w rest = mark 46 ∷ word w ∷ rest
@@ -185,7 +194,7 @@ field_before f rest =
 abbrev pub record_before : Before RecordV
 record_before r rest =
     word r.name ∷ attributes_before r.attributes
-    (mark 123 ∷ each_before field_before r.fields (mark 125 ∷ rest))
+    (mark 123 ∷ each_before field_before r.fields (closing_before r.trailing rest))
 
 abbrev pub variant_before : Before VariantV
 variant_before v rest =
@@ -202,7 +211,8 @@ comma_before false rest = rest
 abbrev pub enumeration_before : Before EnumerationV
 enumeration_before e rest =
     word e.name ∷ mark 58 ∷ path_before e.base (attributes_before e.attributes
-    (mark 123 ∷ list_before variant_before e.variants (comma_before e.comma (mark 125 ∷ rest))))
+    (mark 123 ∷ list_before variant_before e.variants
+    (comma_before e.comma (closing_before e.trailing rest))))
 
 abbrev pub member_before : Before MemberV
 member_before m rest =
@@ -212,7 +222,8 @@ member_before m rest =
 abbrev pub union_before : Before UnionV
 union_before u rest =
     word u.name ∷ attributes_before u.attributes
-    (mark 123 ∷ list_before member_before u.members (comma_before u.comma (mark 125 ∷ rest)))
+    (mark 123 ∷ list_before member_before u.members
+    (comma_before u.comma (closing_before u.trailing rest)))
 
 abbrev pub method_before : Before MethodV
 method_before m rest =
@@ -222,7 +233,7 @@ method_before m rest =
 abbrev pub service_before : Before ServiceV
 service_before s rest =
     word s.name ∷ attributes_before s.attributes
-    (mark 123 ∷ each_before method_before s.methods (mark 125 ∷ rest))
+    (mark 123 ∷ each_before method_before s.methods (closing_before s.trailing rest))
 
 abbrev pub quoted_before : Before (List ℕ)
 quoted_before w rest = text w ∷ mark 59 ∷ rest
@@ -328,6 +339,7 @@ record_of r = record {
   name = r.name.items;
   attributes = map attribute_of r.attributes.items;
   fields = map field_of r.fields.items;
+  trailing = names_of r.trailing.items;
 }
 
 abbrev pub digits_of : Option (Vec ℕ) → Option (List ℕ)
@@ -347,6 +359,7 @@ enumeration_of e = record {
   attributes = map attribute_of e.attributes.items;
   variants = map variant_of e.variants.items;
   comma = e.comma;
+  trailing = names_of e.trailing.items;
 }
 
 abbrev pub member_of : Member → MemberV
@@ -363,6 +376,7 @@ union_of u = record {
   attributes = map attribute_of u.attributes.items;
   members = map member_of u.members.items;
   comma = u.comma;
+  trailing = names_of u.trailing.items;
 }
 
 abbrev pub method_of : Method → MethodV
@@ -379,6 +393,7 @@ service_of s = record {
   name = s.name.items;
   attributes = map attribute_of s.attributes.items;
   methods = map method_of s.methods.items;
+  trailing = names_of s.trailing.items;
 }
 
 abbrev pub item_of : Item → ItemV

@@ -5,7 +5,7 @@ ghost use Rattle.planus_syntax.specs.Tokens.{bytes_of, piece_of, pieces_of, word
 ghost use Rattle.planus_syntax.specs.Layout.{is_mark_of, place_after as place_after_lem, outside};
 ghost use Rattle.planus_syntax.specs.Layout.{is_tight as is_tight_lem, is_open as is_open_lem};
 ghost use Rattle.planus_syntax.specs.Layout.{is_tight_piece, is_number_piece, is_glued as is_glued_lem};
-ghost use Rattle.planus_syntax.specs.Layout.{is_grouped as is_grouped_lem};
+ghost use Rattle.planus_syntax.specs.Layout.{is_grouped as is_grouped_lem, is_doc as is_doc_lem};
 ghost use Rattle.planus_syntax.specs.Layout.{new_line as new_line_lem, apart as apart_lem};
 ghost use Rattle.planus_syntax.specs.Layout.{between_declarations as between_declarations_lem};
 ghost use Rattle.planus_syntax.specs.Layout.{after_mark as after_mark_lem, spaced as spaced_lem};
@@ -87,6 +87,15 @@ fn is_number(token: &Token) -> bool
     }
 }
 
+fn is_doc(token: &Token) -> bool
+    ensures { result ≡ is_doc_lem (piece_of token.now) }
+{
+    match token {
+        Token::Doc(_) => true,
+        _ => false,
+    }
+}
+
 fn is_glued(first: &Token, second: &Token) -> bool
     ensures { result ≡ is_glued_lem (piece_of first.now) (piece_of second.now) }
 {
@@ -138,7 +147,13 @@ fn between_declarations(next: &Token) -> &'static [u8]
 fn spaced(next: &Token) -> &'static [u8]
     ensures { result.now ≡ spaced_lem (piece_of next.now) }
 {
-    if is_mark(next, b'}') { b"\n" } else { b" " }
+    if is_mark(next, b'}') {
+        b"\n"
+    } else if is_doc(next) {
+        b"\n  "
+    } else {
+        b" "
+    }
 }
 
 fn after_mark(place: Place, mark: u8, next: &Token) -> &'static [u8]

@@ -59,12 +59,13 @@ pub struct Field {
     pub attributes: Vec<Attribute>,
 }
 
-/// A table or a struct.
+/// A table or a struct. `trailing`: documentation before the closing brace, as in what follows.
 #[derive(Drop)]
 pub struct Record {
     pub name: Vec<u8>,
     pub attributes: Vec<Attribute>,
     pub fields: Vec<Field>,
+    pub trailing: Vec<Vec<u8>>,
 }
 
 /// A variant of an enum, with the digits of its value if it has one.
@@ -84,6 +85,7 @@ pub struct Enumeration {
     pub attributes: Vec<Attribute>,
     pub variants: Vec<Variant>,
     pub comma: bool,
+    pub trailing: Vec<Vec<u8>>,
 }
 
 /// A member of a union: a table's name, or an alias and the table, as `M: Monster`, with the digits
@@ -103,6 +105,7 @@ pub struct UnionBody {
     pub attributes: Vec<Attribute>,
     pub members: Vec<Member>,
     pub comma: bool,
+    pub trailing: Vec<Vec<u8>>,
 }
 
 /// A method of a service.
@@ -122,6 +125,7 @@ pub struct Service {
     pub name: Vec<u8>,
     pub attributes: Vec<Attribute>,
     pub methods: Vec<Method>,
+    pub trailing: Vec<Vec<u8>>,
 }
 
 /// A declaration.

@@ -12,6 +12,7 @@ ghost use Rattle.planus_syntax.specs.Reading.{number_at as number_at_lem, path_a
 ghost use Rattle.planus_syntax.specs.Reading.{attribute_at as attribute_at_lem};
 ghost use Rattle.planus_syntax.specs.Reading.{next_attribute_at as next_attribute_at_lem};
 ghost use Rattle.planus_syntax.specs.Reading.{attributes_at as attributes_at_lem};
+ghost use Rattle.planus_syntax.specs.Reading.{closing_at as closing_at_lem};
 ghost use Rattle.planus_syntax.specs.Counting.{AttributeCounted, AttributesCounted, GivesCounted};
 ghost use Rattle.planus_syntax.specs.Counting.{IfAny, PathCounted};
 ghost use Rattle.planus_syntax.specs.Values.{attribute_before, doc_before, next_before};
@@ -161,4 +162,17 @@ pub(crate) fn docs_at(
         (list_at begins_doc_lem doc_at_lem (pieces_of tokens.now)) }
 {
     list_of::<Docs>(alloc, tokens)
+}
+
+/// The closing brace, and the documentation before it.
+pub(crate) fn closing_at(
+    alloc: Global,
+    tokens: &[Token],
+) -> Result<(Vec<Vec<u8>>, &[Token]), ReadError>
+    ensures { Gives (λ x. (names_of x.0.items, pieces_of x.1.now)) result
+        (closing_at_lem (pieces_of tokens.now)) }
+{
+    let (docs, rest) = or_return!(docs_at(alloc, tokens));
+    let rest = or_return!(mark_at(rest, b'}'));
+    Ok((docs, rest))
 }

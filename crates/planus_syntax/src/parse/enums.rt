@@ -14,7 +14,7 @@ ghost use Rattle.planus_syntax.specs.Reading.{enumeration_at as enumeration_at_l
 ghost use Rattle.planus_syntax.specs.Counting.{EachCounted, GivesCounted, ItemCounted, VariantCounted};
 ghost use Rattle.planus_syntax.specs.Values.{next_before, variant_before};
 
-use crate::parse::attributes::{attributes_at, docs_at, value_at};
+use crate::parse::attributes::{attributes_at, closing_at, docs_at, value_at};
 use crate::parse::lists::{Items, list_after};
 use crate::parse::paths::path_at;
 use crate::parse::tokens::{after_mark, begins_next, mark_at, word_at};
@@ -100,7 +100,7 @@ pub(crate) fn enumeration_at(alloc: Global, tokens: &[Token]) -> Result<(Item, &
     let rest = or_return!(mark_at(rest, b'{'));
     let (variants, rest) = or_return!(variants_at(alloc, rest));
     let (comma, rest) = or_return!(comma_at(rest));
-    let rest = or_return!(mark_at(rest, b'}'));
+    let (trailing, rest) = or_return!(closing_at(alloc, rest));
     Ok((
         Item::Enum(Enumeration {
             name,
@@ -108,6 +108,7 @@ pub(crate) fn enumeration_at(alloc: Global, tokens: &[Token]) -> Result<(Item, &
             attributes,
             variants,
             comma,
+            trailing,
         }),
         rest,
     ))

@@ -8,7 +8,7 @@ ghost use Rattle.planus_syntax.specs.Reading.{service_at as service_at_lem};
 ghost use Rattle.planus_syntax.specs.Counting.{GivesCounted, ItemCounted, MethodCounted};
 ghost use Rattle.planus_syntax.specs.Values.{method_before};
 
-use crate::parse::attributes::{attributes_at, docs_at};
+use crate::parse::attributes::{attributes_at, closing_at, docs_at};
 use crate::parse::lists::{Items, list_of};
 use crate::parse::paths::path_at;
 use crate::parse::tokens::{inside, mark_at, word_at};
@@ -72,12 +72,13 @@ pub(crate) fn service_at(alloc: Global, tokens: &[Token]) -> Result<(Item, &[Tok
     let (attributes, rest) = or_return!(attributes_at(alloc, rest));
     let rest = or_return!(mark_at(rest, b'{'));
     let (methods, rest) = or_return!(list_of::<Methods>(alloc, rest));
-    let rest = or_return!(mark_at(rest, b'}'));
+    let (trailing, rest) = or_return!(closing_at(alloc, rest));
     Ok((
         Item::Service(Service {
             name,
             attributes,
             methods,
+            trailing,
         }),
         rest,
     ))

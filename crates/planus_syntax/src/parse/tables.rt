@@ -8,7 +8,7 @@ ghost use Rattle.planus_syntax.specs.Reading.{record_at as record_at_lem};
 ghost use Rattle.planus_syntax.specs.Counting.{FieldCounted, GivesCounted, RecordCounted};
 ghost use Rattle.planus_syntax.specs.Values.{field_before};
 
-use crate::parse::attributes::{attributes_at, docs_at};
+use crate::parse::attributes::{attributes_at, closing_at, docs_at};
 use crate::parse::lists::{Items, list_of};
 use crate::parse::literals::literal_after;
 use crate::parse::paths::kind_at;
@@ -71,12 +71,13 @@ pub(crate) fn record_at(alloc: Global, tokens: &[Token]) -> Result<(Record, &[To
     let (attributes, rest) = or_return!(attributes_at(alloc, rest));
     let rest = or_return!(mark_at(rest, b'{'));
     let (fields, rest) = or_return!(list_of::<Fields>(alloc, rest));
-    let rest = or_return!(mark_at(rest, b'}'));
+    let (trailing, rest) = or_return!(closing_at(alloc, rest));
     Ok((
         Record {
             name,
             attributes,
             fields,
+            trailing,
         },
         rest,
     ))

@@ -6,6 +6,7 @@ ghost use Rattle.planus_syntax.specs.Values.{label_of};
 ghost use Rattle.planus_syntax.specs.Reading.{Gives, begins_mark as begins_mark_lem};
 ghost use Rattle.planus_syntax.specs.Reading.{begins_next as begins_next_lem};
 ghost use Rattle.planus_syntax.specs.Reading.{inside as inside_lem};
+ghost use Rattle.planus_syntax.specs.Reading.{begins_closing as begins_closing_lem};
 ghost use Rattle.planus_syntax.specs.Reading.{mark_at as mark_at_lem, word_at as word_at_lem};
 ghost use Rattle.planus_syntax.specs.Reading.{number_at as number_at_lem};
 ghost use Rattle.planus_syntax.specs.Reading.{text_at as text_at_lem, label_at as label_at_lem};
@@ -26,11 +27,25 @@ pub(crate) fn begins_mark(tokens: &[Token], mark: u8) -> bool
     }
 }
 
+fn begins_closing(tokens: &[Token]) -> bool
+    ensures { result ≡ begins_closing_lem (pieces_of tokens.now) }
+{
+    let mut rest = tokens;
+    'tokens: while let Some((token, after)) = rest.split_first() {
+        match token {
+            Token::Doc(_) => rest = after,
+            Token::Mark(byte) => return *byte == b'}',
+            _ => return false,
+        }
+    }
+    false
+}
+
 pub(crate) fn begins_next(tokens: &[Token]) -> bool
     ensures { result ≡ begins_next_lem (pieces_of tokens.now) }
 {
     match tokens.split_first() {
-        Some((Token::Mark(byte), rest)) => *byte == b',' && !begins_mark(rest, b'}'),
+        Some((Token::Mark(byte), rest)) => *byte == b',' && !begins_closing(rest),
         _ => false,
     }
 }
@@ -38,7 +53,7 @@ pub(crate) fn begins_next(tokens: &[Token]) -> bool
 pub(crate) fn inside(tokens: &[Token]) -> bool
     ensures { result ≡ inside_lem (pieces_of tokens.now) }
 {
-    !tokens.is_empty() && !begins_mark(tokens, b'}')
+    !tokens.is_empty() && !begins_closing(tokens)
 }
 
 pub(crate) fn mark_at(tokens: &[Token], mark: u8) -> Result<&[Token], ReadError>

@@ -12,7 +12,7 @@ ghost use Rattle.planus_syntax.specs.Reading.{union_at as union_at_lem};
 ghost use Rattle.planus_syntax.specs.Counting.{EachCounted, GivesCounted, ItemCounted, MemberCounted};
 ghost use Rattle.planus_syntax.specs.Values.{member_before, next_before};
 
-use crate::parse::attributes::{attributes_at, docs_at, target_at, value_at};
+use crate::parse::attributes::{attributes_at, closing_at, docs_at, target_at, value_at};
 use crate::parse::enums::comma_at;
 use crate::parse::lists::{Items, list_after};
 use crate::parse::paths::path_at;
@@ -89,13 +89,14 @@ pub(crate) fn union_at(alloc: Global, tokens: &[Token]) -> Result<(Item, &[Token
     let rest = or_return!(mark_at(rest, b'{'));
     let (members, rest) = or_return!(members_at(alloc, rest));
     let (comma, rest) = or_return!(comma_at(rest));
-    let rest = or_return!(mark_at(rest, b'}'));
+    let (trailing, rest) = or_return!(closing_at(alloc, rest));
     Ok((
         Item::Union(UnionBody {
             name,
             attributes,
             members,
             comma,
+            trailing,
         }),
         rest,
     ))

@@ -1,7 +1,7 @@
 use Rattle.std.proofs.Common.{◌∷◌, List, ap, subst, ◌∙◌}
 use Rattle.planus_syntax.proofs.Many.{list_takes}
 use Rattle.planus_syntax.specs.Counting.{AttributesCounted, EachCounted, FieldCounted}
-use Rattle.planus_syntax.proofs.Loops.{field_takes, mark_takes}
+use Rattle.planus_syntax.proofs.Loops.{closing_takes, field_takes, mark_takes}
 use Rattle.planus_syntax.specs.Reading.{field_at, inside}
 use Rattle.planus_syntax.specs.Values.{each_before, field_before, field_of}
 use Rattle.planus_syntax.specs.Tokens.{Piece, mark}
@@ -27,17 +27,17 @@ pub returns-in-Err-list_of : goal.returns-in-Err-list_of
 unfolding record_at
 returns-in-Err-list_of c = fails_later _ _ _ _ c.in-Ok.ensures (fails_later _ _ _ _ c.in-Ok-attributes_at.ensures.0 (fails_later _ _ _ _ c.in-Ok-mark_at.ensures (fails_here _ _ _ c.in-Err-list_of.ensures.reads)))
 
-pub returns-in-Err-mark_at-2 : goal.returns-in-Err-mark_at-2
+pub returns-in-Err-closing_at : goal.returns-in-Err-closing_at
 unfolding record_at
-returns-in-Err-mark_at-2 c = fails_later _ _ _ _ c.in-Ok.ensures (fails_later _ _ _ _ c.in-Ok-attributes_at.ensures.0 (fails_later _ _ _ _ c.in-Ok-mark_at.ensures (fails_later _ _ _ _ c.in-Ok-list_of.ensures.reads.0 (fails_here _ _ _ c.in-Err-mark_at-2.ensures))))
+returns-in-Err-closing_at c = fails_later _ _ _ _ c.in-Ok.ensures (fails_later _ _ _ _ c.in-Ok-attributes_at.ensures.0 (fails_later _ _ _ _ c.in-Ok-mark_at.ensures (fails_later _ _ _ _ c.in-Ok-list_of.ensures.reads.0 (fails_here _ _ _ c.in-Err-closing_at.ensures))))
 
 pub returns : goal.returns
 unfolding record_at
 returns c =
-    let e5 = mark_takes 125 _ _ c.in-Ok-mark_at-2.ensures in
+    let e5 = closing_takes _ _ c.in-Ok-closing_at.ensures in
     let e4 = (list_takes inside field_at field_before fields_looped field_takes _ _ c.in-Ok-list_of.ensures.reads.0).0 ∙ ap (each_before field_before _) e5 in
     let e3 = mark_takes 123 _ _ c.in-Ok-mark_at.ensures ∙ ap (λ (r : List Piece). mark 123 ∷ r) e4 in (
-      reads_on _ _ _ _ c.in-Ok.ensures (reads_on _ _ _ _ c.in-Ok-attributes_at.ensures.0 (reads_on _ _ _ _ c.in-Ok-mark_at.ensures (reads_on _ _ _ _ c.in-Ok-list_of.ensures.reads.0 (reads_on _ _ _ _ c.in-Ok-mark_at-2.ensures refl)))),
+      reads_on _ _ _ _ c.in-Ok.ensures (reads_on _ _ _ _ c.in-Ok-attributes_at.ensures.0 (reads_on _ _ _ _ c.in-Ok-mark_at.ensures (reads_on _ _ _ _ c.in-Ok-list_of.ensures.reads.0 (reads_on _ _ _ _ c.in-Ok-closing_at.ensures refl)))),
       (subst (AttributesCounted c.in-Ok-attributes_at.value.0.items) e3 c.in-Ok-attributes_at.ensures.1, subst (EachCounted FieldCounted field_of field_before c.in-Ok-list_of.value.0.items) e5 c.in-Ok-list_of.ensures.reads.1),
     )
 
