@@ -3,7 +3,7 @@ use Rattle.std.proofs.Common.{◌≡◌, ℕ, ◌+◌, List, [], ◌∷◌, ◌+
 use Rattle.std.specs.Prelude.{not, ◌==◌, ◌||◌, ◌&&◌, codes, fold, nat_lt}
 use Rattle.std.proofs.lemmas.Bool.Decides.{nat_tests}
 use Rattle.planus_syntax.specs.Tokens.{Piece, word, number, text, doc, mark, bytes_of, is_blank}
-use Rattle.planus_syntax.specs.Layout.{is_mark_of, place_after, outside, is_glued, is_grouped, new_line, between_declarations, after_mark, spaced, apart, gap_before, laid_out, printed}
+use Rattle.planus_syntax.specs.Layout.{is_doc, is_mark_of, place_after, outside, is_glued, is_grouped, new_line, between_declarations, after_mark, spaced, apart, gap_before, laid_out, printed}
 use Rattle.planus_syntax.specs.Spelled.{Part, token, blank, comment, block, spelled, tokens_in, AreParts}
 use Rattle.planus_commands.specs.Outcomes.{is_ink, ink_of, has_comment}
 
@@ -31,7 +31,7 @@ line_bare : (p : _) (q : Piece) → IsBare (new_line p q)
 line_bare p q = either (p.braces && not (is_mark_of 125 q)) (codes "\n  ") (codes "\n") refl refl
 
 spaced_bare : (q : Piece) → IsBare (spaced q)
-spaced_bare q = either (is_mark_of 125 q) (codes "\n") (codes " ") refl refl
+spaced_bare q = either (is_mark_of 125 q) (codes "\n") _ refl (either (is_doc q) (codes "\n  ") (codes " ") refl refl)
 
 mark_bare : (p : _) (b : ℕ) (q : Piece) → IsBare (after_mark p b q)
 mark_bare p b q =
