@@ -9,7 +9,7 @@ use Rattle.planus_schema.proofs.StructLemmas.{map_rest}
 use Rattle.std.specs.Prelude.{Option, Some, None, codes, ◌==◌, if◌then◌else◌}
 use Rattle.std.specs.Str.{bytes_eq}
 use Rattle.planus_syntax.specs.Tokens.{is_number, is_float_name}
-use Rattle.planus_syntax.specs.Values.{Name, PathV, LiteralV, numeral, named, quote, nothing, EnumerationV, names_of}
+use Rattle.planus_syntax.specs.Values.{Name, LiteralV, numeral, named, quote, nothing, EnumerationV, names_of}
 use Rattle.planus_layout.specs.declared.number.Number.{Number}
 use Rattle.planus_layout.specs.declared.scalar.Scalar.{Scalar}
 use Rattle.planus_layout.specs.declared.scalar.Scalar.TheVariants as scalar

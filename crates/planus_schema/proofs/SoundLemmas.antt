@@ -24,8 +24,8 @@ use Rattle.planus_layout.specs.Distinct.{AreDistinct, Each2}
 use Rattle.planus_layout.specs.Layouts.{measure_of_body, measure_in, body_in}
 use Rattle.planus_schema.specs.Structs.{SaysStructField}
 use Rattle.planus_schema.specs.Unions.{SaysMember, target_of, wanted_of}
-use Rattle.planus_schema.specs.declared.lookup.Wanted.{Wanted}
-use Rattle.planus_schema.specs.declared.lookup.Wanted.TheVariants as wanted
+use Rattle.planus_schema.specs.Names.{UsedAs}
+use Rattle.planus_schema.specs.Names.{as_type, as_record, as_root}
 use Rattle.planus_schema.specs.Tables.{SaysField, NestedIs, table_found, nested_name}
 use Rattle.planus_schema.specs.Schemas.{SaysBody, SayBodies, IsHeadOf, StatementsV, no_statements, after, after_file, after_files, said_of, Means}
 use Rattle.planus_layout.specs.declared.schema.Declared.{Declared}
@@ -108,7 +108,7 @@ refers_or : (bs : List Body) (b : Base) (o p : Option Base) → (o ≡ Some b �
 refers_or bs b None p f g e = g e
 refers_or bs b (Some c) p f g e = f e
 
-pub refers_named : (hs : List HeadV) (bs : List Body) (w : Wanted) (space : SpaceV) (p : PathV) (b : Base) → Matches hs bs → base_as hs w space p ≡ Some b → Refers bs b
+pub refers_named : (hs : List HeadV) (bs : List Body) (w : UsedAs) (space : SpaceV) (p : PathV) (b : Base) → Matches hs bs → base_as hs w space p ≡ Some b → Refers bs b
 refers_named hs bs w space p b m e =
     refers_or bs b (plain_base p) (base_found hs (found hs w space (words_of p))) (refers_plain bs b p.more p.first) (refers_found hs bs b (found hs w space (words_of p)) m) e
 
@@ -117,12 +117,12 @@ typed v None t e = absurd cc
 typed v (Some b) t e = ap (λ (x : FieldType). Some x.base) (some_is _ t e)
 
 refers_type : (hs : List HeadV) (bs : List Body) (space : SpaceV) (k : KindV) (t : FieldType) → Matches hs bs → type_named hs space k ≡ Some t → Refers bs t.base
-refers_type hs bs space (single p) t m e = refers_named hs bs wanted.AnyType space p t.base m (typed false (base_named hs space p) t e)
-refers_type hs bs space (vector p) t m e = refers_named hs bs wanted.AnyType space p t.base m (typed true (base_named hs space p) t e)
+refers_type hs bs space (single p) t m e = refers_named hs bs as_type space p t.base m (typed false (base_named hs space p) t e)
+refers_type hs bs space (vector p) t m e = refers_named hs bs as_type space p t.base m (typed true (base_named hs space p) t e)
 
 refers_table : (hs : List HeadV) (bs : List Body) (space : SpaceV) (i : ℕ) (o : Option Name) → Matches hs bs → table_found hs space o ≡ Some (base.Table i) → IsTableAt bs i
 refers_table hs bs space i None m e = absurd cc
-refers_table hs bs space i (Some w) m e = refers_found hs bs (base.Table i) (found hs wanted.Record space (w ∷ [])) m e
+refers_table hs bs space i (Some w) m e = refers_found hs bs (base.Table i) (found hs as_record space (w ∷ [])) m e
 
 refers_nested : (hs : List HeadV) (bs : List Body) (space : SpaceV) (a : Option AttributeV) (o : Option ℕ) → Matches hs bs → NestedIs hs space a o → IsNested bs o
 refers_nested hs bs space None o m e = subst (IsNested bs) (sym e) tt
@@ -239,7 +239,7 @@ root_after hs bs space s (struct r) m h = h
 root_after hs bs space s (enumeration e) m h = h
 root_after hs bs space s (union u) m h = h
 root_after hs bs space s (service x) m h = h
-root_after hs bs space s (root p) m h = record { table = λ i e. refers_named hs bs wanted.Root space p (base.Table i) m (table_of (base_as hs wanted.Root space p) i e) }
+root_after hs bs space s (root p) m h = record { table = λ i e. refers_named hs bs as_root space p (base.Table i) m (table_of (base_as hs as_root space p) i e) }
 root_after hs bs space s (identifier w) m h = record { table = λ i e. h.table i e }
 root_after hs bs space s (extension w) m h = record { table = λ i e. h.table i e }
 

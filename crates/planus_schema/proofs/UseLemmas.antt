@@ -18,8 +18,8 @@ use Rattle.planus_schema.specs.declared.awaited.Awaited.{Awaited}
 use Rattle.planus_schema.specs.declared.waiting.Told.{Told}
 use Rattle.planus_schema.specs.declared.waiting.Told.TheVariants as told
 use Rattle.planus_schema.specs.declared.fault.Fault.{Fault}
-use Rattle.planus_schema.specs.declared.lookup.Wanted.{Wanted}
-use Rattle.planus_schema.specs.declared.lookup.Wanted.TheVariants as wanted
+use Rattle.planus_schema.specs.Names.{UsedAs}
+use Rattle.planus_schema.specs.Names.{as_type, as_record, as_root}
 use Rattle.planus_schema.specs.Names.{HeadV, own_name, words_in, words_of, space_after, plain_base, is_set, attribute_named, at_index, is_choice, index_of, dotted}
 use Rattle.planus_schema.specs.inner.Read.{AreNoted}
 use Rattle.planus_schema.proofs.FaultLemmas.{adds_nothing, adds_both}
@@ -46,19 +46,19 @@ abbrev pub IsUsedIn : ℕ → EventV → Type 0
 IsUsedIn n (begins w) = Unit {0}
 IsUsedIn n (uses u) = u.spot.file < n
 
-in_one : (n : ℕ) (s : SpotV) (w : Wanted) (words : List Name) (left : ℕ) → s.file < n → All (IsUsedIn n) (used s w words left)
+in_one : (n : ℕ) (s : SpotV) (w : UsedAs) (words : List Name) (left : ℕ) → s.file < n → All (IsUsedIn n) (used s w words left)
 in_one n s w words left h = All-cons (IsUsedIn n) _ [] h (All-nil (IsUsedIn n))
 
-in_path_if : (n : ℕ) (b : Bool) (s : SpotV) (w : Wanted) (p : Path) → s.file < n → All (IsUsedIn n) (cond b [] (used s w (words_of (path_of p)) p.left))
+in_path_if : (n : ℕ) (b : Bool) (s : SpotV) (w : UsedAs) (p : Path) → s.file < n → All (IsUsedIn n) (cond b [] (used s w (words_of (path_of p)) p.left))
 in_path_if n true s w p h = All-nil (IsUsedIn n)
 in_path_if n false s w p h = in_one n s w (words_of (path_of p)) p.left h
 
-in_path : (n : ℕ) (s : SpotV) (w : Wanted) (p : Path) → s.file < n → All (IsUsedIn n) (path_used s w p)
+in_path : (n : ℕ) (s : SpotV) (w : UsedAs) (p : Path) → s.file < n → All (IsUsedIn n) (path_used s w p)
 in_path n s w p h = in_path_if n (is_set (plain_base (path_of p))) s w p h
 
 in_text : (n : ℕ) (s : SpotV) (left : ℕ) (o : Option Name) → s.file < n → All (IsUsedIn n) (text_used s left o)
 in_text n s left None h = All-nil (IsUsedIn n)
-in_text n s left (Some w) h = in_one n s wanted.Record (w ∷ []) left h
+in_text n s left (Some w) h = in_one n s as_record (w ∷ []) left h
 
 in_nested : (n : ℕ) (s : SpotV) (a : Option Attribute) → s.file < n → All (IsUsedIn n) (nested_used s a)
 in_nested n s None h = All-nil (IsUsedIn n)
@@ -68,8 +68,8 @@ in_fields : (n : ℕ) (s : SpotV) (fs : List Field) → s.file < n → All (IsUs
 in_fields n s [] h = All-nil (IsUsedIn n)
 in_fields n s (f ∷ fs) h =
     All-append (IsUsedIn n) (field_used s f) (fields_used s fs)
-    (All-append (IsUsedIn n) (path_used s wanted.AnyType (path_in_kind f.kind)) (nested_used s (attribute_named (codes "nested_flatbuffer") f.attributes.items))
-    (in_path n s wanted.AnyType (path_in_kind f.kind) h) (in_nested n s (attribute_named (codes "nested_flatbuffer") f.attributes.items) h))
+    (All-append (IsUsedIn n) (path_used s as_type (path_in_kind f.kind)) (nested_used s (attribute_named (codes "nested_flatbuffer") f.attributes.items))
+    (in_path n s as_type (path_in_kind f.kind) h) (in_nested n s (attribute_named (codes "nested_flatbuffer") f.attributes.items) h))
     (in_fields n s fs h)
 
 in_members : (n : ℕ) (s : SpotV) (ms : List Member) → s.file < n → All (IsUsedIn n) (members_used s ms)
@@ -81,8 +81,8 @@ in_methods : (n : ℕ) (s : SpotV) (ms : List Method) → s.file < n → All (Is
 in_methods n s [] h = All-nil (IsUsedIn n)
 in_methods n s (m ∷ ms) h =
     All-append (IsUsedIn n) (method_used s m) (methods_used s ms)
-    (All-append (IsUsedIn n) (path_used s wanted.AnyType m.request) (path_used s wanted.AnyType m.response)
-    (in_path n s wanted.AnyType m.request h) (in_path n s wanted.AnyType m.response h))
+    (All-append (IsUsedIn n) (path_used s as_type m.request) (path_used s as_type m.response)
+    (in_path n s as_type m.request h) (in_path n s as_type m.response h))
     (in_methods n s ms h)
 
 in_item : (n : ℕ) (s : SpotV) (i : Item) → s.file < n → All (IsUsedIn n) (item_used s i)
@@ -95,7 +95,7 @@ in_item n s (item.Struct r) h = in_fields n s r.fields.items h
 in_item n s (item.Enum e) h = All-nil (IsUsedIn n)
 in_item n s (item.Union u) h = in_members n s u.members.items h
 in_item n s (item.Service x) h = in_methods n s x.methods.items h
-in_item n s (item.RootType p) h = in_path n s wanted.Root p h
+in_item n s (item.RootType p) h = in_path n s as_root p h
 in_item n s (item.FileIdentifier w) h = All-nil (IsUsedIn n)
 in_item n s (item.FileExtension w) h = All-nil (IsUsedIn n)
 

@@ -23,7 +23,7 @@ use Rattle.planus_schema.specs.declared.fault.Problem.TheVariants as problem
 use Rattle.planus_schema.specs.declared.head.Head.{Head}
 use Rattle.planus_schema.specs.Names.{HeadV, SpaceV, own_name, words_in, space_after, heads_of}
 use Rattle.planus_schema.specs.Names.{index_of, head_of, named_head, space_at, begun_after, begun_in}
-use Rattle.planus_schema.specs.declared.lookup.Wanted.TheVariants as wanted
+use Rattle.planus_schema.specs.Names.{as_root}
 use Rattle.planus_schema.specs.Enums.{integer_type}
 use Rattle.planus_schema.specs.Wrong.{Broken, broken, when, first, wrong_table}
 use Rattle.planus_schema.specs.WrongEnums.{wrong_enum}
@@ -178,7 +178,7 @@ wrong_statement hs space left (item.Struct r) = None
 wrong_statement hs space left (item.Enum e) = None
 wrong_statement hs space left (item.Union u) = None
 wrong_statement hs space left (item.Service s) = None
-wrong_statement hs space left (item.RootType p) = wrong_table problem.RootIsNoTable hs wanted.Root space p
+wrong_statement hs space left (item.RootType p) = wrong_table problem.RootIsNoTable hs as_root space p
 wrong_statement hs space left (item.FileIdentifier w) =
     when (not (length w.items == 4)) problem.WrongIdentifier left
 wrong_statement hs space left (item.FileExtension w) = None

@@ -187,13 +187,22 @@ abbrev pub is_known : List HeadV → ℕ → List (Option Awaited) → ℕ → B
 is_known hs begun full i =
     (not (is_choice hs i) && nat_lt i begun) || is_set (at_index full (Some i))
 
--- whether a declaration is one of those sought by a name before which `begun` have begun
-abbrev pub is_sought : List HeadV → ℕ → List (Option Awaited) → Sought → ℕ → Bool
-is_sought hs begun full sought.EarlierChoice i = is_choice hs i && nat_lt i begun
-is_sought hs begun full sought.EarlierRecord i = not (is_choice hs i) && nat_lt i begun
-is_sought hs begun full sought.LaterRecord i = not (is_choice hs i) && not (nat_lt i begun)
-is_sought hs begun full sought.LaterChoice i = is_choice hs i && not (nat_lt i begun)
-is_sought hs begun full sought.Known i = is_known hs begun full i
+-- Enums and unions, or tables and structs, that are declared where a name stands, or that follow;
+-- tables and structs that are known there.
+pub data Group : Type 0 where
+  earlier_choice : Group
+  earlier_record : Group
+  later_record : Group
+  later_choice : Group
+  known_record : Group
+
+-- whether a declaration is in this group for a name before which `begun` have begun
+abbrev pub is_sought : List HeadV → ℕ → List (Option Awaited) → Group → ℕ → Bool
+is_sought hs begun full earlier_choice i = is_choice hs i && nat_lt i begun
+is_sought hs begun full earlier_record i = not (is_choice hs i) && nat_lt i begun
+is_sought hs begun full later_record i = not (is_choice hs i) && not (nat_lt i begun)
+is_sought hs begun full later_choice i = is_choice hs i && not (nat_lt i begun)
+is_sought hs begun full known_record i = is_known hs begun full i
 
 abbrev pub index_if : (ℕ → Bool) → Option ℕ → Option ℕ
 index_if test None = None
@@ -209,37 +218,44 @@ found_from hs test space words zero = named_if hs test words
 found_from hs test space words (suc k) = or_else (named_if hs test (take (suc k) space ++ words))
     (found_from hs test space words k)
 
+-- How a name is used: as the type of a field or of a method, or as a union's member after an alias;
+-- as a union's member without one, or as a nested buffer; as a root.
+pub data UsedAs : Type 0 where
+  as_type : UsedAs
+  as_record : UsedAs
+  as_root : UsedAs
+
 -- a root is named from outside all namespaces, or else from its own, and never from between
 abbrev pub found_root : List HeadV → (ℕ → Bool) → List Name → List Name → Option ℕ
 found_root hs test space words =
     or_else (named_if hs test words) (named_if hs test (take (length space) space ++ words))
 
 -- the innermost declaration that passes the test and that these words refer to in this namespace
-abbrev pub found_by : List HeadV → (ℕ → Bool) → Wanted → List Name → List Name → Option ℕ
-found_by hs test wanted.AnyType space words = found_from hs test space words (length space)
-found_by hs test wanted.Record space words = found_from hs test space words (length space)
-found_by hs test wanted.Root space words = found_root hs test space words
+abbrev pub found_by : List HeadV → (ℕ → Bool) → UsedAs → List Name → List Name → Option ℕ
+found_by hs test as_type space words = found_from hs test space words (length space)
+found_by hs test as_record space words = found_from hs test space words (length space)
+found_by hs test as_root space words = found_root hs test space words
 
 -- A type is the innermost enum or union that is known at its place; else the innermost known table
 -- or struct; else one that follows. A member of a union without an alias, a nested buffer and a root
 -- are tables, whatever enums there are.
-abbrev pub order_of : Wanted → List Sought
-order_of wanted.AnyType = sought.EarlierChoice ∷ sought.EarlierRecord ∷ sought.LaterRecord
-    ∷ sought.LaterChoice ∷ []
-order_of wanted.Record = sought.EarlierRecord ∷ sought.LaterRecord ∷ sought.EarlierChoice
-    ∷ sought.LaterChoice ∷ []
-order_of wanted.Root = sought.EarlierRecord ∷ sought.LaterRecord ∷ sought.EarlierChoice
-    ∷ sought.LaterChoice ∷ []
+abbrev pub order_of : UsedAs → List Group
+order_of as_type = earlier_choice ∷ earlier_record ∷ later_record
+    ∷ later_choice ∷ []
+order_of as_record = earlier_record ∷ later_record ∷ earlier_choice
+    ∷ later_choice ∷ []
+order_of as_root = earlier_record ∷ later_record ∷ earlier_choice
+    ∷ later_choice ∷ []
 
 -- the first that is found in this order
-abbrev pub first_found : List HeadV → List Sought → Wanted → SpaceV → List Name → Option ℕ
+abbrev pub first_found : List HeadV → List Group → UsedAs → SpaceV → List Name → Option ℕ
 first_found hs [] w space words = None
 first_found hs (s ∷ more) w space words =
     or_else (found_by hs (is_sought hs space.begun [] s) w space.words words)
     (first_found hs more w space words)
 
 -- the declaration that these words refer to at this place
-unfoldable pub found : List HeadV → Wanted → SpaceV → List Name → Option ℕ
+unfoldable pub found : List HeadV → UsedAs → SpaceV → List Name → Option ℕ
 found hs w space words = first_found hs (order_of w) w space words
 
 -- ---- types
@@ -283,11 +299,11 @@ base_or None o = o
 base_or (Some b) o = Some b
 
 -- the type that a name refers to at this place
-abbrev pub base_as : List HeadV → Wanted → SpaceV → PathV → Option Base
+abbrev pub base_as : List HeadV → UsedAs → SpaceV → PathV → Option Base
 base_as hs w space p = base_or (plain_base p) (base_found hs (found hs w space (words_of p)))
 
 abbrev pub base_named : List HeadV → SpaceV → PathV → Option Base
-base_named hs space p = base_as hs wanted.AnyType space p
+base_named hs space p = base_as hs as_type space p
 
 abbrev pub table_in : Option Base → Option ℕ
 table_in None = None
@@ -335,3 +351,15 @@ head_of h = record {
   name = h.name.items;
   declaration = declaration_of h.declaration.now;
 }
+
+abbrev pub used_as : Wanted → UsedAs
+used_as wanted.AnyType = as_type
+used_as wanted.Record = as_record
+used_as wanted.Root = as_root
+
+abbrev pub group_of : Sought → Group
+group_of sought.EarlierChoice = earlier_choice
+group_of sought.EarlierRecord = earlier_record
+group_of sought.LaterRecord = later_record
+group_of sought.LaterChoice = later_choice
+group_of sought.Known = known_record

@@ -17,7 +17,7 @@ use Rattle.planus_layout.specs.declared.schema.Schema.{Schema}
 use Rattle.planus_schema.specs.Names.{HeadV, SpaceV, heads_of, words_in, space_after, base_as}
 use Rattle.planus_schema.specs.Names.{space_at, begun_after, begun_in}
 use Rattle.planus_schema.specs.Names.{table_in}
-use Rattle.planus_schema.specs.declared.lookup.Wanted.TheVariants as wanted
+use Rattle.planus_schema.specs.Names.{as_root}
 use Rattle.planus_layout.specs.Distinct.{AreDistinct, Each2}
 use Rattle.planus_schema.specs.Enums.{IsEnum, SaysEnum}
 use Rattle.planus_layout.specs.Layouts.{IsStruct, body_in}
@@ -69,7 +69,7 @@ after hs space s (struct r) = s
 after hs space s (enumeration e) = s
 after hs space s (union u) = s
 after hs space s (service x) = s
-after hs space s (root p) = record s { root = Some (table_in (base_as hs wanted.Root space p)) }
+after hs space s (root p) = record s { root = Some (table_in (base_as hs as_root space p)) }
 after hs space s (identifier w) = record s { identifier = Some w }
 after hs space s (extension w) = record s { extension = Some w }
 

@@ -13,7 +13,7 @@ use Rattle.planus_layout.specs.declared.schema.FieldType.{FieldType}
 use Rattle.planus_layout.specs.declared.schema.Table.{Table}
 use Rattle.planus_layout.specs.declared.schema.TableField.{TableField}
 use Rattle.planus_schema.specs.Names.{HeadV, SpaceV, type_named, setting, has, found, base_found, is_set}
-use Rattle.planus_schema.specs.declared.lookup.Wanted.TheVariants as wanted
+use Rattle.planus_schema.specs.Names.{as_record}
 use Rattle.planus_layout.specs.Slots.{is_union, slots_taken, AreSlots, Follow}
 use Rattle.planus_layout.specs.Distinct.{AreDistinct, Each2}
 use Rattle.planus_schema.specs.Structs.{number_in}
@@ -108,7 +108,7 @@ nested_name (Some nothing) = None
 
 abbrev pub table_found : List HeadV → SpaceV → Option Name → Option Base
 table_found hs space None = None
-table_found hs space (Some w) = base_found hs (found hs wanted.Record space (w ∷ []))
+table_found hs space (Some w) = base_found hs (found hs as_record space (w ∷ []))
 
 -- the table that `nested_flatbuffer` names
 abbrev pub NestedIs : List HeadV → SpaceV → Option AttributeV → Option ℕ → Type 0

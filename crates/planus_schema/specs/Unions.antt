@@ -8,8 +8,8 @@ use Rattle.planus_layout.specs.declared.schema.Base.TheVariants as base
 use Rattle.planus_layout.specs.declared.schema.Union.{Union}
 use Rattle.planus_layout.specs.declared.schema.UnionMember.{UnionMember}
 use Rattle.planus_layout.specs.Numbers.{integer_said}
-use Rattle.planus_schema.specs.declared.lookup.Wanted.{Wanted}
-use Rattle.planus_schema.specs.declared.lookup.Wanted.TheVariants as wanted
+use Rattle.planus_schema.specs.Names.{UsedAs}
+use Rattle.planus_schema.specs.Names.{as_type, as_record}
 use Rattle.planus_schema.specs.Structs.{natural_of}
 use Rattle.planus_schema.specs.Names.{HeadV, SpaceV, words_of, dotted, base_as, has, also_said}
 use Rattle.planus_layout.specs.Distinct.{AreDistinct, Each2}
@@ -41,12 +41,12 @@ target_of m = target_or m.target
     target_or (Some p) = p
 
 -- enums and unions count only for a name after an alias
-abbrev pub wanted_of : MemberV → Wanted
+abbrev pub wanted_of : MemberV → UsedAs
 wanted_of m = wanted_for m.target
   where
-    wanted_for : Option PathV → Wanted
-    wanted_for None = wanted.Record
-    wanted_for (Some p) = wanted.AnyType
+    wanted_for : Option PathV → UsedAs
+    wanted_for None = as_record
+    wanted_for (Some p) = as_type
 
 pub record SaysMember (hs : List HeadV) (space : SpaceV) (d : MemberV) (m : UnionMember)
     : Type 0 where

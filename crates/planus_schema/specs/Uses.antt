@@ -33,8 +33,8 @@ use Rattle.planus_schema.specs.declared.uses.Spot.{Spot}
 use Rattle.planus_schema.specs.declared.uses.Use.{Use}
 use Rattle.planus_schema.specs.declared.fault.Fault.{Fault}
 use Rattle.planus_schema.specs.declared.fault.Problem.TheVariants as problem
-use Rattle.planus_schema.specs.declared.lookup.Wanted.{Wanted}
-use Rattle.planus_schema.specs.declared.lookup.Wanted.TheVariants as wanted
+use Rattle.planus_schema.specs.Names.{UsedAs}
+use Rattle.planus_schema.specs.Names.{as_type, as_record, as_root, used_as}
 use Rattle.planus_schema.specs.Names.{HeadV, own_name, words_in, words_of, space_after, space_at}
 use Rattle.planus_schema.specs.Names.{space_of, plain_base, is_set, attribute_named, index_of}
 use Rattle.planus_schema.specs.Names.{dotted, found, found_by, is_choice, is_known, at_index}
@@ -52,7 +52,7 @@ pub record SpotV : Type 0 where
 
 -- `left`: the number of tokens from the name to the end of its text
 pub record UseV : Type 0 where
-  pub wanted : Wanted
+  pub wanted : UsedAs
   pub spot : SpotV
   pub words : List Name
   pub left : ℕ
@@ -62,24 +62,24 @@ pub data EventV : Type 0 where
   begins : Name → EventV
   uses : UseV → EventV
 
-abbrev pub used : SpotV → Wanted → List Name → ℕ → List EventV
+abbrev pub used : SpotV → UsedAs → List Name → ℕ → List EventV
 used s w words left = uses (record { wanted = w; spot = s; words = words; left = left }) ∷ []
 
 -- scalars and strings are no declarations
-abbrev pub path_used : SpotV → Wanted → Path → List EventV
+abbrev pub path_used : SpotV → UsedAs → Path → List EventV
 path_used s w p =
     if is_set (plain_base (path_of p)) then [] else used s w (words_of (path_of p)) p.left
 
 abbrev pub text_used : SpotV → ℕ → Option Name → List EventV
 text_used s left None = []
-text_used s left (Some w) = used s wanted.Record (w ∷ []) left
+text_used s left (Some w) = used s as_record (w ∷ []) left
 
 abbrev pub nested_used : SpotV → Option Attribute → List EventV
 nested_used s None = []
 nested_used s (Some a) = text_used s a.label.left (nested_name (option_map literal_of a.value))
 
 abbrev pub field_used : SpotV → Field → List EventV
-field_used s f = path_used s wanted.AnyType (path_in_kind f.kind)
+field_used s f = path_used s as_type (path_in_kind f.kind)
     ++ nested_used s (attribute_named (codes "nested_flatbuffer") f.attributes.items)
 
 abbrev pub fields_used : SpotV → List Field → List EventV
@@ -94,7 +94,7 @@ members_used s [] = []
 members_used s (m ∷ ms) = member_used s m ++ members_used s ms
 
 abbrev pub method_used : SpotV → Method → List EventV
-method_used s m = path_used s wanted.AnyType m.request ++ path_used s wanted.AnyType m.response
+method_used s m = path_used s as_type m.request ++ path_used s as_type m.response
 
 abbrev pub methods_used : SpotV → List Method → List EventV
 methods_used s [] = []
@@ -110,7 +110,7 @@ item_used s (item.Struct r) = fields_used s r.fields.items
 item_used s (item.Enum e) = []
 item_used s (item.Union u) = members_used s u.members.items
 item_used s (item.Service x) = methods_used s x.methods.items
-item_used s (item.RootType p) = path_used s wanted.Root p
+item_used s (item.RootType p) = path_used s as_root p
 item_used s (item.FileIdentifier w) = []
 item_used s (item.FileExtension w) = []
 
@@ -203,12 +203,12 @@ abbrev pub taken : List HeadV → WaitingV → UseV → Option ℕ
 taken hs s u = taken_as hs s u (waited hs s u.words)
 
 -- a root's name never waits
-abbrev pub new_as : Wanted → ℕ → Told
-new_as wanted.AnyType i = told.Wait i
-new_as wanted.Record i = told.Wait i
-new_as wanted.Root i = told.Nothing
+abbrev pub new_as : UsedAs → ℕ → Told
+new_as as_type i = told.Wait i
+new_as as_record i = told.Wait i
+new_as as_root i = told.Nothing
 
-abbrev pub told_as : Wanted → ℕ → Option ℕ → Told
+abbrev pub told_as : UsedAs → ℕ → Option ℕ → Told
 told_as w i None = new_as w i
 told_as w i (Some j) = if nat_eq i j then told.Nothing else told.Clash i j
 
@@ -289,7 +289,7 @@ spot_of s = record { file = s.file; space = space_of s.space }
 
 abbrev pub use_of : Use → UseV
 use_of u = record {
-  wanted = u.wanted;
+  wanted = used_as u.wanted;
   spot = spot_of u.spot;
   words = u.first.now ∷ names_of u.more.now;
   left = u.left;

@@ -9,8 +9,8 @@ use Rattle.planus_syntax.specs.declared.value.Kind.{Kind}
 use Rattle.planus_syntax.specs.declared.value.Kind.TheVariants as kind
 use Rattle.planus_schema.specs.declared.fault.Problem.{Problem}
 use Rattle.planus_schema.specs.declared.fault.Problem.TheVariants as problem
-use Rattle.planus_schema.specs.declared.lookup.Wanted.{Wanted}
-use Rattle.planus_schema.specs.declared.lookup.Wanted.TheVariants as wanted
+use Rattle.planus_schema.specs.Names.{UsedAs}
+use Rattle.planus_schema.specs.Names.{as_type}
 use Rattle.planus_schema.specs.declared.fault.Stop.{Stop}
 use Rattle.planus_schema.specs.declared.fault.Stop.TheVariants as stop
 use Rattle.planus_schema.specs.Names.{HeadV, SpaceV, base_as, table_in, is_set}
@@ -42,7 +42,7 @@ Tells o (Err e) = Stops o e
 
 -- ---- names of types
 
-abbrev pub wrong_base : List HeadV → Wanted → SpaceV → Path → Option Broken
+abbrev pub wrong_base : List HeadV → UsedAs → SpaceV → Path → Option Broken
 wrong_base hs w space p =
     when (not (is_set (base_as hs w space (path_of p)))) problem.UnknownType p.left
 
@@ -51,9 +51,9 @@ path_in_kind (kind.Single p) = p
 path_in_kind (kind.Vector p) = p
 
 abbrev pub wrong_kind : List HeadV → SpaceV → Kind → Option Broken
-wrong_kind hs space k = wrong_base hs wanted.AnyType space (path_in_kind k)
+wrong_kind hs space k = wrong_base hs as_type space (path_in_kind k)
 
 -- a name that has to be a table's
-abbrev pub wrong_table : Problem → List HeadV → Wanted → SpaceV → Path → Option Broken
+abbrev pub wrong_table : Problem → List HeadV → UsedAs → SpaceV → Path → Option Broken
 wrong_table problem hs w space p = first (wrong_base hs w space p)
     (when (not (is_set (table_in (base_as hs w space (path_of p))))) problem p.left)

@@ -11,7 +11,7 @@ use Rattle.planus_syntax.specs.declared.value.Method.{Method}
 use Rattle.planus_syntax.specs.declared.value.Record.{Record}
 use Rattle.planus_layout.specs.Distinct.{is_in}
 use Rattle.planus_schema.specs.declared.fault.Problem.TheVariants as problem
-use Rattle.planus_schema.specs.declared.lookup.Wanted.TheVariants as wanted
+use Rattle.planus_schema.specs.Names.{as_type}
 use Rattle.planus_schema.specs.Names.{HeadV, SpaceV, cut_words}
 use Rattle.planus_schema.specs.Wrong.{Broken, when, first, wrong_table}
 
@@ -72,8 +72,8 @@ wrong_in_record known r = first (wrong_attributes known r.attributes.items)
 abbrev pub wrong_method : List HeadV → SpaceV → List Name → List Name → Method → Option Broken
 wrong_method hs space known names m =
     first (when (is_in names m.name.items) problem.MethodNameTaken m.left)
-    (first (wrong_table problem.MethodIsNoTable hs wanted.AnyType space m.request)
-    (first (wrong_table problem.MethodIsNoTable hs wanted.AnyType space m.response)
+    (first (wrong_table problem.MethodIsNoTable hs as_type space m.request)
+    (first (wrong_table problem.MethodIsNoTable hs as_type space m.response)
     (wrong_attributes known m.attributes.items)))
 
 abbrev pub wrong_methods : List HeadV → SpaceV → List Name → List Name → List Method

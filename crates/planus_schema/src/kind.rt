@@ -4,6 +4,7 @@ ghost use Rattle.std.specs.Prelude.{◌≡◌, map, IfOk, Some};
 ghost use Rattle.std.specs.Option.{option_map};
 ghost use Rattle.planus_syntax.specs.Values.{path_of, kind_of, item_of};
 ghost use Rattle.planus_schema.specs.inner.Scopes.{scope_heads, scope_space};
+ghost use Rattle.planus_schema.specs.Names.{used_as};
 ghost use Rattle.planus_schema.specs.Names.{head_of, plain_base as plain_base_lem};
 ghost use Rattle.planus_schema.specs.Names.{base_of_head};
 ghost use Rattle.planus_schema.specs.Wrong.{Tells, wrong_base, wrong_kind, wrong_table};
@@ -55,9 +56,9 @@ pub(crate) fn head_base(heads: &Heads, index: usize) -> Option<Base>
 }
 
 fn base_of(scope: &Scope, wanted: Wanted, path: &Path) -> Result<Base, Stop>
-    ensures named { IfOk result (λ b. base_as (scope_heads scope.now) wanted
+    ensures named { IfOk result (λ b. base_as (scope_heads scope.now) (used_as wanted)
         (scope_space scope.now) (path_of path.now) ≡ Some b) }
-    ensures wrong { Tells (wrong_base (scope_heads scope.now) wanted (scope_space scope.now)
+    ensures wrong { Tells (wrong_base (scope_heads scope.now) (used_as wanted) (scope_space scope.now)
         path.now) result }
 {
     if let Some(base) = plain_base(path) {
@@ -97,9 +98,9 @@ pub(crate) fn table_at(
     path: &Path,
     problem: Problem,
 ) -> Result<usize, Stop>
-    ensures named { IfOk result (λ i. base_as (scope_heads scope.now) wanted
+    ensures named { IfOk result (λ i. base_as (scope_heads scope.now) (used_as wanted)
         (scope_space scope.now) (path_of path.now) ≡ Some (Base.Table i)) }
-    ensures wrong { Tells (wrong_table problem (scope_heads scope.now) wanted
+    ensures wrong { Tells (wrong_table problem (scope_heads scope.now) (used_as wanted)
         (scope_space scope.now) path.now) result }
 {
     match base_of(scope, wanted, path) {

@@ -6,6 +6,7 @@ ghost use Rattle.planus_schema.specs.inner.Scopes.{scope_heads, scope_space};
 ghost use Rattle.planus_schema.specs.Names.{head_of, space_of, named_if, found_from, found_root, at_index};
 ghost use Rattle.planus_schema.specs.Names.{found as found_lem, found_by as found_by_lem};
 ghost use Rattle.planus_schema.specs.Names.{is_sought as is_sought_lem, order_of as order_of_lem};
+ghost use Rattle.planus_schema.specs.Names.{group_of, used_as};
 
 use crate::awaited::Awaited;
 use crate::fault::or_return;
@@ -56,7 +57,7 @@ fn is_sought(
     sought: Sought,
     index: usize,
 ) -> bool
-    ensures { result ≡ is_sought_lem (map head_of heads.now) begun full.now sought index }
+    ensures { result ≡ is_sought_lem (map head_of heads.now) begun full.now (group_of sought) index }
 {
     let choice = heads.is_choice(index);
     match sought {
@@ -78,7 +79,7 @@ fn found_at(
 ) -> Result<Option<usize>, AllocError>
     requires { count ≤ length (space_of scope.now.space) }
     ensures { IfOk result (λ o. o ≡ named_if (scope_heads scope.now)
-        (is_sought_lem (scope_heads scope.now) scope.now.begun full.now sought)
+        (is_sought_lem (scope_heads scope.now) scope.now.begun full.now (group_of sought))
         (take count (space_of scope.now.space) ++ first.now ∷ names_of more.now)) }
 {
     let name = or_return!(dotted_name(scope.alloc, scope.space, count, first, more));
@@ -96,7 +97,7 @@ fn found_outwards(
     more: &[Vec<u8>],
 ) -> Result<Option<usize>, AllocError>
     ensures { IfOk result (λ o. o ≡ found_from (scope_heads scope.now)
-        (is_sought_lem (scope_heads scope.now) scope.now.begun full.now sought)
+        (is_sought_lem (scope_heads scope.now) scope.now.begun full.now (group_of sought))
         (space_of scope.now.space) (first.now ∷ names_of more.now)
         (length (space_of scope.now.space))) }
 {
@@ -118,7 +119,7 @@ fn found_for_root(
     more: &[Vec<u8>],
 ) -> Result<Option<usize>, AllocError>
     ensures { IfOk result (λ o. o ≡ found_root (scope_heads scope.now)
-        (is_sought_lem (scope_heads scope.now) scope.now.begun full.now sought)
+        (is_sought_lem (scope_heads scope.now) scope.now.begun full.now (group_of sought))
         (space_of scope.now.space) (first.now ∷ names_of more.now)) }
 {
     if let Some(index) = or_return!(found_at(scope, full, sought, 0, first, more)) {
@@ -136,7 +137,7 @@ pub(crate) fn found_by(
     more: &[Vec<u8>],
 ) -> Result<Option<usize>, AllocError>
     ensures { IfOk result (λ o. o ≡ found_by_lem (scope_heads scope.now)
-        (is_sought_lem (scope_heads scope.now) scope.now.begun full.now sought) wanted
+        (is_sought_lem (scope_heads scope.now) scope.now.begun full.now (group_of sought)) (used_as wanted)
         (space_of scope.now.space) (first.now ∷ names_of more.now)) }
 {
     match wanted {
@@ -146,7 +147,7 @@ pub(crate) fn found_by(
 }
 
 fn order_of(wanted: Wanted) -> [Sought; 4]
-    ensures { result ≡ order_of_lem wanted }
+    ensures { map group_of result ≡ order_of_lem (used_as wanted) }
 {
     match wanted {
         Wanted::AnyType => [
@@ -172,7 +173,7 @@ pub(crate) fn found(
     first: &[u8],
     more: &[Vec<u8>],
 ) -> Result<Option<usize>, AllocError>
-    ensures { IfOk result (λ o. o ≡ found_lem (scope_heads scope.now) wanted
+    ensures { IfOk result (λ o. o ≡ found_lem (scope_heads scope.now) (used_as wanted)
         (scope_space scope.now) (first.now ∷ names_of more.now)) }
 {
     let order = order_of(wanted);

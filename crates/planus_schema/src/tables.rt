@@ -6,7 +6,7 @@ ghost use Rattle.planus_syntax.specs.Values.{names_of, field_of, record_of, attr
 ghost use Rattle.planus_schema.specs.inner.Read.{IsFieldRead, AreFieldsRead, AreNamesRead};
 ghost use Rattle.planus_schema.specs.inner.Scopes.{scope_heads, scope_space};
 ghost use Rattle.planus_schema.specs.Names.{setting as setting_lem, base_found};
-ghost use Rattle.planus_schema.specs.Names.{found as found_lem};
+ghost use Rattle.planus_schema.specs.Names.{found as found_lem, as_record};
 ghost use Rattle.planus_schema.specs.Tables.{NestedIs};
 ghost use Rattle.planus_schema.specs.Tables.{is_required as is_required_lem};
 ghost use Rattle.planus_schema.specs.Tables.{is_number as is_number_lem};
@@ -90,7 +90,7 @@ fn check_lawful(
 
 fn table_named(scope: &Scope, text: &[u8], left: usize) -> Result<usize, Stop>
     ensures named { IfOk result (λ i. base_found (scope_heads scope.now)
-        (found_lem (scope_heads scope.now) Wanted.Record (scope_space scope.now)
+        (found_lem (scope_heads scope.now) as_record (scope_space scope.now)
         (text.now ∷ []))
         ≡ Some (Base.Table i)) }
     ensures wrong { Tells (when (not (is_set (table_in (table_found (scope_heads scope.now)

@@ -15,7 +15,7 @@ ghost use Rattle.planus_schema.specs.Unions.{is_tag, tag_said};
 ghost use Rattle.planus_schema.specs.Wrong.{Tells, wrong_table};
 ghost use Rattle.planus_schema.specs.WrongUnions.{target_path, wrong_member, wrong_members};
 ghost use Rattle.planus_schema.specs.WrongUnions.{wrong_union, wrong_flags};
-ghost use Rattle.planus_schema.specs.Names.{attribute_named, has as has_lem};
+ghost use Rattle.planus_schema.specs.Names.{attribute_named, has as has_lem, used_as};
 ghost use Rattle.planus_syntax.specs.Values.{attribute_of};
 ghost use Rattle.planus_schema.specs.Unions.{IsUnion, SaysUnion};
 ghost use Rattle.planus_syntax.specs.Values.{union_of as union_of_lem};
@@ -41,7 +41,7 @@ pub(crate) fn target_of(member: &Member) -> &Path
 }
 
 pub(crate) fn wanted_of(member: &Member) -> Wanted
-    ensures { result ≡ wanted_of_lem (member_of member.now) }
+    ensures { used_as result ≡ wanted_of_lem (member_of member.now) }
 {
     match &member.target {
         Some(_) => Wanted::AnyType,

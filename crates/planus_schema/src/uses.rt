@@ -1,6 +1,7 @@
 //! The names that a schema uses, in order.
 
 ghost use Rattle.std.specs.Prelude.{◌≡◌, ◌++◌, codes, map, IfOk, OnOk};
+ghost use Rattle.planus_schema.specs.Names.{used_as};
 ghost use Rattle.planus_schema.specs.Uses.{spot_of, event_of};
 ghost use Rattle.planus_schema.specs.Uses.{path_used, nested_used, field_used, fields_used};
 ghost use Rattle.planus_schema.specs.Uses.{member_used, members_used, method_used, methods_used};
@@ -49,7 +50,7 @@ fn put_path<'a>(
     path: &'a Path,
 ) -> Result<(), AllocError>
     ensures { OnOk result (map event_of out.new.items ≡ map event_of out.old.items
-        ++ path_used (spot_of spot.entry) wanted path.now) }
+        ++ path_used (spot_of spot.entry) (used_as wanted) path.now) }
 {
     if plain_base(path).is_some() {
         return Ok(());

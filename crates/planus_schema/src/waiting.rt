@@ -4,6 +4,7 @@ ghost use Rattle.std.specs.Prelude.{◌≡◌, ◌≤◌, ◌∷◌, ◌==◌, m
 ghost use Rattle.std.specs.Option.{option_map};
 ghost use Rattle.std.specs.List.{list_any};
 ghost use Rattle.planus_syntax.specs.Values.{names_of};
+ghost use Rattle.planus_schema.specs.Names.{used_as};
 ghost use Rattle.planus_schema.specs.Names.{head_of, at_index};
 ghost use Rattle.planus_schema.specs.inner.Read.{AreNoted};
 ghost use Rattle.planus_schema.specs.Uses.{put_at, single_word as single_word_lem};
@@ -167,7 +168,7 @@ fn taken(
 }
 
 fn told_as(wanted: Wanted, meaning: usize, taken: Option<usize>) -> Told
-    ensures { result ≡ told_as_lem wanted meaning taken }
+    ensures { result ≡ told_as_lem (used_as wanted) meaning taken }
 {
     match (taken, wanted) {
         (Some(taken), _) if meaning == taken => Told::Nothing,

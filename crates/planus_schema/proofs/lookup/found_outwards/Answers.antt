@@ -1,6 +1,6 @@
 use Rattle.std.proofs.Common.{◌∷◌, arith, ◌∙◌}
 use Rattle.planus_syntax.specs.Values.{names_of}
-use Rattle.planus_schema.specs.Names.{is_sought, space_of}
+use Rattle.planus_schema.specs.Names.{group_of, is_sought, space_of}
 use Rattle.planus_schema.specs.inner.Scopes.{scope_heads}
 use Rattle.planus_schema.proofs.Lists.{further_out}
 use Rattle.planus_schema.proofs.lookup.found_outwards.Goals as goal
@@ -12,7 +12,7 @@ pub spaces-preserved : goal.spaces-preserved
 spaces-preserved c = record {
   within = omega (arith, c.spaces.invariant.within);
   rest = further_out (scope_heads c.args.scope.now)
-      (is_sought (scope_heads c.args.scope.now) c.args.scope.now.begun c.args.full.now c.args.sought)
+      (is_sought (scope_heads c.args.scope.now) c.args.scope.now.begun c.args.full.now (group_of c.args.sought))
       (space_of c.args.scope.now.space)
       (c.args.first.now ∷ names_of c.args.more.now) c.spaces.count _ (omega arith) c.in_default.is
       c.in-Ok.ensures ∙ c.spaces.invariant.rest;
