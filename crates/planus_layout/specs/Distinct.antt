@@ -1,5 +1,5 @@
 -- Names that are used once.
-use Rattle.std.specs.Prelude.{◌≡◌, ℕ, Bool, true, false, List, [], ◌∷◌, ◌++◌, map}
+use Rattle.std.specs.Prelude.{ℕ, Bool, List, [], ◌∷◌, map}
 use Rattle.std.specs.Global.{Vec}
 use Rattle.std.specs.List.{IsDistinct, list_any}
 use Rattle.std.specs.Str.{bytes_eq}
@@ -12,14 +12,6 @@ is_in names name = list_any (λ w. bytes_eq w name) names
 
 abbrev pub AreDistinct : List (List ℕ) → Type 0
 AreDistinct names = IsDistinct bytes_eq names
-
-pub record IsAdded (old : List (List ℕ)) (name : List ℕ) (new : List (List ℕ)) : Type 0 where
-  pub added : new ≡ old ++ name ∷ []
-  pub distinct : AreDistinct old → AreDistinct new
-
-abbrev pub Takes : Bool → List (List ℕ) → List ℕ → List (List ℕ) → Type 0
-Takes true old name new = IsAdded old name new
-Takes false old name new = Unit {0}
 
 abbrev pub Each2 : {A B : Type 0} → (A → B → Type 0) → List A → List B → Type 0
 Each2 R [] [] = Unit {0}

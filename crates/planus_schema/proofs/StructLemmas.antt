@@ -20,7 +20,7 @@ use Rattle.planus_schema.specs.Names.{HeadV, SpaceV, type_named, is_set, has}
 use Rattle.planus_schema.specs.Wrong.{Broken, broken, when, first, Stops, wrong_kind}
 use Rattle.planus_schema.specs.WrongStructs.{is_empty, is_vector, wrong_plain, wrong_measure, wrong_type, measure_among, measure_in_type, wrong_struct_field, wrong_struct_fields, end_of, end_after, greatest_after, alignment_in, field_measure}
 use Rattle.planus_schema.proofs.FaultLemmas.{skip, passes, stops_first, stops_next, stops_now}
-use Rattle.planus_layout.specs.Distinct.{Each2, Takes, IsAdded, is_in}
+use Rattle.planus_layout.specs.Distinct.{Each2, is_in}
 use Rattle.planus_layout.specs.Layouts.{IsNext, Laid, greatest_alignment}
 
 pub each2_push : {A B : Type 0} (R : A → B → Type 0) (xs : List A) (ys : List B) (x : A) (y : B) → Each2 R xs ys → R x y → Each2 R (xs ++ x ∷ []) (ys ++ y ∷ [])
@@ -41,10 +41,6 @@ map_next f xs i x h e = ap (map f) (take-snoc xs i x h e) ∙ map_push f (take i
   where
     take-snoc : {A : Type 0} (xs : List A) (i : ℕ) (x : A) → i < length xs → x ≡ get_or xs i x → take (i + 1) xs ≡ take i xs ++ x ∷ []
     take-snoc xs i x h e = grind (arith, common_steps)
-
-pub taken : (b : Bool) (old : List (List ℕ)) (name : List ℕ) (new : List (List ℕ)) → b ≡ true → Takes b old name new → IsAdded old name new
-taken true old name new e h = h
-taken false old name new e h = absurd cc
 
 pub drop_next : {A : Type 0} (xs : List A) (i : ℕ) (x : A) → i < length xs → x ≡ get_or xs i x → drop i xs ≡ x ∷ drop (i + 1) xs
 drop_next xs i x h e = rw add-one (drop-cons xs i x h ∙ ap (λ y. y ∷ drop (suc i) xs) (sym e))

@@ -1,8 +1,8 @@
 -- One more field of a table.
-use Rattle.std.proofs.Common.{Bool, false, ◌≡◌, ℕ, ◌+◌, ◌≤◌, true, arith, List, [], ◌∷◌, ◌++◌, refl, sym, ap, subst, ◌∙◌, append_assoc, map}
+use Rattle.std.proofs.Common.{Bool, false, ◌≡◌, ℕ, ◌+◌, ◌<◌, ◌≤◌, length, get_or, true, arith, List, [], ◌∷◌, ◌++◌, refl, sym, ap, subst, ◌∙◌, append_assoc, map}
 use Rattle.std.specs.Prelude.{if◌then◌else◌, Option, Some, None, not, ◌&&◌, ◌||◌, nat_le, codes}
 use Rattle.std.specs.List.{list_all}
-use Rattle.planus_syntax.specs.Values.{Name, field_of, kind_of, attribute_of}
+use Rattle.planus_syntax.specs.Values.{Name, field_of, kind_of, attribute_of, names_of}
 use Rattle.planus_syntax.specs.declared.value.Attribute.{Attribute}
 use Rattle.planus_syntax.specs.declared.value.Field.{Field}
 use Rattle.planus_schema.specs.declared.fault.Problem.TheVariants as problem
@@ -11,7 +11,6 @@ use Rattle.planus_schema.specs.Wrong.{Broken, when, first, Stops, wrong_kind}
 use Rattle.planus_schema.specs.declared.fault.Stop.{Stop}
 use Rattle.planus_schema.specs.declared.fault.Stop.TheVariants as stop
 use Rattle.planus_schema.proofs.FaultLemmas.{skip, passes, stops_first, stops_next, stops_now}
-use Rattle.planus_schema.proofs.StructLemmas.{taken}
 use Rattle.planus_schema.specs.WrongTables.{wrong_slot, wrong_default, wrong_nested, wrong_law, wrong_typed, field_type, field_slot, slots_at, slots_from, wrong_field, wrong_fields, names_in, are_among}
 use Rattle.planus_layout.specs.Slots.{slots_of, slots_taken}
 use Rattle.std.proofs.lemmas.List.{append-nil}
@@ -20,8 +19,11 @@ use Rattle.planus_layout.specs.declared.schema.FieldType.{FieldType}
 use Rattle.planus_layout.specs.declared.schema.TableField.{TableField}
 use Rattle.planus_layout.specs.Slots.{Follow, width}
 use Rattle.planus_layout.specs.Slots.{is_union}
-use Rattle.planus_layout.specs.Distinct.{Takes, is_in}
-use Rattle.planus_schema.specs.Tables.{all_names, names_for, names_taken, is_lawful, is_required, AreNamed}
+use Rattle.planus_layout.specs.Distinct.{is_in}
+use Rattle.std.specs.Global.{Vec}
+use Rattle.std.proofs.lemmas.List.{get_or-map}
+use Rattle.std.proofs.Math.ListN.{length-map, get_or-map as get_or-same}
+use Rattle.planus_schema.specs.Tables.{all_names, names_for, names_taken, is_lawful, is_required, type_name}
 
 pub follow_push : (at : ℕ) (fs : List TableField) (end : ℕ) (f : TableField) → Follow at fs end → f.slot + 1 ≡ end + width f.kind → Follow at (fs ++ f ∷ []) (end + width f.kind)
 follow_push at [] end f h e = (e ∙ ap (λ n. n + width f.kind) (sym h), ap (λ n. n + width f.kind) h)
@@ -116,40 +118,37 @@ same_or_no : (b : Bool) → b ≡ (b || false)
 same_or_no true = refl
 same_or_no false = refl
 
-abbrev typed_names : Name → List Name
-typed_names w = (w ++ codes "_type") ∷ w ∷ []
-
-union_names : (t : FieldType) (w : Name) → is_union t ≡ true → typed_names w ≡ names_for t w
+union_names : (t : FieldType) (w : Name) → is_union t ≡ true → type_name w ∷ w ∷ [] ≡ names_for t w
 union_names t w u = rw u refl
 
 own_name : (t : FieldType) (w : Name) → is_union t ≡ false → w ∷ [] ≡ names_for t w
 own_name t w u = rw u refl
 
-pub type_used : (t : FieldType) (w : Name) (old : List Name) → is_union t ≡ true → is_in old (w ++ codes "_type") ≡ true → false ≡ not (are_among old (names_for t w))
+pub type_used : (t : FieldType) (w : Name) (old : List Name) → is_union t ≡ true → is_in old (type_name w) ≡ true → false ≡ not (are_among old (names_for t w))
 type_used t w old u e = rw (u, e) refl
 
 pub one_new : (t : FieldType) (w : Name) (old : List Name) (new : Bool) → is_union t ≡ false → new ≡ not (is_in old w) → new ≡ not (are_among old (names_for t w))
 one_new t w old new u e = e ∙ ap not (same_or_no (is_in old w)) ∙ ap (λ ns. not (are_among old ns)) (own_name t w u)
 
-pub two_new : (t : FieldType) (w : Name) (old : List Name) (new : Bool) → is_union t ≡ true → is_in old (w ++ codes "_type") ≡ false → new ≡ not (is_in (old ++ (w ++ codes "_type") ∷ []) w) → new ≡ not (are_among old (names_for t w))
+pub two_new : (t : FieldType) (w : Name) (old : List Name) (new : Bool) → is_union t ≡ true → is_in old (type_name w) ≡ false → new ≡ not (is_in (old ++ type_name w ∷ []) w) → new ≡ not (are_among old (names_for t w))
 two_new t w old new u f e =
-    e ∙ ap not (same_or_no (is_in (old ++ (w ++ codes "_type") ∷ []) w))
-    ∙ ap (λ b. not (b || (is_in (old ++ (w ++ codes "_type") ∷ []) w || false))) (sym f)
+    e ∙ ap not (same_or_no (is_in (old ++ type_name w ∷ []) w))
+    ∙ ap (λ b. not (b || (is_in (old ++ type_name w ∷ []) w || false))) (sym f)
     ∙ ap (λ ns. not (are_among old ns)) (union_names t w u)
 
-pub one_named : (t : FieldType) (w : Name) (old names : List Name) (new : Bool) → is_union t ≡ false → Takes new old w names → new ≡ true → AreNamed old (names_for t w) names
-one_named t w old names new u h e =
-    let a = taken new old w names e h in
-    record { added = a.added ∙ ap (λ ns. old ++ ns) (own_name t w u); distinct = a.distinct }
+pub one_taken : (t : FieldType) (w : Name) (old : List Name) → is_union t ≡ false → old ++ w ∷ [] ≡ old ++ names_for t w
+one_taken t w old u = ap (λ ns. old ++ ns) (own_name t w u)
 
-pub two_named : (t : FieldType) (w : Name) (old mid names : List Name) (typed new : Bool) → is_union t ≡ true → Takes typed old (w ++ codes "_type") mid → typed ≡ true → Takes new mid w names → new ≡ true → AreNamed old (names_for t w) names
-two_named t w old mid names typed new u g f h e =
-    let a = taken typed old (w ++ codes "_type") mid f g in
-    let b = taken new mid w names e h in
-    record {
-      added = b.added ∙ ap (λ ns. ns ++ w ∷ []) a.added ∙ append_assoc old ((w ++ codes "_type") ∷ []) (w ∷ []) ∙ ap (λ ns. old ++ ns) (union_names t w u);
-      distinct = λ d. b.distinct (a.distinct d);
-    }
+pub two_taken : (t : FieldType) (w : Name) (old : List Name) → is_union t ≡ true → (old ++ type_name w ∷ []) ++ w ∷ [] ≡ old ++ names_for t w
+two_taken t w old u = append_assoc old (type_name w ∷ []) (w ∷ []) ∙ ap (λ ns. old ++ ns) (union_names t w u)
+
+pub as_many : (ns : List (Vec ℕ)) (fs : List Field) → names_of ns ≡ map (λ g. type_name g.name.items) fs → length ns ≡ length fs
+as_many ns fs e = sym (length-map ns _) ∙ ap length e ∙ length-map fs _
+
+pub type_name_at : (ns : List (Vec ℕ)) (fs : List Field) (i : ℕ) (n : Vec ℕ) (f : Field) → names_of ns ≡ map (λ g. type_name g.name.items) fs → i < length fs → n ≡ get_or ns i n → f ≡ get_or fs i f → n.items ≡ type_name f.name.items
+type_name_at ns fs i n f e l a b =
+    ap (λ (v : Vec ℕ). v.items) a ∙ sym (get_or-same (λ (v : Vec ℕ). v.items) ns i n)
+    ∙ ap (λ ws. get_or ws i n.items) e ∙ get_or-map (λ (g : Field). type_name g.name.items) fs i f n.items l ∙ ap (λ (g : Field). type_name g.name.items) (sym b)
 
 one_or_two : (b : Bool) → (if b then 2 else 1) ≤ 2
 one_or_two true = omega arith

@@ -21,9 +21,13 @@ use Rattle.planus_schema.specs.Defaults.{value_of, default_said}
 
 -- ---- what a table is
 
+-- the name of a union's type
+abbrev pub type_name : Name → Name
+type_name w = w ++ codes "_type"
+
 -- a union's type is named before its value
 abbrev pub names_for : FieldType → Name → List Name
-names_for t w = if is_union t then (w ++ codes "_type") ∷ w ∷ [] else w ∷ []
+names_for t w = if is_union t then type_name w ∷ w ∷ [] else w ∷ []
 
 abbrev pub names_taken : TableField → List Name
 names_taken f = names_for f.kind f.name.items
@@ -31,11 +35,6 @@ names_taken f = names_for f.kind f.name.items
 abbrev pub all_names : List TableField → List Name
 all_names [] = []
 all_names (f ∷ fs) = names_taken f ++ all_names fs
-
--- the names after those of a field were added
-pub record AreNamed (old taken new : List Name) : Type 0 where
-  pub added : new ≡ old ++ taken
-  pub distinct : AreDistinct old → AreDistinct new
 
 abbrev pub is_number_base : Base → Bool
 is_number_base (base.Scalar s) = true

@@ -1,8 +1,9 @@
 //! Checks of attributes and services.
 
 ghost use Rattle.planus_schema.specs.inner.Scopes.{scope_heads, scope_space};
-ghost use Rattle.std.specs.Prelude.{◌≡◌, ◌++◌, ◌∷◌, [], IfOk, OnOk};
-ghost use Rattle.planus_syntax.specs.Values.{names_of};
+ghost use Rattle.std.specs.Prelude.{◌≡◌, ◌++◌, ◌∷◌, [], List, IfOk, OnOk};
+ghost use Rattle.planus_syntax.specs.Values.{Name, names_of};
+ghost use Rattle.planus_schema.specs.inner.Index.{IsTaken};
 ghost use Rattle.planus_schema.specs.Wrong.{Tells};
 ghost use Rattle.planus_schema.specs.WrongServices.{built_in as built_in_lem};
 ghost use Rattle.planus_schema.specs.WrongServices.{customs_in};
@@ -14,12 +15,13 @@ ghost use Rattle.planus_schema.specs.WrongServices.{wrong_method, wrong_methods,
 use crate::fault::{Problem, Stop, or_return, wrong};
 use crate::kind::table_at;
 use crate::lookup::Wanted;
-use crate::names::take_name;
+use crate::names::take_key;
 use crate::scope::Scope;
 use crate::words::cut_words;
 use planus_layout::is_among;
 use planus_syntax::{Attribute, Declaration, Field, Item, Method};
 use std::alloc::{AllocError, Global};
+use std::collections::BTreeMap;
 
 /// The attributes of the language, of printed code, of one language, and of services.
 const BUILT_IN: &[u8] = b"bit_flags deprecated flexbuffer force_align hash id key \
@@ -85,21 +87,19 @@ fn check_fields(known: &[Vec<u8>], fields: &[Field]) -> Result<(), Stop>
     Ok(())
 }
 
-fn check_method(
+fn check_method<'n>(
     scope: &Scope,
     known: &[Vec<u8>],
-    names: &mut Vec<Vec<u8>>,
-    method: &Method,
+    names: &mut BTreeMap<&'n [u8], usize>,
+    method: &'n Method,
 ) -> Result<(), Stop>
-    ensures added { OnOk result (names_of names.new.items
-        ≡ names_of names.old.items ++ method.now.name.items ∷ []) }
-    ensures wrong { Tells (wrong_method (scope_heads scope.now) (scope_space scope.now)
-        (names_of known.now) (names_of names.old.items) method.now) result }
+    ensures taken { (list : List Name) → IsTaken names.old list
+        → OnOk result (IsTaken names.new (list ++ method.now.name.items ∷ [])) }
+    ensures wrong { (list : List Name) → IsTaken names.old list
+        → Tells (wrong_method (scope_heads scope.now) (scope_space scope.now)
+        (names_of known.now) list method.now) result }
 {
-    let new = or_return!(
-        take_name(scope.alloc, names, &method.name),
-        Stop::OutOfMemory
-    );
+    let new = or_return!(take_key(names, &method.name), Stop::OutOfMemory);
     if !new {
         return Err(wrong(Problem::MethodNameTaken, method.left));
     }
@@ -113,7 +113,7 @@ fn check_methods(scope: &Scope, known: &[Vec<u8>], methods: &[Method]) -> Result
     ensures { Tells (wrong_methods (scope_heads scope.now) (scope_space scope.now)
         (names_of known.now) [] methods.now) result }
 {
-    let mut names = Vec::new(scope.alloc);
+    let mut names = BTreeMap::new(scope.alloc);
     'methods: for method in methods {
         or_return!(check_method(scope, known, &mut names, method));
     }

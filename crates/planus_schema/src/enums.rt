@@ -14,11 +14,12 @@ ghost use Rattle.planus_layout.specs.Distinct.{AreDistinct};
 
 use crate::attributes::has;
 use crate::fault::{Problem, Stop, or_return, wrong};
-use crate::names::{copied, take_name};
+use crate::names::{copied, take_key};
 use crate::scalar_names::scalar_named;
 use planus_layout::{Enum, EnumValue, Number, Scalar, following, integer};
 use planus_syntax::{Enumeration, Path, Variant};
 use std::alloc::Global;
+use std::collections::BTreeMap;
 
 fn integer_type(path: &Path) -> Option<Scalar>
     ensures { result ≡ integer_type_lem (path_of path.now) }
@@ -111,12 +112,9 @@ fn check_names(alloc: Global, variants: &[Variant]) -> Result<(), Stop>
         (map variant_of variants.now))) }
     ensures wrong { Tells (wrong_names [] variants.now) result }
 {
-    let mut names = Vec::new(alloc);
+    let mut names = BTreeMap::new(alloc);
     'variants: for variant in variants {
-        let new = or_return!(
-            take_name(alloc, &mut names, &variant.name),
-            Stop::OutOfMemory
-        );
+        let new = or_return!(take_key(&mut names, &variant.name), Stop::OutOfMemory);
         if !new {
             return Err(wrong(Problem::ValueNameTaken, variant.left));
         }

@@ -1,10 +1,11 @@
 //! Lists of names.
 
-ghost use Rattle.std.specs.Prelude.{◌≡◌, IfOk, not};
-ghost use Rattle.planus_layout.specs.Distinct.{Takes, is_in, items_of};
+ghost use Rattle.std.specs.Prelude.{◌≡◌, ◌++◌, ◌∷◌, [], ℕ, List, true, IfOk, not};
+ghost use Rattle.planus_layout.specs.Distinct.{is_in, items_of};
+ghost use Rattle.planus_schema.specs.inner.Index.{IsTaken};
 
-use planus_layout::is_among;
 use std::alloc::{AllocError, Global};
+use std::collections::BTreeMap;
 
 /// Returns a copy of these words.
 pub(crate) fn copied(alloc: Global, words: &[Vec<u8>]) -> Result<Vec<Vec<u8>>, AllocError>
@@ -18,20 +19,21 @@ pub(crate) fn copied(alloc: Global, words: &[Vec<u8>]) -> Result<Vec<Vec<u8>>, A
     Ok(out)
 }
 
-/// Adds a name to these; returns whether it was new.
-pub(crate) fn take_name(
-    alloc: Global,
-    names: &mut Vec<Vec<u8>>,
-    name: &[u8],
+/// Adds a name to the keys of a map; returns whether it was new.
+pub(crate) fn take_key<'n>(
+    names: &mut BTreeMap<&'n [u8], usize>,
+    name: &'n [u8],
 ) -> Result<bool, AllocError>
-    ensures taken { IfOk result (λ new. Takes new (items_of names.old.items) name.now
-        (items_of names.new.items)) }
-    ensures new { IfOk result (λ new. new ≡ not (is_in (items_of names.old.items) name.now)) }
+    ensures new { (list : List (List ℕ)) → IsTaken names.old list
+        → IfOk result (λ new. new ≡ not (is_in list name.now)) }
+    ensures taken { (list : List (List ℕ)) → IsTaken names.old list
+        → IfOk result (λ new. new ≡ true → IsTaken names.new (list ++ name.now ∷ [])) }
 {
-    if is_among(names, name) {
-        return Ok(false);
+    match names.get(name) {
+        Some(_) => Ok(false),
+        None => {
+            names.insert(name, 0)?;
+            Ok(true)
+        }
     }
-    let copy = Vec::from_slice(alloc, name)?;
-    names.push(copy)?;
-    Ok(true)
 }

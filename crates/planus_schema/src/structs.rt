@@ -21,14 +21,14 @@ ghost use Rattle.planus_schema.specs.WrongStructs.{wrong_alignment};
 use crate::attributes::{has, setting};
 use crate::fault::{Problem, Stop, or_return, wrong};
 use crate::kind::type_of;
-use crate::names::{copied, take_name};
+use crate::names::{copied, take_key};
 use crate::scope::Scope;
 use planus_layout::{
     Base, Declared, Layout, Measure, Struct, StructField, greater, integer, is_alignment,
     measure_of, next_multiple,
 };
 use planus_syntax::{Attribute, Field, Literal, Record, is_number};
-use std::alloc::Global;
+use std::collections::BTreeMap;
 
 fn base_in_struct(scope: &Scope, field: &Field) -> Result<Base, Stop>
     ensures kind { IfOk result (λ b. type_named (scope_heads scope.now) (scope_space scope.now)
@@ -106,15 +106,12 @@ fn struct_fields(scope: &Scope, bodies: &[Declared], declared: &[Field]) -> Resu
         (measures_of bodies.now) 0 [] declared.now) result }
 {
     let mut fields = Vec::new(scope.alloc);
-    let mut names = Vec::new(scope.alloc);
+    let mut names = BTreeMap::new(scope.alloc);
     let mut end = 0;
     let mut alignment = 1;
     'fields: for declaration in declared {
         let field = or_return!(struct_field(scope, bodies, declaration, end));
-        let new = or_return!(
-            take_name(scope.alloc, &mut names, &field.name),
-            Stop::OutOfMemory
-        );
+        let new = or_return!(take_key(&mut names, &declaration.name), Stop::OutOfMemory);
         if !new {
             return Err(wrong(Problem::FieldNameTaken, declaration.left));
         }

@@ -1,7 +1,7 @@
 //! Tables.
 
 ghost use Rattle.std.specs.Prelude.{◌≡◌, ◌≤◌, ◌+◌, ◌∷◌, [], true, false, not, ◌&&◌, ◌||◌, map};
-ghost use Rattle.std.specs.Prelude.{IfOk, Some, codes};
+ghost use Rattle.std.specs.Prelude.{IfOk, List, Some, codes, ◌++◌};
 ghost use Rattle.planus_syntax.specs.Values.{names_of, field_of, record_of, attribute_of};
 ghost use Rattle.planus_schema.specs.inner.Read.{IsFieldRead, AreFieldsRead, AreNamesRead};
 ghost use Rattle.planus_schema.specs.inner.Scopes.{scope_heads, scope_space};
@@ -12,8 +12,11 @@ ghost use Rattle.planus_schema.specs.Tables.{is_required as is_required_lem};
 ghost use Rattle.planus_schema.specs.Tables.{is_number as is_number_lem};
 ghost use Rattle.planus_schema.specs.Tables.{may_be_key as may_be_key_lem};
 ghost use Rattle.planus_schema.specs.Tables.{is_bytes as is_bytes_lem};
-ghost use Rattle.planus_schema.specs.Tables.{names_taken, SaysTable};
-ghost use Rattle.planus_schema.specs.Tables.{IsTable, AreNamed};
+ghost use Rattle.planus_schema.specs.Tables.{names_for, names_taken, SaysTable};
+ghost use Rattle.planus_schema.specs.Tables.{type_name as type_name_lem};
+ghost use Rattle.planus_schema.specs.inner.Index.{IsTaken};
+ghost use Rattle.planus_syntax.specs.Values.{Name};
+ghost use Rattle.planus_schema.specs.Tables.{IsTable};
 ghost use Rattle.planus_schema.specs.Names.{has as has_lem, is_set, table_in, attribute_named};
 ghost use Rattle.planus_schema.specs.Tables.{table_found};
 ghost use Rattle.planus_schema.specs.Wrong.{Tells, first, when};
@@ -25,12 +28,13 @@ use crate::defaults::default_of;
 use crate::fault::{Problem, Stop, or_return, wrong};
 use crate::kind::{head_base, type_of};
 use crate::lookup::{Wanted, found};
-use crate::names::{copied, take_name};
+use crate::names::{copied, take_key};
 use crate::scope::Scope;
 use crate::slots::{check_slots, field_slot, has_ids};
 use planus_layout::{Base, FieldType, Scalar, Table, TableField, is_union, width};
 use planus_syntax::{Attribute, Field, Literal, Record};
 use std::alloc::{AllocError, Global};
+use std::collections::BTreeMap;
 
 fn is_number(kind: FieldType) -> bool
     ensures { result ≡ is_number_lem kind }
@@ -163,42 +167,62 @@ fn table_field(scope: &Scope, field: &Field, ids: bool, next: usize) -> Result<T
     })
 }
 
-/// Adds the name of a field, and before it that of a union's type; returns whether they were new.
-fn take_names(
-    alloc: Global,
-    names: &mut Vec<Vec<u8>>,
-    field: &TableField,
-) -> Result<bool, AllocError>
-    ensures named { IfOk result (λ new. new ≡ true → AreNamed (names_of names.old.items)
-        (names_taken field.now) (names_of names.new.items)) }
-    ensures new { IfOk result (λ new. new
-        ≡ not (are_among (names_of names.old.items) (names_taken field.now))) }
+/// The names that the types of these fields have if they are unions.
+fn type_names(alloc: Global, fields: &[Field]) -> Result<Vec<Vec<u8>>, AllocError>
+    ensures { IfOk result (λ v. names_of v.items
+        ≡ map (λ f. type_name_lem f.name.items) fields.now) }
 {
-    if is_union(field.kind) {
+    let mut names = Vec::new(alloc);
+    'fields: for field in fields {
         let mut name = or_return!(Vec::from_slice(alloc, &field.name));
         or_return!(name.extend_from_slice(b"_type"));
-        let new = or_return!(take_name(alloc, names, &name));
+        names.push(name)?;
+    }
+    Ok(names)
+}
+
+/// Adds the name of a field, and before it that of a union's type; returns whether they were new.
+fn take_names<'n>(
+    names: &mut BTreeMap<&'n [u8], usize>,
+    kind: FieldType,
+    name: &'n [u8],
+    type_name: &'n [u8],
+) -> Result<bool, AllocError>
+    requires { type_name.now ≡ type_name_lem name.now }
+    ensures new { (list : List Name) → IsTaken names.old list
+        → IfOk result (λ new. new ≡ not (are_among list (names_for kind name.now))) }
+    ensures taken { (list : List Name) → IsTaken names.old list
+        → IfOk result (λ new. new ≡ true → IsTaken names.new (list ++ names_for kind name.now)) }
+{
+    if is_union(kind) {
+        let new = or_return!(take_key(names, type_name));
         if !new {
             return Ok(false);
         }
     }
-    take_name(alloc, names, &field.name)
+    take_key(names, name)
 }
 
-fn add_names(
-    alloc: Global,
-    names: &mut Vec<Vec<u8>>,
+fn add_names<'n>(
+    names: &mut BTreeMap<&'n [u8], usize>,
     key: bool,
     field: &TableField,
+    name: &'n [u8],
+    type_name: &'n [u8],
     left: usize,
 ) -> Result<bool, Stop>
-    ensures read { IfOk result (λ k. AreNamesRead (names_of names.old.items)
-        (names_of names.new.items) field.now key k) }
-    ensures wrong { Tells (first
-        (when (are_among (names_of names.old.items) (names_taken field.now))
-        Problem.FieldNameTaken left) (when (field.now.key && key) Problem.SecondKey left)) result }
+    requires own { field.now.name.items ≡ name.now }
+    requires typed { type_name.now ≡ type_name_lem name.now }
+    ensures read { (list : List Name) → IsTaken names.old list
+        → IfOk result (λ k. AreNamesRead list names.new field.now key k) }
+    ensures wrong { (list : List Name) → IsTaken names.old list → Tells (first
+        (when (are_among list (names_taken field.now)) Problem.FieldNameTaken left)
+        (when (field.now.key && key) Problem.SecondKey left)) result }
 {
-    let new = or_return!(take_names(alloc, names, field), Stop::OutOfMemory);
+    let new = or_return!(
+        take_names(names, field.kind, name, type_name),
+        Stop::OutOfMemory
+    );
     if !new {
         return Err(wrong(Problem::FieldNameTaken, left));
     }
@@ -214,18 +238,28 @@ fn table_fields(scope: &Scope, declared: &[Field], ids: bool) -> Result<Vec<Tabl
     ensures wrong { Tells (wrong_fields (scope_heads scope.now) (scope_space scope.now) ids 0 false
         [] declared.now) result }
 {
+    let types = or_return!(type_names(scope.alloc, declared), Stop::OutOfMemory);
     let mut fields = Vec::new(scope.alloc);
-    let mut names = Vec::new(scope.alloc);
+    let mut names = BTreeMap::new(scope.alloc);
     let mut next = 0;
     let mut key = false;
+    let mut index = 0;
     'fields: for declaration in declared {
         if next > 65535 {
             return Err(wrong(Problem::TooManySlots, declaration.left));
         }
         let field = or_return!(table_field(scope, declaration, ids, next));
-        key = or_return!(add_names(scope.alloc, &mut names, key, &field, declaration.left));
+        key = or_return!(add_names(
+            &mut names,
+            key,
+            &field,
+            &declaration.name,
+            &types[index],
+            declaration.left
+        ));
         next += width(field.kind);
         fields.push(field)?;
+        index += 1;
     }
     Ok(fields)
 }

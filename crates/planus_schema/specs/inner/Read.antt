@@ -1,6 +1,6 @@
 -- What is known of a part of a schema that was read without a fault.
 use Rattle.std.specs.Prelude.{◌≡◌, ℕ, ◌+◌, ◌<◌, ◌≤◌, Bool, true, false, ◌&&◌, ◌||◌}
-use Rattle.std.specs.Prelude.{List, [], ◌∷◌, codes, length, map, nat_eq, Some}
+use Rattle.std.specs.Prelude.{List, [], ◌∷◌, ◌++◌, codes, length, map, nat_eq, Some}
 use Rattle.std.specs.List.{list_all, list_any}
 use Rattle.planus_syntax.specs.Values.{Name, field_of, item_of, member_of, record_of}
 use Rattle.planus_syntax.specs.declared.value.Field.{Field}
@@ -30,7 +30,10 @@ use Rattle.planus_schema.specs.Names.{HeadV, SpaceV}
 use Rattle.planus_schema.specs.Schemas.{AreFaults, IsBody, IsFour, SaysBody, StatementsV, said_of}
 use Rattle.planus_schema.specs.Structs.{SaysStruct, SaysStructField}
 use Rattle.planus_schema.specs.Unions.{IsUnion, SaysMember, is_tag, tag_in, tag_said, tags_said}
-use Rattle.planus_schema.specs.Tables.{SaysField, all_names, is_lawful, AreNamed, names_taken}
+use Rattle.std.specs.BTreeMap.{BTreeMap}
+use denote.Ref.{Bor}
+use Rattle.planus_schema.specs.inner.Index.{IsTaken}
+use Rattle.planus_schema.specs.Tables.{SaysField, all_names, is_lawful, names_taken}
 use Rattle.planus_schema.specs.WrongStructs.{alignment_in, end_after, end_of, field_measure}
 use Rattle.planus_schema.specs.WrongStructs.{greatest_after, measure_among, measures_of}
 use Rattle.planus_schema.specs.WrongStructs.{struct_measure}
@@ -91,9 +94,9 @@ pub record IsUnionRead (hs : List HeadV) (space : SpaceV) (ds : List Member) (u 
   pub sound : IsUnion u
 
 -- the names of a field after these, and whether there is a `key` before it and after it
-pub record AreNamesRead (old names : List Name) (f : TableField) (before after : Bool)
-    : Type 0 where
-  pub named : AreNamed old (names_taken f) names
+pub record AreNamesRead (old : List Name) (names : BTreeMap (Bor (List ℕ)) ℕ) (f : TableField)
+    (before after : Bool) : Type 0 where
+  pub taken : IsTaken names (old ++ names_taken f)
   pub new : are_among old (names_taken f) ≡ false
   pub key : after ≡ (before || f.key)
   pub first : (f.key && before) ≡ false

@@ -1,10 +1,14 @@
-use Rattle.std.proofs.Common.{◌≡◌, [], drop}
+use Rattle.std.proofs.Common.{◌≡◌, [], drop, map, take}
 use Rattle.planus_syntax.specs.Values.{names_of}
+use Rattle.planus_schema.specs.inner.Index.{IsTaken}
 use Rattle.planus_schema.specs.inner.Scopes.{scope_heads, scope_space}
 use Rattle.planus_schema.specs.WrongServices.{wrong_methods}
 use Rattle.planus_schema.proofs.checks.check_methods.Given as goal
 
 abbrev pub invariant-methods : goal.invariant-methods
-invariant-methods l = wrong_methods (scope_heads l.scope) (scope_space l.scope) (names_of l.known)
-    (names_of l.names.items) (drop l.method-index l.methods)
-    ≡ wrong_methods (scope_heads l.scope) (scope_space l.scope) (names_of l.known) [] l.methods
+invariant-methods l = record {
+  taken : IsTaken l.names (map (λ m. m.name.items) (take l.method-index l.methods));
+  wrong : wrong_methods (scope_heads l.scope) (scope_space l.scope) (names_of l.known)
+      (map (λ m. m.name.items) (take l.method-index l.methods)) (drop l.method-index l.methods)
+      ≡ wrong_methods (scope_heads l.scope) (scope_space l.scope) (names_of l.known) [] l.methods;
+}

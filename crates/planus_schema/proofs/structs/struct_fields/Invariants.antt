@@ -1,5 +1,6 @@
 use Rattle.std.proofs.Common.{◌≡◌, ◌≤◌, [], take, drop, map}
-use Rattle.planus_syntax.specs.Values.{names_of, field_of}
+use Rattle.planus_syntax.specs.Values.{field_of}
+use Rattle.planus_schema.specs.inner.Index.{IsTaken}
 use Rattle.planus_layout.specs.Distinct.{AreDistinct, Each2}
 use Rattle.planus_schema.specs.inner.Scopes.{scope_heads, scope_space}
 use Rattle.planus_schema.specs.Structs.{SaysStructField}
@@ -21,8 +22,8 @@ invariant-fields l = record {
       (drop l.declaration-index l.declared)
       ≡ greatest_after (scope_heads l.scope) (scope_space l.scope) (measures_of l.bodies) 1 l.declared;
   wrong : wrong_struct_fields (scope_heads l.scope) (scope_space l.scope) (measures_of l.bodies) l.end
-      (names_of l.names.items) (drop l.declaration-index l.declared)
+      (map (λ f. f.name.items) l.fields.items) (drop l.declaration-index l.declared)
       ≡ wrong_struct_fields (scope_heads l.scope) (scope_space l.scope) (measures_of l.bodies) 0 [] l.declared;
-  names : names_of l.names.items ≡ map (λ f. f.name.items) l.fields.items;
-  distinct : AreDistinct (names_of l.names.items);
+  taken : IsTaken l.names (map (λ f. f.name.items) l.fields.items);
+  distinct : AreDistinct (map (λ f. f.name.items) l.fields.items);
 }

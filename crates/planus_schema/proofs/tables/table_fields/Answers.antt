@@ -1,14 +1,15 @@
-use Rattle.std.proofs.Common.{◌≡◌, false, ◌+◌, ◌++◌, drop, refl, ap, sym, subst, ◌∙◌, take, map, arith}
+use Rattle.std.proofs.Common.{rules, get_or, ◌≡◌, false, ◌+◌, ◌++◌, drop, refl, ap, sym, subst, ◌∙◌, take, map, arith}
 use Rattle.std.specs.Prelude.{nat_le}
 use Rattle.std.proofs.lemmas.List.{append-nil, take_all, drop_all}
 use Rattle.planus_layout.specs.Distinct.{AreDistinct}
 use Rattle.planus_layout.specs.Slots.{slots_taken}
-use Rattle.planus_syntax.specs.Values.{names_of, field_of}
+use Rattle.planus_syntax.specs.Values.{field_of}
 use Rattle.std.proofs.lemmas.Bool.{le-leb, lt-leb}
-use Rattle.planus_schema.specs.Tables.{all_names, names_taken}
-use Rattle.planus_layout.proofs.NameLemmas.{no_names}
+use Rattle.planus_schema.specs.Tables.{all_names, names_taken, type_name}
+use Rattle.planus_schema.specs.inner.Index.{IsTaken}
+use Rattle.planus_schema.proofs.IndexLemmas.{distinct_more, no_names_yet}
 use Rattle.planus_schema.proofs.StructLemmas.{each2_push, map_next, drop_next}
-use Rattle.planus_schema.proofs.TableLemmas.{width_small, names_are, after_is, nothing_wrong, slots_next, follow_push, names_push, lawful_push, slot_stops, field_stops, names_stop}
+use Rattle.planus_schema.proofs.TableLemmas.{as_many, type_name_at, width_small, names_are, after_is, nothing_wrong, slots_next, follow_push, names_push, lawful_push, slot_stops, field_stops, names_stop}
 use Rattle.planus_schema.specs.inner.Scopes.{scope_heads, scope_space}
 use Rattle.planus_schema.specs.WrongTables.{field_type}
 use Rattle.planus_schema.proofs.tables.table_fields.Goals as goal
@@ -16,63 +17,65 @@ use Rattle.planus_schema.proofs.tables.table_fields.Goals as goal
 pub fields-init : goal.fields-init
 fields-init c =
     let e = c.new-fields.ensures.items in
-    let n = c.new-names.ensures.items in
     record {
       says = rw e tt;
       order = λ _. rw e refl;
       lawful = rw e refl;
       slots = rw e refl;
-      wrong = rw n refl;
-      names = rw (e, n) refl;
-      distinct = no_names c.new-names.result.items n;
+      wrong = rw e refl;
+      taken = search rules;
+      distinct = rw e no_names_yet;
+      index = refl;
     }
 
 pub fields-preserved : goal.fields-preserved
 fields-preserved c =
     let i = c.fields.invariant in
     let e = c.in_ok-push.ensures.items in
-    let f = c.in-Ok.value in
+    let f = c.in-Ok-table_field.value in
     let fs = c.fields.fields.items in
     let t = map_next field_of c.args.declared.now c.fields.declaration-index c.declaration-item.result c.fields-test.true c.declaration-item.is in
     let r = drop_next c.args.declared.now c.fields.declaration-index c.declaration-item.result c.fields-test.true c.declaration-item.is in
-    let a = c.in-Ok-add_names.ensures.read.named in
-    let after = after_is (scope_heads c.args.scope.now) (scope_space c.args.scope.now) c.args.ids c.fields.next c.fields.key (names_of c.fields.names.items) (drop c.fields.declaration-index c.args.declared.now) c.declaration-item.result (drop (c.fields.declaration-index + 1) c.args.declared.now) _ f
-    (record { here = r; low = le-leb c.fields.next 65535 c.if-next-gt65535.false; field = c.in-Ok.ensures.wrong; same = i.wrong })
-    c.in-Ok.ensures.read.kind c.in-Ok.ensures.read.says.key (names_are f c.declaration-item.result (field_type (scope_heads c.args.scope.now) (scope_space c.args.scope.now) c.declaration-item.result) c.in-Ok.ensures.read.kind c.in-Ok.ensures.read.says.name) in
+    let a = c.in-Ok-add_names.ensures.read (all_names fs) i.taken in
+    let pushed : all_names c.push.new.self.items ≡ all_names fs ++ names_taken f = ap all_names e ∙ names_push fs f in
+    let after = after_is (scope_heads c.args.scope.now) (scope_space c.args.scope.now) c.args.ids c.fields.next c.fields.key (all_names c.fields.fields.items) (drop c.fields.declaration-index c.args.declared.now) c.declaration-item.result (drop (c.fields.declaration-index + 1) c.args.declared.now) _ f
+    (record { here = r; low = le-leb c.fields.next 65535 c.if-next-gt65535.false; field = c.in-Ok-table_field.ensures.wrong; same = i.wrong })
+    c.in-Ok-table_field.ensures.read.kind c.in-Ok-table_field.ensures.read.says.key (names_are f c.declaration-item.result (field_type (scope_heads c.args.scope.now) (scope_space c.args.scope.now) c.declaration-item.result) c.in-Ok-table_field.ensures.read.kind c.in-Ok-table_field.ensures.read.says.name) in
     record {
-      says = rw (t, e) (each2_push _ (map field_of (take c.fields.declaration-index c.args.declared.now)) fs (field_of c.declaration-item.result) f i.says c.in-Ok.ensures.read.says);
-      order = λ no. rw (e, c.width-next.ensures) (follow_push 0 fs c.fields.next f (i.order no) (c.in-Ok.ensures.read.order no));
-      lawful = rw e (lawful_push fs f i.lawful c.in-Ok.ensures.read.lawful);
-      slots = rw (e, c.width-next.ensures) (slots_next (scope_heads c.args.scope.now) (scope_space c.args.scope.now) c.args.ids c.fields.next fs f c.declaration-item.result (drop c.fields.declaration-index c.args.declared.now) (drop (c.fields.declaration-index + 1) c.args.declared.now) _ r c.in-Ok.ensures.read.kind c.in-Ok.ensures.read.slot i.slots);
-      wrong = nothing_wrong (scope_heads c.args.scope.now) (scope_space c.args.scope.now) c.args.ids c.fields.next c.fields.key (names_of c.fields.names.items) c.declaration-item.result (drop (c.fields.declaration-index + 1) c.args.declared.now) _ f _ _ _
-          after c.in-Ok-add_names.ensures.read.new c.in-Ok-add_names.ensures.read.first a.added c.in-Ok-add_names.ensures.read.key (ap (λ n. c.fields.next + n) c.width-next.ensures);
-      names = a.added ∙ ap (λ ns. ns ++ names_taken f) i.names ∙ sym (names_push fs f) ∙ ap all_names (sym e);
-      distinct = a.distinct i.distinct;
+      says = rw (t, e) (each2_push _ (map field_of (take c.fields.declaration-index c.args.declared.now)) fs (field_of c.declaration-item.result) f i.says c.in-Ok-table_field.ensures.read.says);
+      order = λ no. rw (e, c.width-next.ensures) (follow_push 0 fs c.fields.next f (i.order no) (c.in-Ok-table_field.ensures.read.order no));
+      lawful = rw e (lawful_push fs f i.lawful c.in-Ok-table_field.ensures.read.lawful);
+      slots = rw (e, c.width-next.ensures) (slots_next (scope_heads c.args.scope.now) (scope_space c.args.scope.now) c.args.ids c.fields.next fs f c.declaration-item.result (drop c.fields.declaration-index c.args.declared.now) (drop (c.fields.declaration-index + 1) c.args.declared.now) _ r c.in-Ok-table_field.ensures.read.kind c.in-Ok-table_field.ensures.read.slot i.slots);
+      wrong = nothing_wrong (scope_heads c.args.scope.now) (scope_space c.args.scope.now) c.args.ids c.fields.next c.fields.key (all_names c.fields.fields.items) c.declaration-item.result (drop (c.fields.declaration-index + 1) c.args.declared.now) _ f _ _ _
+          after a.new a.first pushed a.key (ap (λ n. c.fields.next + n) c.width-next.ensures);
+      taken = subst (IsTaken c.add_names.new.names) (sym pushed) a.taken;
+      distinct = subst AreDistinct (sym pushed) (distinct_more (all_names fs) (names_taken f) a.new i.distinct);
+      index = ap (λ n. n + 1) i.index;
     }
 
 pub overflow_add-next : goal.overflow_add-next
 overflow_add-next c =
-    let small = width_small c.in-Ok.value.kind in
+    let small = width_small c.in-Ok-table_field.value.kind in
     omega (arith, c.width-next.ensures, small)
 
 pub returns-then-next-gt65535-clause-wrong : goal.returns-then-next-gt65535-clause-wrong
 returns-then-next-gt65535-clause-wrong c =
     let r = drop_next c.args.declared.now c.fields.declaration-index c.declaration-item.result c.fields-test.true c.declaration-item.is in
     let high : nat_le c.fields.next 65535 ≡ false = lt-leb c.fields.next 65535 c.if-next-gt65535.true in
-    rw c.wrong.ensures (slot_stops (scope_heads c.args.scope.now) (scope_space c.args.scope.now) c.args.ids c.fields.next c.fields.key (names_of c.fields.names.items) _ c.declaration-item.result _ _ r high c.fields.invariant.wrong)
+    rw c.wrong.ensures (slot_stops (scope_heads c.args.scope.now) (scope_space c.args.scope.now) c.args.ids c.fields.next c.fields.key (all_names c.fields.fields.items) _ c.declaration-item.result _ _ r high c.fields.invariant.wrong)
 
-pub returns-in-Err-clause-wrong : goal.returns-in-Err-clause-wrong
-returns-in-Err-clause-wrong c =
+pub returns-in-Err-table_field-clause-wrong : goal.returns-in-Err-table_field-clause-wrong
+returns-in-Err-table_field-clause-wrong c =
     let r = drop_next c.args.declared.now c.fields.declaration-index c.declaration-item.result c.fields-test.true c.declaration-item.is in
-    field_stops (scope_heads c.args.scope.now) (scope_space c.args.scope.now) c.args.ids c.fields.next c.fields.key (names_of c.fields.names.items) _ c.declaration-item.result _ _ _ r (le-leb c.fields.next 65535 c.if-next-gt65535.false) c.fields.invariant.wrong c.in-Err.ensures.wrong
+    field_stops (scope_heads c.args.scope.now) (scope_space c.args.scope.now) c.args.ids c.fields.next c.fields.key (all_names c.fields.fields.items) _ c.declaration-item.result _ _ _ r (le-leb c.fields.next 65535 c.if-next-gt65535.false) c.fields.invariant.wrong c.in-Err-table_field.ensures.wrong
 
 pub returns-in-Err-add_names-clause-wrong : goal.returns-in-Err-add_names-clause-wrong
 returns-in-Err-add_names-clause-wrong c =
     let r = drop_next c.args.declared.now c.fields.declaration-index c.declaration-item.result c.fields-test.true c.declaration-item.is in
-    let after = after_is (scope_heads c.args.scope.now) (scope_space c.args.scope.now) c.args.ids c.fields.next c.fields.key (names_of c.fields.names.items) (drop c.fields.declaration-index c.args.declared.now) c.declaration-item.result (drop (c.fields.declaration-index + 1) c.args.declared.now) _ c.in-Ok.value
-    (record { here = r; low = le-leb c.fields.next 65535 c.if-next-gt65535.false; field = c.in-Ok.ensures.wrong; same = c.fields.invariant.wrong })
-    c.in-Ok.ensures.read.kind c.in-Ok.ensures.read.says.key (names_are c.in-Ok.value c.declaration-item.result (field_type (scope_heads c.args.scope.now) (scope_space c.args.scope.now) c.declaration-item.result) c.in-Ok.ensures.read.kind c.in-Ok.ensures.read.says.name) in
-    names_stop (scope_heads c.args.scope.now) (scope_space c.args.scope.now) c.args.ids c.fields.next c.fields.key (names_of c.fields.names.items) c.in-Ok.value c.declaration-item.result _ _ _ after c.in-Err-add_names.ensures.wrong
+    let after = after_is (scope_heads c.args.scope.now) (scope_space c.args.scope.now) c.args.ids c.fields.next c.fields.key (all_names c.fields.fields.items) (drop c.fields.declaration-index c.args.declared.now) c.declaration-item.result (drop (c.fields.declaration-index + 1) c.args.declared.now) _ c.in-Ok-table_field.value
+    (record { here = r; low = le-leb c.fields.next 65535 c.if-next-gt65535.false; field = c.in-Ok-table_field.ensures.wrong; same = c.fields.invariant.wrong })
+    c.in-Ok-table_field.ensures.read.kind c.in-Ok-table_field.ensures.read.says.key (names_are c.in-Ok-table_field.value c.declaration-item.result (field_type (scope_heads c.args.scope.now) (scope_space c.args.scope.now) c.declaration-item.result) c.in-Ok-table_field.ensures.read.kind c.in-Ok-table_field.ensures.read.says.name) in
+    names_stop (scope_heads c.args.scope.now) (scope_space c.args.scope.now) c.args.ids c.fields.next c.fields.key (all_names c.fields.fields.items) c.in-Ok-table_field.value c.declaration-item.result _ _ _ after (c.in-Err-add_names.ensures.wrong (all_names c.fields.fields.items) c.fields.invariant.taken)
 
 pub returns-clause-read : goal.returns-clause-read
 returns-clause-read c = record {
@@ -80,7 +83,7 @@ returns-clause-read c = record {
       rw t at c.fields.invariant.says;
   order = λ no. (c.fields.next, c.fields.invariant.order no);
   lawful = c.fields.invariant.lawful;
-  names = subst AreDistinct c.fields.invariant.names c.fields.invariant.distinct;
+  names = c.fields.invariant.distinct;
   slots = let d = drop_all c.fields.declaration-index c.args.declared.now c.fields-test.false in
       sym (append-nil (slots_taken c.fields.fields.items)) ∙ rw d at c.fields.invariant.slots;
 }
@@ -89,3 +92,15 @@ pub returns-clause-wrong : goal.returns-clause-wrong
 returns-clause-wrong c =
     let d = drop_all c.fields.declaration-index c.args.declared.now c.fields-test.false in
     sym (rw d at c.fields.invariant.wrong)
+
+pub index-requires : goal.index-requires
+index-requires c =
+    let same = as_many c.in-Ok.value.items c.args.declared.now c.in-Ok.ensures in
+    omega (arith, same, c.fields.invariant.index, c.fields-test.true, c.in-Ok.value.ok.0)
+
+pub add_names-requires-clause-typed : goal.add_names-requires-clause-typed
+add_names-requires-clause-typed c =
+    c.deref-in-fields.ensures.value
+    ∙ type_name_at c.in-Ok.value.items c.args.declared.now c.fields.declaration-index c.index.result.now c.declaration-item.result c.in-Ok.ensures c.fields-test.true
+    (c.index.ensures ∙ ap (λ k. get_or c.in-Ok.value.items k c.index.result.now) c.fields.invariant.index) c.declaration-item.is
+    ∙ ap type_name (sym c.deref.ensures.value)

@@ -1,6 +1,7 @@
 use Rattle.std.proofs.Common.{◌≡◌, ◌++◌, [], true, false, take, drop, map}
 use Rattle.std.specs.List.{list_all}
-use Rattle.planus_syntax.specs.Values.{names_of, field_of}
+use Rattle.planus_syntax.specs.Values.{field_of}
+use Rattle.planus_schema.specs.inner.Index.{IsTaken}
 use Rattle.planus_layout.specs.Distinct.{AreDistinct, Each2}
 use Rattle.planus_schema.specs.inner.Scopes.{scope_heads, scope_space}
 use Rattle.planus_schema.specs.Tables.{SaysField, is_lawful, all_names}
@@ -19,8 +20,9 @@ invariant-fields l = record {
       l.next (drop l.declaration-index l.declared)
       ≡ slots_from (scope_heads l.scope) (scope_space l.scope) l.ids 0 l.declared;
   wrong : wrong_fields (scope_heads l.scope) (scope_space l.scope) l.ids l.next l.key
-      (names_of l.names.items) (drop l.declaration-index l.declared)
+      (all_names l.fields.items) (drop l.declaration-index l.declared)
       ≡ wrong_fields (scope_heads l.scope) (scope_space l.scope) l.ids 0 false [] l.declared;
-  names : names_of l.names.items ≡ all_names l.fields.items;
-  distinct : AreDistinct (names_of l.names.items);
+  taken : IsTaken l.names (all_names l.fields.items);
+  distinct : AreDistinct (all_names l.fields.items);
+  index : l.index ≡ l.declaration-index;
 }
