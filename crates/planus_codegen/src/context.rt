@@ -1,9 +1,14 @@
 //! What is known of a schema while its code is printed.
 
+ghost use Rattle.std.specs.Prelude.{◌≡◌, length, IfOk};
+ghost use Rattle.planus_codegen.specs.Printed.{AreFit, IsNamingOf};
+
 use crate::at::At;
 use crate::names::Names;
 use crate::refusal::Refusal;
 use planus_layout::{Base, Body, Declared, Scalar, Schema, TableField};
+use planus_tie::Naming;
+pub(crate) use planus_tie::scalar_name;
 use std::alloc::{AllocError, Global};
 
 /// A schema, with names and facts of its types.
@@ -90,7 +95,10 @@ impl<'a> Context<'a> {
         alloc: Global,
         schema: &'a Schema,
         crate_name: &'a str,
-    ) -> Result<Context<'a>, Refusal> {
+    ) -> Result<Context<'a>, Refusal>
+        ensures declared { IfOk result (λ c. c.declared.now ≡ schema.now.declarations.items) }
+        ensures names { IfOk result (λ c. AreFit (length schema.now.declarations.items) c.names) }
+    {
         let declared = schema.declarations.as_slice();
         Ok(Context {
             alloc,
@@ -104,6 +112,17 @@ impl<'a> Context<'a> {
             names: Names::of(alloc, declared)?,
             totals: totals_of(alloc, declared)?,
         })
+    }
+
+    pub(crate) fn naming(&self) -> Naming<'_>
+        ensures { IsNamingOf self.now.declared.now self.now.names result }
+    {
+        Naming {
+            declared: self.declared,
+            types: &self.names.types,
+            modules: &self.names.modules,
+            members: &self.names.members,
+        }
     }
 
     pub(crate) fn body(&self, index: usize) -> Option<&'a Body> {
@@ -167,22 +186,6 @@ impl<'a> Context<'a> {
     /// Whether the read of a value can't fail once its bytes are there.
     pub(crate) fn is_total(&self, base: Base) -> bool {
         is_total_base(&self.totals, base)
-    }
-}
-
-pub(crate) fn scalar_name(scalar: Scalar) -> &'static str {
-    match scalar {
-        Scalar::Bool => "bool",
-        Scalar::Byte => "i8",
-        Scalar::UByte => "u8",
-        Scalar::Short => "i16",
-        Scalar::UShort => "u16",
-        Scalar::Int => "i32",
-        Scalar::UInt => "u32",
-        Scalar::Long => "i64",
-        Scalar::ULong => "u64",
-        Scalar::Float => "f32",
-        Scalar::Double => "f64",
     }
 }
 

@@ -1,5 +1,8 @@
 //! The files of a printed crate.
 
+ghost use Rattle.std.specs.Prelude.{IfOk};
+ghost use Rattle.planus_codegen.specs.Printed.{IsPrinted};
+
 use crate::arranged::arranged;
 use crate::at::At;
 use crate::context::Context;
@@ -18,6 +21,7 @@ use crate::tables::print_table;
 use crate::unions::{print_union, print_variants};
 use planus_layout::{Body, Declared, Enum, Schema, Struct, Table, Union};
 use planus_plan::Plan;
+use planus_tie::{PrintedFile, are_tied};
 use std::alloc::{AllocError, Global};
 
 const ROOT: &str = "
@@ -34,13 +38,6 @@ const CREATE: &str = "pub use planus::Create;\n";
 const ROOT_ALONE: &str = "
 pub use root::{read_as_root, read_size_prefixed_as_root};
 ";
-
-/// A file: its path in the crate's folder, and its text.
-#[derive(Drop)]
-pub struct PrintedFile {
-    pub path: String,
-    pub text: String,
-}
 
 #[derive(Drop)]
 struct Files<'a> {
@@ -289,13 +286,17 @@ fn files_of(context: &Context<'_>) -> Result<Vec<PrintedFile>, AllocError> {
 
 /// Returns the files of a crate of this name with the code of a schema.
 ///
-/// [`Refusal::Unsupported`] where something in it has no form in code.
-pub fn print_crate(
-    alloc: Global,
-    schema: &Schema,
-    name: &str,
-) -> Result<Vec<PrintedFile>, Refusal> {
+/// They are read again before: each table has its accessors and its lines.
+/// [`Refusal::Unsupported`] where something in it has no form in code, [`Refusal::Untied`] where
+/// the printed code isn't the schema's.
+pub fn print_crate(alloc: Global, schema: &Schema, name: &str) -> Result<Vec<PrintedFile>, Refusal>
+    ensures { IfOk result (λ files. IsPrinted schema.now.declarations.items files.items) }
+{
     refuse_unsupported(alloc, &schema.declarations)?;
     let context = Context::new(alloc, schema, name)?;
-    Ok(files_of(&context)?)
+    let files = files_of(&context)?;
+    if !are_tied(alloc, &context.naming(), &files)? {
+        return Err(Refusal::Untied);
+    }
+    Ok(files)
 }

@@ -6,13 +6,7 @@ use crate::types::has_default;
 use planus_layout::{Base, Body, Enum, Number, Scalar, TableField, Value};
 
 pub(crate) fn default_number(field: &TableField) -> Number {
-    match &field.default {
-        Some(Value::Integer(number)) => *number,
-        _ => Number {
-            negative: false,
-            magnitude: 0,
-        },
-    }
+    planus_tie::default_number(&field.default)
 }
 
 /// Whether a field's default is the zero of its type.

@@ -20,7 +20,6 @@ mod order;
 mod printer;
 mod refusal;
 mod root;
-mod shares;
 mod structs;
 mod supported;
 mod table_views;
@@ -30,6 +29,7 @@ mod unions;
 mod uses;
 mod words;
 
-pub use crate_file::{PrintedFile, print_crate};
+pub use crate_file::print_crate;
 pub use names::Names;
+pub use planus_tie::PrintedFile;
 pub use refusal::Refusal;

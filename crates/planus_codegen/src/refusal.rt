@@ -8,6 +8,8 @@ pub enum Refusal {
     OutOfMemory,
     /// What isn't supported, and the full name of the declaration with it.
     Unsupported { what: &'static str, name: Vec<u8> },
+    /// The printed code isn't the schema's.
+    Untied,
 }
 
 impl From<AllocError> for Refusal {

@@ -1,9 +1,9 @@
 //! What the printed code of a schema can't have.
 
-use crate::groups::{are_taken, entries_of};
 use crate::refusal::Refusal;
 use planus_layout::{Body, Declared, Enum, Table, TableField, Union, Value};
 use planus_plan::Plan;
+use planus_tie::{are_taken, entries_of};
 use std::alloc::{AllocError, Global};
 
 const TOO_MANY_FIELDS: &str = "a table with more fields than the checker takes";

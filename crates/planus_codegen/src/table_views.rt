@@ -5,6 +5,7 @@ use crate::printer::Printer;
 use crate::types::{has_default, is_bytes, is_union};
 use planus_layout::{Base, TableField};
 use planus_plan::{Line, Plan};
+use planus_tie::{ending, kind_word};
 
 const VIEW: &str = "\
 /// One in a buffer.
@@ -58,35 +59,12 @@ fn value_clause(field: &TableField) -> &'static str {
     }
 }
 
-/// The function of the library that reads a vector.
-fn vector_function(field: &TableField) -> &'static str {
-    let bytes = is_bytes(field.kind);
-    match (field.kind.base, field.required) {
-        (Base::Text, false) => "        text_vector",
-        (Base::Text, true) => "        text_vector_required",
-        (Base::Table(_), false) => "        table_vector",
-        (Base::Table(_), true) => "        table_vector_required",
-        (Base::Union(_), false) => "        union_vector",
-        (Base::Union(_), true) => "        union_vector_required",
-        (_, false) if bytes => "        bytes_field",
-        (_, true) if bytes => "        bytes_required",
-        (_, false) => "        plain_vector",
-        (_, true) => "        plain_vector_required",
-    }
-}
-
-/// The function of the library that reads a value.
-fn value_function(field: &TableField) -> &'static str {
-    match (field.kind.base, field.required) {
-        (Base::Text, false) => "        text_field",
-        (Base::Text, true) => "        text_required",
-        (Base::Table(_), false) => "        table_field",
-        (Base::Table(_), true) => "        table_required",
-        (Base::Union(_), false) => "        union_field::<$t, $tRef<'a>>",
-        (Base::Union(_), true) => "        union_required::<$tRef<'a>>",
-        _ if has_default(field) => "        plain_field_or",
-        (_, false) => "        plain_field",
-        (_, true) => "        plain_required",
+/// The types that the function of a union is given.
+fn type_arguments(field: &TableField) -> &'static str {
+    match (field.kind.base, field.kind.vector, field.required) {
+        (Base::Union(_), false, false) => "::<$t, $tRef<'a>>",
+        (Base::Union(_), false, true) => "::<$tRef<'a>>",
+        _ => "",
     }
 }
 
@@ -119,13 +97,14 @@ impl<'a> Printer<'a> {
         );
         if field.kind.vector {
             self.put(vector_clause(field), at);
-            self.put(clause_end(field), at);
-            self.put(vector_function(field), at);
         } else {
             self.put(value_clause(field), at);
-            self.put(clause_end(field), at);
-            self.put(value_function(field), at);
         }
+        self.put(clause_end(field), at);
+        self.put_str("        ");
+        self.put_str(kind_word(field.kind));
+        self.put_str(ending(field));
+        self.put(type_arguments(field), at);
         self.put(arguments(field), at);
     }
 

@@ -1,20 +1,7 @@
 //! The types of a field: as it is given, encoded and read.
 
-use planus_layout::{Base, FieldType, Scalar, TableField, Value};
-
-pub(crate) fn is_bytes(kind: FieldType) -> bool {
-    kind.vector && kind.base == Base::Scalar(Scalar::UByte)
-}
-
-pub(crate) fn is_union(kind: FieldType) -> bool {
-    matches!(kind.base, Base::Union(_))
-}
-
-/// Whether a field is left out where it equals its default.
-pub(crate) fn has_default(field: &TableField) -> bool {
-    let number = matches!(field.kind.base, Base::Scalar(_) | Base::Enum(_)) && !field.kind.vector;
-    number && !matches!(field.default, Some(Value::Absent))
-}
+use planus_layout::{Base, FieldType, TableField};
+pub(crate) use planus_tie::{has_default, is_bytes, is_union};
 
 /// Whether a field may be absent: it has neither a default nor `required`, and is no union vector,
 /// which is left out where empty.

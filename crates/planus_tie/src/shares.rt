@@ -1,6 +1,6 @@
 //! How much the checker takes of a list of fields.
 
-use crate::types::has_default;
+use crate::kinds::has_default;
 use planus_layout::{Base, TableField};
 use planus_plan::Line;
 

@@ -1,0 +1,31 @@
+-- Printed code that is its schema's.
+use Rattle.std.specs.Prelude.{◌≡◌, ℕ, Bool, true, List, [], ◌∷◌, length}
+use Rattle.planus_layout.specs.declared.schema.Declared.{Declared}
+use Rattle.planus_plan.specs.Names.{are_names, are_scopes}
+use Rattle.planus_tie.specs.Files.{AreTied}
+use Rattle.planus_tie.specs.declared.files.PrintedFile.{PrintedFile}
+use Rattle.planus_tie.specs.declared.naming.Naming.{Naming}
+use Rattle.planus_codegen.specs.declared.names.Names.{Names}
+
+-- a name for each of so many declarations, no two alike, and for each of their members
+pub record AreFit (count : ℕ) (n : Names) : Type 0 where
+  pub types : length n.types.items ≡ count
+  pub modules : length n.modules.items ≡ count
+  pub members : length n.members.items ≡ count
+  pub types_are_names : are_names n.types.items ≡ true
+  pub modules_are_names : are_names n.modules.items ≡ true
+  pub members_are_names : are_scopes n.members.items ≡ true
+
+pub record IsNamingOf (ds : List Declared) (names : Names) (n : Naming) : Type 0 where
+  pub declared : n.declared.now ≡ ds
+  pub types : n.types.now ≡ names.types.items
+  pub modules : n.modules.now ≡ names.modules.items
+  pub members : n.members.now ≡ names.members.items
+
+-- With names that are fit, the files have the code of each table.
+pub record IsPrinted (ds : List Declared) (files : List PrintedFile) : Type 0 where
+  pub names : Names
+  pub naming : Naming
+  pub fit : AreFit (length ds) names
+  pub named : IsNamingOf ds names naming
+  pub tied : AreTied naming files 0 ds

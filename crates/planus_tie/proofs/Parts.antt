@@ -1,0 +1,16 @@
+-- Entries that are added in turn.
+use Rattle.std.proofs.Common.{◌≡◌, ◌∙◌, ap, sym, ℕ, ◌+◌, ◌<◌, List, ◌∷◌, ◌++◌, length, take, drop, get_or, append_assoc, drop-cons, add-one}
+use Rattle.planus_plan.specs.declared.plan.Line.{Line}
+use Rattle.planus_tie.specs.Wanted.{part_text, parts_text}
+use Rattle.planus_tie.specs.declared.groups.Entry.{Entry}
+use Rattle.planus_tie.specs.declared.naming.Naming.{Naming}
+
+after_entry : (n : Naming) (es : List Entry) (e : Entry) (rest left mid : List Line) (old out : List ℕ) → out ≡ old ++ part_text n e.group mid → mid ≡ take e.count rest → left ≡ drop e.count rest → out ++ parts_text n es left ≡ old ++ parts_text n (e ∷ es) rest
+after_entry n es e rest left mid old out h m r =
+    rw (h, m, r) (append_assoc old (part_text n e.group (take e.count rest)) (parts_text n es (drop e.count rest)))
+
+pub entry_added : (n : Naming) (es : List Entry) (i : ℕ) (d : Entry) (rest left mid : List Line) (old out all : List ℕ) → i < length es → out ≡ old ++ part_text n (get_or es i d).group mid → mid ≡ take (get_or es i d).count rest → left ≡ drop (get_or es i d).count rest → old ++ parts_text n (drop i es) rest ≡ all → out ++ parts_text n (drop (i + 1) es) left ≡ all
+entry_added n es i d rest left mid old out all l h m r a =
+    let next : drop i es ≡ get_or es i d ∷ drop (i + 1) es = rw add-one (drop-cons es i d l) in
+    after_entry n (drop (i + 1) es) (get_or es i d) rest left mid old out h m r
+    ∙ ap (λ xs. old ++ parts_text n xs rest) (sym next) ∙ a

@@ -1,0 +1,10 @@
+use Rattle.std.proofs.Common.{◌≡◌, map, drop}
+use Rattle.std.specs.Prelude.{Some}
+use Rattle.planus_plan.specs.Plans.{line_of}
+use Rattle.planus_tie.specs.Ties.{have_accessors}
+use Rattle.planus_tie.proofs.tie.have_accessors.Given as goal
+
+abbrev pub invariant-loop-line : goal.invariant-loop-line
+invariant-loop-line l =
+    have_accessors l.naming (Some l.rest) (map line_of (drop l.line-index l.lines))
+    ≡ have_accessors l.naming (Some l.text) (map line_of l.lines)

@@ -1,0 +1,157 @@
+//! Whether the text of a table is its schema's.
+
+ghost use Rattle.std.specs.Prelude.{◌≡◌, IfOk, IsTrue, Some, map, ◌||◌, ◌==◌};
+ghost use Rattle.std.specs.Option.{option_copied};
+ghost use Rattle.planus_plan.specs.Plans.{line_of};
+ghost use Rattle.planus_tie.specs.Ties.{has_lines as has_lines_lem, if_begins as if_begins_lem};
+ghost use Rattle.planus_tie.specs.Ties.{accessor_in as accessor_in_lem};
+ghost use Rattle.planus_tie.specs.Ties.{have_accessors as have_accessors_lem, IsTableTied};
+ghost use Rattle.planus_tie.specs.Ties.{is_plan_tied as is_plan_tied_lem, have_groups as have_groups_lem};
+ghost use Rattle.planus_tie.specs.Reading.{after as after_lem, begins as begins_lem};
+ghost use Rattle.planus_tie.specs.Wanted.{group_mark as group_mark_lem, group_text};
+
+use crate::bare::bare;
+use crate::calls::call_of;
+use crate::entries::{back, front, group_mark, group_of, list_of};
+use crate::groups::{Entry, entries_of};
+use crate::naming::Naming;
+use crate::reading::{after, begins, body_of, list_in, method_mark};
+use crate::spelling::are_spelled;
+use planus_layout::Table;
+use planus_plan::{Line, Plan};
+use std::alloc::{AllocError, Global};
+
+fn if_begins<'a>(text: Option<&'a [u8]>, wanted: &[u8]) -> Option<&'a [u8]>
+    ensures { option_copied result ≡ if_begins_lem (option_copied text.entry) wanted.now }
+{
+    if begins(text, wanted) { text } else { None }
+}
+
+fn accessor_in<'a>(
+    alloc: Global,
+    naming: &Naming<'_>,
+    line: &Line<'_>,
+    text: &'a [u8],
+) -> Result<Option<&'a [u8]>, AllocError>
+    ensures { IfOk result (λ rest. option_copied rest
+        ≡ accessor_in_lem naming.now (line_of line.now) text.now) }
+{
+    let mark = method_mark(alloc, naming.member_of(line.table, line.place))?;
+    let wanted = call_of(alloc, naming, line)?;
+    Ok(if_begins(body_of(&mark, text), &wanted))
+}
+
+/// Returns whether a text without layout has the accessor of each of these fields.
+fn have_accessors(
+    alloc: Global,
+    naming: &Naming<'_>,
+    lines: &[Line<'_>],
+    text: &[u8],
+) -> Result<bool, AllocError>
+    ensures { IfOk result (λ b. b
+        ≡ have_accessors_lem naming.now (Some text.now) (map line_of lines.now)) }
+{
+    let mut rest = text;
+    for line in lines {
+        match accessor_in(alloc, naming, line, rest)? {
+            Some(found) => rest = found,
+            None => return Ok(false),
+        }
+    }
+    Ok(true)
+}
+
+fn has_group(
+    alloc: Global,
+    naming: &Naming<'_>,
+    table: usize,
+    group: usize,
+    lines: &[Line<'_>],
+    text: &[u8],
+) -> Result<bool, AllocError>
+    ensures { IfOk result (λ b. b ≡ (group == 0 || begins_lem (after_lem (group_mark_lem group)
+        text.now) (group_text naming.now table group lines.now))) }
+{
+    if group == 0 {
+        return Ok(true);
+    }
+    let mark = group_mark(alloc, group)?;
+    let wanted = group_of(alloc, naming, table, group, lines)?;
+    Ok(begins(after(&mark, text), &wanted))
+}
+
+fn have_groups(
+    alloc: Global,
+    naming: &Naming<'_>,
+    table: usize,
+    entries: &[Entry],
+    order: &[Line<'_>],
+    text: &[u8],
+) -> Result<bool, AllocError>
+    ensures { IfOk result (λ b. b
+        ≡ have_groups_lem naming.now text.now table entries.now order.now) }
+{
+    let mut rest = order;
+    for entry in entries {
+        let lines = front(rest, entry.count);
+        if !has_group(alloc, naming, table, entry.group, lines, text)? {
+            return Ok(false);
+        }
+        rest = back(rest, entry.count);
+    }
+    Ok(true)
+}
+
+/// Returns whether it creates a table of these lines.
+fn has_lines(
+    alloc: Global,
+    naming: &Naming<'_>,
+    table: usize,
+    entries: &[Entry],
+    order: &[Line<'_>],
+    text: &[u8],
+) -> Result<bool, AllocError>
+    ensures { IfOk result (λ b. b
+        ≡ has_lines_lem naming.now text.now table entries.now order.now) }
+{
+    if !have_groups(alloc, naming, table, entries, order, text)? {
+        return Ok(false);
+    }
+    let wanted = list_of(alloc, naming, table, entries, order)?;
+    Ok(begins(list_in(text), &wanted))
+}
+
+fn is_plan_tied(
+    alloc: Global,
+    naming: &Naming<'_>,
+    entries: &[Entry],
+    plan: &Plan<'_>,
+    text: &[u8],
+) -> Result<bool, AllocError>
+    ensures { IfOk result (λ b. b
+        ≡ is_plan_tied_lem naming.now entries.now plan.now text.now) }
+{
+    if !are_spelled(alloc, naming, &plan.lines)? {
+        return Ok(false);
+    }
+    if !have_accessors(alloc, naming, &plan.lines, text)? {
+        return Ok(false);
+    }
+    has_lines(alloc, naming, plan.table, entries, &plan.order, text)
+}
+
+/// Returns whether this is the text of a table.
+pub(crate) fn is_table_tied(
+    alloc: Global,
+    naming: &Naming<'_>,
+    index: usize,
+    table: &Table,
+    text: &[u8],
+) -> Result<bool, AllocError>
+    ensures { IfOk result (λ b. IsTrue b → IsTableTied naming.now index table.now text.now) }
+{
+    let plan = Plan::of(alloc, naming.declared, index, table)?;
+    let entries = entries_of(alloc, &plan.order)?;
+    let without = bare(alloc, text)?;
+    is_plan_tied(alloc, naming, &entries, &plan, &without)
+}
