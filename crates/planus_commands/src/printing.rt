@@ -201,7 +201,13 @@ fn print_to<X: Write>(
             Ok(status)
         }
         Err(Refusal::OutOfMemory) => Err(RunError::OutOfMemory),
-        Err(Refusal::Untied) => fail(errors, "", folder.path, ": its code isn't the schema's"),
+        Err(Refusal::Untied) => fail(
+            rt.alloc(),
+            errors,
+            "",
+            folder.path,
+            ": its code isn't the schema's",
+        ),
         Err(Refusal::Unsupported { what, name }) => {
             say_unsupported(rt.alloc(), what, &name, errors)
         }

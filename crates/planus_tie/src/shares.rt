@@ -10,16 +10,22 @@ pub(crate) const MOST: usize = 1000;
 /// The share of a group of fields: twelve are taken with four numbers beside them.
 pub(crate) const GROUP: usize = 74;
 
-/// The share of a field: 38 numbers with a default are taken, 47 without, 27 strings, tables or
-/// unions, 22 vectors of numbers, 20 of strings, or 16 of tables or unions.
+/// The share of a field: 38 numbers with a default are taken, 47 without, 27 enums with a default,
+/// 35 enums or structs without, 27 strings, 25 tables, 24 unions, 22 vectors of numbers, 20 of
+/// strings, or 16 of tables or unions, each of a type of its own.
 pub(crate) fn share_of(field: &TableField) -> usize {
+    let default = has_default(field);
     match (field.kind.base, field.kind.vector) {
-        _ if has_default(field) => 26,
+        (Base::Enum(_), false) if default => 36,
+        _ if default => 26,
         (Base::Table(_) | Base::Union(_), true) => 62,
         (Base::Text, true) => 50,
         (_, true) => 45,
-        (Base::Text | Base::Table(_) | Base::Union(_), false) => 37,
-        (_, false) => 21,
+        (Base::Union(_), false) => 41,
+        (Base::Table(_), false) => 40,
+        (Base::Text, false) => 37,
+        (Base::Enum(_) | Base::Struct(_), false) => 28,
+        (Base::Scalar(_), false) => 21,
     }
 }
 
