@@ -1,6 +1,6 @@
 //! Flags `Needs`.
 
-ghost use Rattle.std.specs.Prelude.{◌≡◌, ◌==◌, bit_and, bit_or};
+ghost use Rattle.std.specs.Prelude.{◌≡◌, ◌==◌, ◌∷◌, [], bit_and, bit_or};
 ghost use Rattle.harbour.specs.Needs.{needs_shape};
 
 use planus::errors::ErrorKind;
@@ -38,6 +38,13 @@ impl Needs {
         Needs {
             bits: self.bits | others.bits,
         }
+    }
+
+    /// Returns each of them.
+    pub fn each() -> [Needs; 2]
+        ensures { result ≡ record { bits = 1 } ∷ record { bits = 2 } ∷ [] }
+    {
+        [Needs::WATER, Needs::POWER]
     }
 }
 

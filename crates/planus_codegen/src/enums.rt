@@ -113,6 +113,19 @@ const METHODS: &str = "
     }
 ";
 
+/// The place of the declaration is how many there are.
+const EACH: &str = "
+    /// Returns each of them.
+    pub fn each() -> [$T; $p]
+        ensures {~result ≡~";
+
+const EACH_CODE: [Piece; 4] = [
+    Each("record { bits = $i } ∷~", ""),
+    Once("[] }\n    {\n        [^"),
+    Each("$T::$n", ",^"),
+    Once("^]\n    }\n"),
+];
+
 const FLAGS_SHAPE: &str = "\
 abbrev pub $M_shape : Shape $T $S $S
 $M_shape = struct_shape (field (λ x. x.bits) $b_shape no_more)
@@ -223,13 +236,16 @@ pub(crate) fn print_numbers<'a>(context: &'a Context<'a>, at: At, one: &Enum) ->
     printer
 }
 
-const FLAGS_CODE: [Piece; 9] = [
+const FLAGS_CODE: [Piece; 3] = [
     Once(FLAGS),
     Documented(
         "    /// `$s`.\n",
         "    pub const $n: $T = $T {^bits: $i^};\n",
     ),
     Once(METHODS),
+];
+
+const FLAGS_END: [Piece; 6] = [
     Once(LAYOUT),
     Once("        put_fields!(self, bytes; bits: $S);\n"),
     Once(READ),
@@ -246,6 +262,9 @@ pub(crate) fn print_flags<'a>(
     let mut printer = Printer::new(context);
     printer.put_docs("", &declared.docs, "/// A set of flags.\n", at);
     printer.put_pieces(&FLAGS_CODE, at);
+    printer.put(EACH, at.member(context.names.count(at.index)));
+    printer.put_pieces(&EACH_CODE, at);
+    printer.put_pieces(&FLAGS_END, at);
     printer
 }
 
