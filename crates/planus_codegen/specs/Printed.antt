@@ -1,5 +1,5 @@
 -- Printed code that is its schema's.
-use Rattle.std.specs.Prelude.{◌≡◌, ℕ, Bool, true, List, [], ◌∷◌, length}
+use Rattle.std.specs.Prelude.{◌≡◌, ℕ, true, List, length}
 use Rattle.planus_layout.specs.declared.schema.Declared.{Declared}
 use Rattle.planus_plan.specs.Names.{are_names, are_scopes}
 use Rattle.planus_tie.specs.Files.{AreTied}

@@ -1,6 +1,7 @@
 //! What is known of a schema while its code is printed.
 
-ghost use Rattle.std.specs.Prelude.{◌≡◌, length, IfOk};
+ghost use Rattle.std.specs.Prelude.{◌≡◌, length, IfOk, MatchOption, slice_get, None, Some};
+ghost use Rattle.planus_plan.specs.Spelling.{said_in};
 ghost use Rattle.planus_codegen.specs.Printed.{AreFit, IsNamingOf};
 
 use crate::at::At;
@@ -59,7 +60,9 @@ fn totals_of(alloc: Global, declared: &[Declared]) -> Result<Vec<bool>, AllocErr
 }
 
 /// How many members a declaration has.
-pub(crate) fn count_in(body: &Body) -> usize {
+pub(crate) fn count_in(body: &Body) -> usize
+    ensures { result ≡ length (said_in body.now) }
+{
     match body {
         Body::Table(one) => one.fields.len(),
         Body::Struct(one) => one.fields.len(),
@@ -69,7 +72,10 @@ pub(crate) fn count_in(body: &Body) -> usize {
 }
 
 /// The name of a member in the schema, and its documentation.
-pub(crate) fn member_in(body: &Body, place: usize) -> Option<(&Vec<u8>, &Vec<Vec<u8>>)> {
+pub(crate) fn member_in(body: &Body, place: usize) -> Option<(&Vec<u8>, &Vec<Vec<u8>>)>
+    ensures { MatchOption result (slice_get (said_in body.now) place ≡ None)
+        (λ m. slice_get (said_in body.now) place ≡ Some m.0.now.items) }
+{
     match body {
         Body::Table(one) => {
             let field = one.fields.get(place)?;

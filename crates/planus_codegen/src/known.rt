@@ -2,10 +2,6 @@
 
 use crate::imports::{PROOF_WORDS, WORDS};
 use crate::uses::{ERRORS, NAMES};
-use planus_plan::is_reserved as is_reserved_word;
-
-/// Reserved in clauses or in printed code; a namespace can have them.
-const RESERVED_IN_CLAUSES: &str = "builder clone data deriving fields module record result table";
 
 /// Reserved as field names in definitions, unless escaped.
 const ESCAPED: &str = "axiom infix infixl infixr mutual open unfold";
@@ -36,11 +32,6 @@ fn is_imported(name: &[u8]) -> bool {
         }
     }
     has_word(NAMES, name) || has_word(ERRORS, name) || has_word(PROOF_WORDS, name)
-}
-
-/// Whether no field, type or declaration's module can have this name.
-pub(crate) fn is_reserved(name: &[u8]) -> bool {
-    is_reserved_word(name) || has_word(RESERVED_IN_CLAUSES, name)
 }
 
 /// Whether a record's field has this name only if it is escaped.

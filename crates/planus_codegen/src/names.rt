@@ -1,17 +1,21 @@
 //! The names that code has for what a schema declares.
 
-ghost use Rattle.std.specs.Prelude.{◌≡◌, length, true, IfOk};
+ghost use Rattle.std.specs.Prelude.{◌≡◌, length, map, true, IfOk};
+ghost use Rattle.planus_plan.specs.Spelling.{all_member_names, member_names, names_in, said_in};
+ghost use Rattle.planus_plan.specs.Spelling.{member_spelled as member_spelled_lem};
+ghost use Rattle.planus_plan.specs.Spelling.{member_word as member_word_lem};
 ghost use Rattle.planus_plan.specs.Names.{are_names as are_names_lem};
 ghost use Rattle.planus_plan.specs.Names.{are_scopes as are_scopes_lem};
 ghost use Rattle.planus_plan.specs.Names.{are_apart as are_apart_lem};
 ghost use Rattle.planus_plan.specs.Names.{are_apart_from as are_apart_from_lem};
 
 use crate::context::{count_in, member_in};
-use crate::known::{is_known_module, is_known_type, is_reserved};
+use crate::known::{is_known_module, is_known_type};
 use crate::refusal::Refusal;
 use planus_layout::{Body, Declared, is_among as is_in};
 use planus_plan::{
-    are_apart, are_apart_from, are_names, are_scopes, is_among, is_reserved as is_reserved_word,
+    add, allowed, are_apart, are_apart_from, are_names, are_scopes, capitals, is_among, is_held,
+    is_reserved, last_word, snake,
 };
 use std::alloc::{AllocError, Global};
 
@@ -28,71 +32,13 @@ pub struct Names {
     pub namespaces: Vec<Vec<u8>>,
 }
 
-/// How a name of the schema becomes one of code.
-#[derive(Clone, Copy)]
-enum Spelling {
-    Kept,
-    /// In small letters, with `_` between its words.
-    Snake,
-    /// The same in capitals.
-    Capitals,
-}
-
-fn is_upper(byte: Option<&u8>) -> bool {
-    match byte {
-        Some(byte) => byte.is_ascii_uppercase(),
-        None => false,
-    }
-}
-
-fn is_lower(byte: Option<&u8>) -> bool {
-    match byte {
-        Some(byte) => byte.is_ascii_lowercase(),
-        None => false,
-    }
-}
-
-// Whether a word begins at a capital after another byte.
-fn begins_word(bytes: &[u8], at: usize) -> bool {
-    match at.checked_sub(1) {
-        Some(before) => {
-            !matches!(bytes.get(before), Some(b'_' | b'.'))
-                && (!is_upper(bytes.get(before)) || is_lower(bytes.get(at.saturating_add(1))))
-        }
-        None => false,
-    }
-}
-
-fn spelled_byte(byte: u8, spelling: Spelling) -> u8 {
-    match spelling {
-        Spelling::Kept => byte,
-        Spelling::Snake => byte.to_ascii_lowercase(),
-        Spelling::Capitals => byte.to_ascii_uppercase(),
-    }
-}
-
-fn spelled(alloc: Global, name: &[u8], spelling: Spelling) -> Result<Vec<u8>, AllocError> {
-    let mut out = Vec::new(alloc);
-    let start = name.len().saturating_sub(last_word(name).len());
-    for (at, byte) in name.iter().enumerate() {
-        let spelling = if at < start { Spelling::Kept } else { spelling };
-        let apart = !matches!(spelling, Spelling::Kept) && byte.is_ascii_uppercase();
-        if apart && begins_word(name, at) {
-            out.push(b'_')?;
-        }
-        out.push(spelled_byte(*byte, spelling))?;
-    }
+// In small letters after the namespace.
+fn spelled(alloc: Global, name: &[u8]) -> Result<Vec<u8>, AllocError> {
+    let word = last_word(name);
+    let start = name.len().saturating_sub(word.len());
+    let mut out = Vec::from_slice(alloc, name.get(..start).unwrap_or(name))?;
+    out.extend_from_slice(&snake(alloc, word)?)?;
     Ok(out)
-}
-
-fn last_word(name: &[u8]) -> &[u8] {
-    let mut word = name;
-    for (at, byte) in name.iter().enumerate() {
-        if *byte == b'.' {
-            word = name.get(at.saturating_add(1)..).unwrap_or(name);
-        }
-    }
-    word
 }
 
 /// Returns the namespace around a full name; it is empty where there is none.
@@ -100,26 +46,6 @@ pub(crate) fn namespace_around(name: &[u8]) -> &[u8] {
     let behind = last_word(name).len().saturating_add(1);
     name.get(..name.len().saturating_sub(behind))
         .unwrap_or(name)
-}
-
-/// Adds a name, with `_` after it until it differs from each that is there, also but for case.
-fn add(names: &mut Vec<Vec<u8>>, mut name: Vec<u8>) -> Result<(), AllocError> {
-    for _ in 0..names.len() {
-        if !is_among(names, &name) {
-            break;
-        }
-        name.push(b'_')?;
-    }
-    names.push(name)?;
-    Ok(())
-}
-
-// Adds a name that isn't reserved: this one, or with `_` after it.
-fn add_allowed(names: &mut Vec<Vec<u8>>, mut name: Vec<u8>) -> Result<(), AllocError> {
-    if is_reserved(&name) {
-        name.push(b'_')?;
-    }
-    add(names, name)
 }
 
 // The names of types; `whole` ones come after their namespaces, and differ in each of these.
@@ -137,7 +63,7 @@ fn type_names(
             *first = first.to_ascii_uppercase();
         }
         let word = last_word(&name);
-        if is_known_type(word) || is_reserved(word) {
+        if is_known_type(word) || is_held(word) {
             name.push(b'_')?;
         }
         add(&mut names, name)?;
@@ -161,35 +87,56 @@ fn module_names(
 ) -> Result<Vec<Vec<u8>>, AllocError> {
     let mut names = Vec::new(alloc);
     for name in types {
-        let mut name = spelled(alloc, name, Spelling::Snake)?;
+        let mut name = snake(alloc, name)?;
         if is_in(types, &name) || is_known_module(&name) || is_outermost(declared, &name) {
             name.push(b'_')?;
         }
-        add_allowed(&mut names, name)?;
+        add(&mut names, allowed(name)?)?;
     }
     Ok(names)
 }
 
-// The values of flags are constants, and fields are in small letters.
-fn spelling_of(body: &Body) -> Spelling {
+fn member_spelled(alloc: Global, body: &Body, name: &[u8]) -> Result<Vec<u8>, AllocError>
+    ensures { IfOk result (λ v. v.items ≡ member_spelled_lem body.now name.now) }
+{
     match body {
-        Body::Table(_) | Body::Struct(_) => Spelling::Snake,
-        Body::Enum(one) if one.flags => Spelling::Capitals,
-        Body::Enum(_) | Body::Union(_) => Spelling::Kept,
+        Body::Table(_) | Body::Struct(_) => snake(alloc, name),
+        Body::Enum(one) if one.flags => capitals(alloc, name),
+        Body::Enum(_) | Body::Union(_) => Vec::from_slice(alloc, name),
     }
 }
 
-fn members_of(alloc: Global, body: &Body) -> Result<Vec<Vec<u8>>, AllocError> {
+fn member_word(alloc: Global, body: &Body, name: &[u8]) -> Result<Vec<u8>, AllocError>
+    ensures { IfOk result (λ v. v.items ≡ member_word_lem body.now name.now) }
+{
+    let name = member_spelled(alloc, body, last_word(name))?;
+    allowed(name)
+}
+
+fn members_of(alloc: Global, body: &Body) -> Result<Vec<Vec<u8>>, AllocError>
+    ensures { IfOk result (λ v. names_in v ≡ member_names body.now) }
+{
     let mut names = Vec::new(alloc);
-    for place in 0..count_in(body) {
+    'members: for place in 0..count_in(body) {
         if let Some((name, _)) = member_in(body, place) {
-            add_allowed(
-                &mut names,
-                spelled(alloc, last_word(name), spelling_of(body))?,
-            )?;
+            let word = member_word(alloc, body, name)?;
+            add(&mut names, word)?;
         }
     }
     Ok(names)
+}
+
+fn all_members(alloc: Global, declared: &[Declared]) -> Result<Vec<Vec<Vec<u8>>>, AllocError>
+    ensures { IfOk result (λ v. map names_in v.items ≡ all_member_names declared.now) }
+{
+    let mut out = Vec::new(alloc);
+    let mut rest = declared;
+    'declared: while let Some((one, after)) = rest.split_first() {
+        let names = members_of(alloc, &one.body)?;
+        out.push(names)?;
+        rest = after;
+    }
+    Ok(out)
 }
 
 pub(crate) fn name_at(names: &[Vec<u8>], index: usize) -> &[u8] {
@@ -199,64 +146,84 @@ pub(crate) fn name_at(names: &[Vec<u8>], index: usize) -> &[u8] {
     }
 }
 
-fn names_of(alloc: Global, declared: &[Declared]) -> Result<Names, AllocError> {
-    let mut names = Names {
-        types: Vec::new(alloc),
-        modules: Vec::new(alloc),
-        members: Vec::new(alloc),
-        places: Vec::new(alloc),
-        namespaces: Vec::new(alloc),
-    };
-    names.add_all(alloc, declared)?;
-    Ok(names)
+/// The places of types and namespaces.
+#[derive(Drop)]
+struct Places {
+    names: Vec<Vec<u8>>,
+    namespaces: Vec<Vec<u8>>,
 }
 
-impl Names {
-    fn add_members(&mut self, alloc: Global, declared: &[Declared]) -> Result<(), AllocError> {
+impl Places {
+    fn of(alloc: Global, declared: &[Declared], modules: &[Vec<u8>]) -> Result<Places, AllocError> {
+        let mut places = Places {
+            names: type_names(alloc, declared, true)?,
+            namespaces: Vec::new(alloc),
+        };
         for one in declared {
-            self.members.push(members_of(alloc, &one.body)?)?;
+            places.add_around(alloc, modules, &one.name)?;
         }
-        Ok(())
+        Ok(places)
     }
 
-    fn add_all(&mut self, alloc: Global, declared: &[Declared]) -> Result<(), AllocError> {
-        self.types = type_names(alloc, declared, false)?;
-        self.modules = module_names(alloc, declared, &self.types)?;
-        self.places = type_names(alloc, declared, true)?;
-        self.add_members(alloc, declared)?;
-        for one in declared {
-            self.add_namespaces(alloc, &one.name)?;
-        }
-        Ok(())
-    }
-
-    fn add_namespaces(&mut self, alloc: Global, name: &[u8]) -> Result<(), AllocError> {
+    // Adds the namespaces around a name.
+    fn add_around(
+        &mut self,
+        alloc: Global,
+        modules: &[Vec<u8>],
+        name: &[u8],
+    ) -> Result<(), AllocError> {
         for (at, byte) in name.iter().enumerate() {
             let namespace = name.get(..at).unwrap_or(name);
             if *byte == b'.' && !is_in(&self.namespaces, namespace) {
-                self.add_namespace(alloc, namespace)?;
+                self.add(alloc, modules, namespace)?;
             }
         }
         Ok(())
     }
 
     // Adds a namespace, its module with `_` after its name until it differs.
-    fn add_namespace(&mut self, alloc: Global, namespace: &[u8]) -> Result<(), AllocError> {
-        let mut place = spelled(alloc, namespace, Spelling::Snake)?;
-        if is_reserved_word(last_word(&place)) || is_known_module(&place) {
+    fn add(
+        &mut self,
+        alloc: Global,
+        modules: &[Vec<u8>],
+        namespace: &[u8],
+    ) -> Result<(), AllocError> {
+        let mut place = spelled(alloc, namespace)?;
+        if is_reserved(last_word(&place)) || is_known_module(&place) {
             place.push(b'_')?;
         }
-        for _ in 0..self.places.len().saturating_add(self.modules.len()) {
-            if !is_among(&self.places, &place) && !is_among(&self.modules, &place) {
+        for _ in 0..self.names.len().saturating_add(modules.len()) {
+            if !is_among(&self.names, &place) && !is_among(modules, &place) {
                 break;
             }
             place.push(b'_')?;
         }
-        self.places.push(place)?;
+        self.names.push(place)?;
         self.namespaces.push(Vec::from_slice(alloc, namespace)?)?;
         Ok(())
     }
+}
 
+fn names_of(alloc: Global, declared: &[Declared]) -> Result<Names, AllocError>
+    ensures members { IfOk result (λ n. map names_in n.members.items
+        ≡ all_member_names declared.now) }
+    ensures counts { IfOk result (λ n. map (λ m. length m.items) n.members.items
+        ≡ map (λ d. length (said_in d.body)) declared.now) }
+{
+    let types = type_names(alloc, declared, false)?;
+    let modules = module_names(alloc, declared, &types)?;
+    let members = all_members(alloc, declared)?;
+    let places = Places::of(alloc, declared, &modules)?;
+    Ok(Names {
+        types,
+        modules,
+        members,
+        places: places.names,
+        namespaces: places.namespaces,
+    })
+}
+
+impl Names {
     /// Returns the names of what is declared.
     ///
     /// [`Refusal::Unsupported`] where one is no identifier or two of a scope are alike, which no
@@ -270,6 +237,10 @@ impl Names {
         ensures types { IfOk result (λ n. are_names_lem n.types.items ≡ true) }
         ensures modules { IfOk result (λ n. are_names_lem n.modules.items ≡ true) }
         ensures apart { IfOk result (λ n. are_apart_from_lem n.types.items n.modules.items ≡ true) }
+        ensures counts_of_each { IfOk result (λ n. map (λ m. length m.items) n.members.items
+            ≡ map (λ d. length (said_in d.body)) declared.now) }
+        ensures members_named { IfOk result (λ n. map names_in n.members.items
+            ≡ all_member_names declared.now) }
         ensures members { IfOk result (λ n. are_scopes_lem n.members.items ≡ true) }
         ensures places { IfOk result (λ n. are_apart_lem n.places.items ≡ true) }
     {

@@ -1,2 +1,3 @@
 pub mod Names
 pub mod Plans
+pub mod Spelling

@@ -54,6 +54,16 @@ is_in words w = list_any (λ word. bytes_eq word w) words
 abbrev pub is_reserved : List ℕ → Bool
 is_reserved w = is_in reserved w
 
+-- words of clauses and of printed code, which a namespace can have
+unfoldable pub words_of_members : List (List ℕ)
+words_of_members =
+    codes "builder" ∷ codes "clone" ∷ codes "data" ∷ codes "deriving" ∷ codes "fields" ∷
+    codes "module" ∷ codes "record" ∷ codes "result" ∷ codes "table" ∷ []
+
+-- a word that no field, type or module of a declaration can be
+abbrev pub is_held : List ℕ → Bool
+is_held w = is_reserved w || is_in words_of_members w
+
 -- an identifier: letters, digits and `_`, with no digit first, and not reserved
 abbrev pub is_name : List ℕ → Bool
 is_name w = list_all is_name_byte w && (begins_name w && not (is_reserved w))

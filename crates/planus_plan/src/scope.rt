@@ -5,6 +5,9 @@ ghost use Rattle.std.specs.List.{list_any};
 ghost use Rattle.std.specs.Str.{bytes_eq};
 ghost use Rattle.planus_plan.specs.Names.{is_name as is_name_lem};
 ghost use Rattle.planus_plan.specs.Names.{is_reserved as is_reserved_lem};
+ghost use Rattle.planus_plan.specs.Names.{words_of_members};
+ghost use Rattle.planus_plan.specs.Names.{is_in as is_in_lem};
+ghost use Rattle.planus_plan.specs.Names.{is_held as is_held_lem};
 ghost use Rattle.planus_plan.specs.Names.{is_name_byte as is_name_byte_lem};
 ghost use Rattle.planus_plan.specs.Names.{are_apart as are_apart_lem};
 ghost use Rattle.planus_plan.specs.Names.{are_names as are_names_lem};
@@ -103,6 +106,11 @@ pub const RESERVED: [&str; 79] = [
     "std",
 ];
 
+/// Words of clauses and of printed code, which a namespace can have.
+const OF_MEMBERS: [&str; 9] = [
+    "builder", "clone", "data", "deriving", "fields", "module", "record", "result", "table",
+];
+
 /// Returns whether a name is one of these words.
 pub fn is_one_of(words: &[&str], name: &[u8]) -> bool
     ensures { result ≡ list_any (λ word. bytes_eq word.now name.now) words.now }
@@ -115,6 +123,19 @@ pub fn is_reserved(name: &[u8]) -> bool
     ensures { result ≡ is_reserved_lem name.now }
 {
     is_one_of(&RESERVED, name)
+}
+
+fn is_of_members(name: &[u8]) -> bool
+    ensures { result ≡ is_in_lem words_of_members name.now }
+{
+    is_one_of(&OF_MEMBERS, name)
+}
+
+/// Returns whether no field, type or module of a declaration can be this word.
+pub fn is_held(name: &[u8]) -> bool
+    ensures { result ≡ is_held_lem name.now }
+{
+    is_reserved(name) || is_of_members(name)
 }
 
 fn is_name_byte(byte: u8) -> bool
