@@ -1,20 +1,24 @@
 -- Printed code that is its schema's.
-use Rattle.std.specs.Prelude.{◌≡◌, ℕ, true, List, length}
+use Rattle.std.specs.Prelude.{◌≡◌, true, List, length, map}
 use Rattle.planus_layout.specs.declared.schema.Declared.{Declared}
 use Rattle.planus_plan.specs.Names.{are_names, are_scopes}
+use Rattle.planus_plan.specs.Spelling.{all_member_names, names_in}
 use Rattle.planus_tie.specs.Files.{AreTied}
 use Rattle.planus_tie.specs.declared.files.PrintedFile.{PrintedFile}
 use Rattle.planus_tie.specs.declared.naming.Naming.{Naming}
+use Rattle.planus_codegen.specs.Known.{type_names}
 use Rattle.planus_codegen.specs.declared.names.Names.{Names}
 
--- a name for each of so many declarations, no two alike, and for each of their members
-pub record AreFit (count : ℕ) (n : Names) : Type 0 where
-  pub types : length n.types.items ≡ count
-  pub modules : length n.modules.items ≡ count
-  pub members : length n.members.items ≡ count
+-- a name for each declaration and each of its members, which are its words, no two alike
+pub record AreFit (ds : List Declared) (n : Names) : Type 0 where
+  pub types : length n.types.items ≡ length ds
+  pub modules : length n.modules.items ≡ length ds
+  pub members : length n.members.items ≡ length ds
   pub types_are_names : are_names n.types.items ≡ true
   pub modules_are_names : are_names n.modules.items ≡ true
   pub members_are_names : are_scopes n.members.items ≡ true
+  pub types_named : names_in n.types ≡ type_names ds
+  pub members_named : map names_in n.members.items ≡ all_member_names ds
 
 pub record IsNamingOf (ds : List Declared) (names : Names) (n : Naming) : Type 0 where
   pub declared : n.declared.now ≡ ds
@@ -26,6 +30,6 @@ pub record IsNamingOf (ds : List Declared) (names : Names) (n : Naming) : Type 0
 pub record IsPrinted (ds : List Declared) (files : List PrintedFile) : Type 0 where
   pub names : Names
   pub naming : Naming
-  pub fit : AreFit (length ds) names
+  pub fit : AreFit ds names
   pub named : IsNamingOf ds names naming
   pub tied : AreTied naming files 0 ds

@@ -103,7 +103,7 @@ impl<'a> Context<'a> {
         crate_name: &'a str,
     ) -> Result<Context<'a>, Refusal>
         ensures declared { IfOk result (λ c. c.declared.now ≡ schema.now.declarations.items) }
-        ensures names { IfOk result (λ c. AreFit (length schema.now.declarations.items) c.names) }
+        ensures names { IfOk result (λ c. AreFit schema.now.declarations.items c.names) }
     {
         let declared = schema.declarations.as_slice();
         Ok(Context {

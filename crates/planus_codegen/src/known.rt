@@ -1,5 +1,13 @@
 //! Names that printed code can't take.
 
+ghost use Rattle.std.specs.Prelude.{◌≡◌};
+ghost use Rattle.std.specs.List.{list_any};
+ghost use Rattle.planus_codegen.specs.Known.{is_word_of, in_clauses, in_code, in_proofs};
+ghost use Rattle.planus_codegen.specs.Known.{errors_in_code, own_types};
+ghost use Rattle.planus_codegen.specs.Known.{is_imported as is_imported_lem};
+ghost use Rattle.planus_codegen.specs.Known.{ends_as_printed as ends_as_printed_lem};
+ghost use Rattle.planus_codegen.specs.Known.{is_known_type as is_known_type_lem};
+
 use crate::imports::{PROOF_WORDS, WORDS};
 use crate::uses::{ERRORS, NAMES};
 
@@ -15,23 +23,53 @@ const KNOWN_TYPES: &str =
 const KNOWN_MODULES: &str = "finish_root finish_root_size_prefixed has_identifier lib read_as_root \
      read_size_prefixed_as_root root";
 
-fn has_word(words: &str, name: &[u8]) -> bool {
-    for word in words.split(' ') {
-        if word.as_bytes() == name {
-            return true;
-        }
-    }
-    false
+fn has_word(words: &str, name: &[u8]) -> bool
+    ensures { result ≡ is_word_of words.now name.now }
+{
+    words.split(' ').any(|word| word.as_bytes() == name)
+}
+
+fn is_in_rows(rows: &[(&str, &str)], name: &[u8]) -> bool
+    ensures { result ≡ list_any (λ row. is_word_of row.1.now name.now) rows.now }
+{
+    rows.iter().any(|row| has_word(row.1, name))
+}
+
+fn is_in_clauses(name: &[u8]) -> bool
+    ensures { result ≡ list_any (λ text. is_word_of text name.now) in_clauses }
+{
+    is_in_rows(&WORDS, name)
+}
+
+fn is_in_code(name: &[u8]) -> bool
+    ensures { result ≡ is_word_of in_code name.now }
+{
+    has_word(NAMES, name)
+}
+
+fn is_error_in_code(name: &[u8]) -> bool
+    ensures { result ≡ is_word_of errors_in_code name.now }
+{
+    has_word(ERRORS, name)
+}
+
+fn is_in_proofs(name: &[u8]) -> bool
+    ensures { result ≡ is_word_of in_proofs name.now }
+{
+    has_word(PROOF_WORDS, name)
+}
+
+fn is_own_type(name: &[u8]) -> bool
+    ensures { result ≡ is_word_of own_types name.now }
+{
+    has_word(KNOWN_TYPES, name)
 }
 
 /// Whether printed code imports this name, in code, in clauses or in definitions.
-fn is_imported(name: &[u8]) -> bool {
-    for (_, words) in &WORDS {
-        if has_word(*words, name) {
-            return true;
-        }
-    }
-    has_word(NAMES, name) || has_word(ERRORS, name) || has_word(PROOF_WORDS, name)
+fn is_imported(name: &[u8]) -> bool
+    ensures { result ≡ is_imported_lem name.now }
+{
+    is_in_clauses(name) || is_in_code(name) || is_error_in_code(name) || is_in_proofs(name)
 }
 
 /// Whether a record's field has this name only if it is escaped.
@@ -43,13 +81,19 @@ pub(crate) fn is_known_module(name: &[u8]) -> bool {
     has_word(KNOWN_MODULES, name)
 }
 
-/// Whether code has such a type anyway. Those of fields, groups and views end in `Fields`,
-/// `FieldGroup`, `FieldLines` and `Ref`.
-pub(crate) fn is_known_type(name: &[u8]) -> bool {
-    has_word(KNOWN_TYPES, name)
-        || is_imported(name)
-        || name.ends_with(b"Ref")
+fn ends_as_printed(name: &[u8]) -> bool
+    ensures { result ≡ ends_as_printed_lem name.now }
+{
+    name.ends_with(b"Ref")
         || name.ends_with(b"Fields")
         || name.ends_with(b"FieldGroup")
         || name.ends_with(b"FieldLines")
+}
+
+/// Whether code has such a type anyway. Those of fields, groups and views end in `Fields`,
+/// `FieldGroup`, `FieldLines` and `Ref`.
+pub(crate) fn is_known_type(name: &[u8]) -> bool
+    ensures { result ≡ is_known_type_lem name.now }
+{
+    is_own_type(name) || is_imported(name) || ends_as_printed(name)
 }

@@ -2,6 +2,8 @@
 
 ghost use Rattle.std.specs.Prelude.{◌≡◌, length, map, true, IfOk};
 ghost use Rattle.planus_plan.specs.Spelling.{all_member_names, member_names, names_in, said_in};
+ghost use Rattle.planus_codegen.specs.Known.{type_word as type_word_lem};
+ghost use Rattle.planus_codegen.specs.Known.{type_names as type_names_lem};
 ghost use Rattle.planus_plan.specs.Spelling.{member_spelled as member_spelled_lem};
 ghost use Rattle.planus_plan.specs.Spelling.{member_word as member_word_lem};
 ghost use Rattle.planus_plan.specs.Names.{are_names as are_names_lem};
@@ -14,8 +16,8 @@ use crate::known::{is_known_module, is_known_type};
 use crate::refusal::Refusal;
 use planus_layout::{Body, Declared, is_among as is_in};
 use planus_plan::{
-    add, allowed, are_apart, are_apart_from, are_names, are_scopes, capitals, is_among, is_held,
-    is_reserved, last_word, snake,
+    add, allowed, are_apart, are_apart_from, are_names, are_scopes, capital, capitals, is_among,
+    is_held, is_reserved, last_word, snake,
 };
 use std::alloc::{AllocError, Global};
 
@@ -48,24 +50,38 @@ pub(crate) fn namespace_around(name: &[u8]) -> &[u8] {
         .unwrap_or(name)
 }
 
-// The names of types; `whole` ones come after their namespaces, and differ in each of these.
-fn type_names(
-    alloc: Global,
-    declared: &[Declared],
-    whole: bool,
-) -> Result<Vec<Vec<u8>>, AllocError> {
+// The last word of a full name, as a type.
+fn type_word(alloc: Global, name: &[u8]) -> Result<Vec<u8>, AllocError>
+    ensures { IfOk result (λ v. v.items ≡ type_word_lem name.now) }
+{
+    let mut word = capital(alloc, last_word(name))?;
+    if is_known_type(&word) || is_held(&word) {
+        word.push(b'_')?;
+    }
+    Ok(word)
+}
+
+fn type_names(alloc: Global, declared: &[Declared]) -> Result<Vec<Vec<u8>>, AllocError>
+    ensures { IfOk result (λ v. names_in v ≡ type_names_lem declared.now) }
+{
+    let mut names = Vec::new(alloc);
+    let mut rest = declared;
+    'declared: while let Some((one, after)) = rest.split_first() {
+        let word = type_word(alloc, &one.name)?;
+        add(&mut names, word)?;
+        rest = after;
+    }
+    Ok(names)
+}
+
+// The names of types after their namespaces, apart in each of these.
+fn place_names(alloc: Global, declared: &[Declared]) -> Result<Vec<Vec<u8>>, AllocError> {
     let mut names = Vec::new(alloc);
     for one in declared {
         let word = last_word(&one.name);
-        let said = if whole { one.name.as_slice() } else { word };
-        let mut name = Vec::from_slice(alloc, said)?;
-        if let Some(first) = name.get_mut(said.len().saturating_sub(word.len())) {
-            *first = first.to_ascii_uppercase();
-        }
-        let word = last_word(&name);
-        if is_known_type(word) || is_held(word) {
-            name.push(b'_')?;
-        }
+        let start = one.name.len().saturating_sub(word.len());
+        let mut name = Vec::from_slice(alloc, one.name.get(..start).unwrap_or(&one.name))?;
+        name.extend_from_slice(&type_word(alloc, word)?)?;
         add(&mut names, name)?;
     }
     Ok(names)
@@ -156,7 +172,7 @@ struct Places {
 impl Places {
     fn of(alloc: Global, declared: &[Declared], modules: &[Vec<u8>]) -> Result<Places, AllocError> {
         let mut places = Places {
-            names: type_names(alloc, declared, true)?,
+            names: place_names(alloc, declared)?,
             namespaces: Vec::new(alloc),
         };
         for one in declared {
@@ -205,12 +221,13 @@ impl Places {
 }
 
 fn names_of(alloc: Global, declared: &[Declared]) -> Result<Names, AllocError>
+    ensures types { IfOk result (λ n. names_in n.types ≡ type_names_lem declared.now) }
     ensures members { IfOk result (λ n. map names_in n.members.items
         ≡ all_member_names declared.now) }
     ensures counts { IfOk result (λ n. map (λ m. length m.items) n.members.items
         ≡ map (λ d. length (said_in d.body)) declared.now) }
 {
-    let types = type_names(alloc, declared, false)?;
+    let types = type_names(alloc, declared)?;
     let modules = module_names(alloc, declared, &types)?;
     let members = all_members(alloc, declared)?;
     let places = Places::of(alloc, declared, &modules)?;
@@ -239,6 +256,7 @@ impl Names {
         ensures apart { IfOk result (λ n. are_apart_from_lem n.types.items n.modules.items ≡ true) }
         ensures counts_of_each { IfOk result (λ n. map (λ m. length m.items) n.members.items
             ≡ map (λ d. length (said_in d.body)) declared.now) }
+        ensures types_named { IfOk result (λ n. names_in n.types ≡ type_names_lem declared.now) }
         ensures members_named { IfOk result (λ n. map names_in n.members.items
             ≡ all_member_names declared.now) }
         ensures members { IfOk result (λ n. are_scopes_lem n.members.items ≡ true) }

@@ -88,3 +88,8 @@ names_in names = items_of names.items
 
 abbrev pub all_member_names : List Declared → List (List (List ℕ))
 all_member_names ds = map (λ d. member_names d.body) ds
+
+-- its first letter a capital
+abbrev pub capital : List ℕ → List ℕ
+capital [] = []
+capital (b ∷ bs) = to_ascii_uppercase b ∷ bs

@@ -10,4 +10,4 @@ pub use scope::{
     RESERVED, are_apart, are_apart_from, are_names, are_scopes, is_among, is_held, is_one_of,
     is_reserved,
 };
-pub use spelling::{add, allowed, capitals, last_word, snake};
+pub use spelling::{add, allowed, capital, capitals, last_word, snake};

@@ -8,6 +8,7 @@ ghost use Rattle.planus_plan.specs.Spelling.{begins_small as begins_small_lem};
 ghost use Rattle.planus_plan.specs.Spelling.{begins_word as begins_word_lem};
 ghost use Rattle.planus_plan.specs.Spelling.{snake as snake_lem};
 ghost use Rattle.planus_plan.specs.Spelling.{capitals as capitals_lem};
+ghost use Rattle.planus_plan.specs.Spelling.{capital as capital_lem};
 ghost use Rattle.planus_plan.specs.Spelling.{is_like as is_like_lem};
 ghost use Rattle.planus_plan.specs.Spelling.{set_apart as set_apart_lem};
 ghost use Rattle.planus_plan.specs.Spelling.{allowed as allowed_lem};
@@ -71,6 +72,18 @@ pub fn capitals(alloc: Global, name: &[u8]) -> Result<Vec<u8>, AllocError>
 {
     let mut out = snake(alloc, name)?;
     out.make_ascii_uppercase();
+    Ok(out)
+}
+
+/// Returns a name, its first letter a capital.
+pub fn capital(alloc: Global, name: &[u8]) -> Result<Vec<u8>, AllocError>
+    ensures { IfOk result (λ v. v.items ≡ capital_lem name.now) }
+{
+    let mut out = Vec::new(alloc);
+    if let Some((first, after)) = name.split_first() {
+        out.push(first.to_ascii_uppercase())?;
+        out.extend_from_slice(after)?;
+    }
     Ok(out)
 }
 

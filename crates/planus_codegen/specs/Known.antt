@@ -1,0 +1,87 @@
+-- Names that printed code has anyway, and those of types beside them.
+use Rattle.std.specs.Prelude.{ℕ, ◌==◌, ◌||◌, Bool, List, [], ◌∷◌, ◌++◌, codes, map, nat_eq}
+use Rattle.std.specs.Prelude.{if◌then◌else◌}
+use Rattle.std.specs.List.{list_any, slice_split, ends_with}
+use Rattle.std.specs.Str.{bytes_eq}
+use Rattle.std.proofs.Math.Utf8.{encodes}
+use Rattle.planus_layout.specs.declared.schema.Declared.{Declared}
+use Rattle.planus_plan.specs.Names.{is_held}
+use Rattle.planus_plan.specs.Spelling.{capital, last_word, scope_from}
+
+-- a word of a text, between spaces
+abbrev pub is_word_of : List ℕ → List ℕ → Bool
+is_word_of text w = list_any (λ word. bytes_eq word w) (slice_split (λ b. b == 32) text)
+
+-- types that code has without an import, and a file of definitions
+unfoldable pub own_types : List ℕ
+own_types = codes "Bool Clone Copy Debug Default Drop Err FieldLine Float Lib None Ok Option "
+    ++ codes "PartialEq Result Some String Table Type Unit Vec"
+
+-- what clauses and definitions import
+unfoldable pub in_clauses : List (List ℕ)
+in_clauses =
+    (encodes (codes "◌≡◌ ◌≤◌ ◌==◌ ◌↔◌ ◌∷◌ [] ℕ ℤ ")
+    ++ (codes "Bool List Option length codes pos negsuc nat_eq true "
+    ++ (codes "false bit_and bit_or IfOk IsOkAnd IsTrue MatchOption "
+    ++ encodes (codes "⊤ Some None"))))
+    ∷ codes "sem"
+    ∷ codes "w8 w16 w32 w64"
+    ∷ codes "int_eq"
+    ∷ (codes "of_bits binary32 binary64 Table BytesStand slice_bytes slice_start Numbered "
+    ++ (codes "variant_in u8_enum u16_enum u32_enum u64_enum i8_enum i16_enum i32_enum "
+    ++ (codes "i64_enum Shape u8_shape u16_shape u32_shape u64_shape i8_shape i16_shape "
+    ++ (codes "i32_shape i64_shape bool_shape f32_shape f64_shape IsPrefixed field "
+    ++ (codes "force_align no_more struct_layout struct_shape FinishGives "
+    ++ (codes "SizedFinishGives EndsAs FinishLeaves SizedFinishLeaves IsIn AllIn AllUnionsIn "
+    ++ (codes "IsPrepared IsPlainVector IsPlainVectorRequired IsPlainRequired IsTextField "
+    ++ (codes "IsTextRequired IsBytesField IsBytesRequired IsTextVector "
+    ++ (codes "IsTextVectorRequired IsTableField IsTableRequired IsTableVector "
+    ++ (codes "IsTableVectorRequired plain_kind text_kind bytes_kind table_kind IsPlainField "
+    ++ (codes "IsPlainFieldOr IsRoot IsUnionField IsUnionRequired IsUnionVector "
+    ++ (codes "IsUnionVectorRequired ReadsVariants UnionVariant table_variant plains judged "
+    ++ (codes "texts tables optional required plain_if plain_or number_or signed_or union "
+    ++ codes "union_required unions unions_required IsSizedRoot")))))))))))))
+    ∷ []
+
+-- what code imports of `planus`
+unfoldable pub in_code : List ℕ
+in_code =
+    codes "BuildError Builder Built ByteList Create FieldAt FieldGroup Lines8 List Offset "
+    ++ (codes "OrDefault Plain PlainField PlainTotal Result SliceWithStartOffset Stride TableKind "
+    ++ (codes "TableReadUnion TableRef TableView TableWriter Text UnionOffset UnionVector Vector "
+    ++ (codes "VectorReadUnion bytes_field bytes_required create_table fields plain_field "
+    ++ (codes "plain_field_or plain_required plain_vector plain_vector_required put_fields "
+    ++ (codes "read_fields read_root read_sized_root read_variant read_view table_field "
+    ++ (codes "table_required table_vector table_vector_required text_field text_required "
+    ++ (codes "text_vector text_vector_required union_field union_required union_vector "
+    ++ codes "union_vector_required")))))))
+
+unfoldable pub errors_in_code : List ℕ
+errors_in_code = codes "ErrorKind UnknownEnumTagKind"
+
+unfoldable pub in_proofs : List ℕ
+in_proofs = encodes (codes "refl lit≤ lit<")
+
+abbrev pub is_imported : List ℕ → Bool
+is_imported w = list_any (λ text. is_word_of text w) in_clauses || (is_word_of in_code w
+    || (is_word_of errors_in_code w || is_word_of in_proofs w))
+
+-- how types of fields, groups and views end
+abbrev pub ends_as_printed : List ℕ → Bool
+ends_as_printed w = ends_with nat_eq w (codes "Ref") || (ends_with nat_eq w (codes "Fields")
+    || (ends_with nat_eq w (codes "FieldGroup") || ends_with nat_eq w (codes "FieldLines")))
+
+-- code has such a type anyway
+abbrev pub is_known_type : List ℕ → Bool
+is_known_type w = is_word_of own_types w || (is_imported w || ends_as_printed w)
+
+-- with `_` after it where it is known or reserved
+abbrev pub allowed_type : List ℕ → List ℕ
+allowed_type w = if is_known_type w || is_held w then w ++ 95 ∷ [] else w
+
+-- the last word of a full name, as a type
+abbrev pub type_word : List ℕ → List ℕ
+type_word name = allowed_type (capital (last_word name))
+
+abbrev pub type_names : List Declared → List (List ℕ)
+type_names ds = scope_from [] (map (λ d. type_word d.name.items) ds)
