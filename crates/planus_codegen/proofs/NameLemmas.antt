@@ -1,5 +1,6 @@
 -- Names of members, one after the other.
-use Rattle.std.proofs.Common.{◌≡◌, ℕ, suc, ◌+◌, List, [], ◌∷◌, ◌++◌, map, drop, length, sym, ap, ◌∙◌, refl, arith, length-append}
+use Rattle.std.proofs.Common.{◌≡◌, ℕ, suc, ◌+◌, List, [], ◌∷◌, ◌++◌, map, drop, length, sym, ap, ◌∙◌, refl, arith, length-append, subst}
+use Rattle.planus_layout.specs.Distinct.{items_of}
 use Rattle.std.specs.Global.{Vec}
 use Rattle.planus_layout.specs.declared.schema.Declared.{Declared}
 use Rattle.std.specs.Prelude.{slice_get, Some}
@@ -45,3 +46,9 @@ as_many_in_each (m ∷ ms) (d ∷ ds) h =
     let one = as_many_in m d first in
     let rest = as_many_in_each ms ds others in
     rw (one, rest) refl
+
+-- the same of a name of printed code
+pub next_of : (f : List ℕ → List ℕ) (names new : List (List ℕ)) (rest after : List (Vec ℕ)) (first : Vec ℕ) (word said : List ℕ) (whole : List (List ℕ)) → rest ≡ first ∷ after → said ≡ first.items → word ≡ f said → new ≡ names ++ set_apart names names word ∷ [] → scope_from names (map f (items_of rest)) ≡ whole → scope_from new (map f (items_of after)) ≡ whole
+next_of f names new rest after first word said whole r i e n before =
+    let start : scope_from names (map f (items_of (first ∷ after))) ≡ whole = subst (λ xs. scope_from names (map f (items_of xs)) ≡ whole) r before in
+    rw (n, e, i) start

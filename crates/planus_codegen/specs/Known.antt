@@ -1,12 +1,13 @@
 -- Names that printed code has anyway, and those of types beside them.
 use Rattle.std.specs.Prelude.{ℕ, ◌==◌, ◌||◌, Bool, List, [], ◌∷◌, ◌++◌, codes, map, nat_eq}
-use Rattle.std.specs.Prelude.{if◌then◌else◌}
-use Rattle.std.specs.List.{list_any, slice_split, ends_with}
+use Rattle.std.specs.Prelude.{if◌then◌else◌, ◌&&◌, Option, Some, None, length, false}
+use Rattle.std.specs.List.{list_any, slice_split, ends_with, starts_with, slice_get}
 use Rattle.std.specs.Str.{bytes_eq}
 use Rattle.std.proofs.Math.Utf8.{encodes}
 use Rattle.planus_layout.specs.declared.schema.Declared.{Declared}
 use Rattle.planus_plan.specs.Names.{is_held}
-use Rattle.planus_plan.specs.Spelling.{capital, last_word, scope_from}
+use Rattle.planus_layout.specs.Distinct.{is_in}
+use Rattle.planus_plan.specs.Spelling.{allowed, capital, last_word, scope_from, snake}
 
 -- a word of a text, between spaces
 abbrev pub is_word_of : List ℕ → List ℕ → Bool
@@ -71,6 +72,11 @@ abbrev pub ends_as_printed : List ℕ → Bool
 ends_as_printed w = ends_with nat_eq w (codes "Ref") || (ends_with nat_eq w (codes "Fields")
     || (ends_with nat_eq w (codes "FieldGroup") || ends_with nat_eq w (codes "FieldLines")))
 
+-- what a crate has beside its modules
+unfoldable pub own_modules : List ℕ
+own_modules = codes "finish_root finish_root_size_prefixed has_identifier lib read_as_root "
+    ++ codes "read_size_prefixed_as_root root"
+
 -- code has such a type anyway
 abbrev pub is_known_type : List ℕ → Bool
 is_known_type w = is_word_of own_types w || (is_imported w || ends_as_printed w)
@@ -85,3 +91,30 @@ type_word name = allowed_type (capital (last_word name))
 
 abbrev pub type_names : List Declared → List (List ℕ)
 type_names ds = scope_from [] (map (λ d. type_word d.name.items) ds)
+
+abbrev pub is_dot : Option ℕ → Bool
+is_dot None = false
+is_dot (Some b) = b == 46
+
+-- a full name goes on after this namespace
+abbrev pub is_around : List ℕ → List ℕ → Bool
+is_around w name = starts_with nat_eq name w && is_dot (slice_get name (length w))
+
+-- a type has this very name, a crate has it beside its modules, or an outermost namespace has it
+abbrev pub is_held_module : List (List ℕ) → List Declared → List ℕ → Bool
+is_held_module types ds w = is_in types w
+    || (is_word_of own_modules w || list_any (λ d. is_around w d.name.items) ds)
+
+-- with `_` after it where it is held, and another where it is reserved
+abbrev pub allowed_module : List (List ℕ) → List Declared → List ℕ → List ℕ
+allowed_module types ds w = allowed (if is_held_module types ds w then w ++ 95 ∷ [] else w)
+
+-- a type's module has its name in small letters
+abbrev pub module_word : List (List ℕ) → List Declared → List ℕ → List ℕ
+module_word types ds t = allowed_module types ds (snake t)
+
+abbrev pub modules_of : List (List ℕ) → List Declared → List (List ℕ)
+modules_of types ds = scope_from [] (map (module_word types ds) types)
+
+abbrev pub module_names : List Declared → List (List ℕ)
+module_names ds = modules_of (type_names ds) ds

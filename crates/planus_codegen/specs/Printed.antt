@@ -6,7 +6,7 @@ use Rattle.planus_plan.specs.Spelling.{all_member_names, names_in}
 use Rattle.planus_tie.specs.Files.{AreTied}
 use Rattle.planus_tie.specs.declared.files.PrintedFile.{PrintedFile}
 use Rattle.planus_tie.specs.declared.naming.Naming.{Naming}
-use Rattle.planus_codegen.specs.Known.{type_names}
+use Rattle.planus_codegen.specs.Known.{module_names, type_names}
 use Rattle.planus_codegen.specs.declared.names.Names.{Names}
 
 -- a name for each declaration and each of its members, which are its words, no two alike
@@ -18,6 +18,7 @@ pub record AreFit (ds : List Declared) (n : Names) : Type 0 where
   pub modules_are_names : are_names n.modules.items ≡ true
   pub members_are_names : are_scopes n.members.items ≡ true
   pub types_named : names_in n.types ≡ type_names ds
+  pub modules_named : names_in n.modules ≡ module_names ds
   pub members_named : map names_in n.members.items ≡ all_member_names ds
 
 pub record IsNamingOf (ds : List Declared) (names : Names) (n : Naming) : Type 0 where

@@ -3,7 +3,7 @@
 ghost use Rattle.std.specs.Prelude.{◌≡◌};
 ghost use Rattle.std.specs.List.{list_any};
 ghost use Rattle.planus_codegen.specs.Known.{is_word_of, in_clauses, in_code, in_proofs};
-ghost use Rattle.planus_codegen.specs.Known.{errors_in_code, own_types};
+ghost use Rattle.planus_codegen.specs.Known.{errors_in_code, own_modules, own_types};
 ghost use Rattle.planus_codegen.specs.Known.{is_imported as is_imported_lem};
 ghost use Rattle.planus_codegen.specs.Known.{ends_as_printed as ends_as_printed_lem};
 ghost use Rattle.planus_codegen.specs.Known.{is_known_type as is_known_type_lem};
@@ -77,7 +77,9 @@ pub(crate) fn is_escaped(name: &[u8]) -> bool {
     has_word(ESCAPED, name)
 }
 
-pub(crate) fn is_known_module(name: &[u8]) -> bool {
+pub(crate) fn is_known_module(name: &[u8]) -> bool
+    ensures { result ≡ is_word_of own_modules name.now }
+{
     has_word(KNOWN_MODULES, name)
 }
 

@@ -2,6 +2,14 @@
 
 ghost use Rattle.std.specs.Prelude.{◌≡◌, length, map, true, IfOk};
 ghost use Rattle.planus_plan.specs.Spelling.{all_member_names, member_names, names_in, said_in};
+ghost use Rattle.std.specs.List.{list_any};
+ghost use Rattle.planus_layout.specs.Distinct.{items_of, is_in as is_in_lem};
+ghost use Rattle.planus_codegen.specs.Known.{modules_of};
+ghost use Rattle.planus_codegen.specs.Known.{is_around as is_around_lem};
+ghost use Rattle.planus_codegen.specs.Known.{is_held_module as is_held_module_lem};
+ghost use Rattle.planus_codegen.specs.Known.{allowed_module as allowed_module_lem};
+ghost use Rattle.planus_codegen.specs.Known.{module_word as module_word_lem};
+ghost use Rattle.planus_codegen.specs.Known.{module_names as module_names_lem};
 ghost use Rattle.planus_codegen.specs.Known.{type_word as type_word_lem};
 ghost use Rattle.planus_codegen.specs.Known.{type_names as type_names_lem};
 ghost use Rattle.planus_plan.specs.Spelling.{member_spelled as member_spelled_lem};
@@ -87,27 +95,70 @@ fn place_names(alloc: Global, declared: &[Declared]) -> Result<Vec<Vec<u8>>, All
     Ok(names)
 }
 
-fn is_outermost(declared: &[Declared], name: &[u8]) -> bool {
-    for one in declared {
-        if one.name.starts_with(name) && one.name.get(name.len()) == Some(&b'.') {
-            return true;
-        }
+fn is_around(namespace: &[u8], name: &[u8]) -> bool
+    ensures { result ≡ is_around_lem namespace.now name.now }
+{
+    name.starts_with(namespace) && matches!(name.get(namespace.len()), Some(b'.'))
+}
+
+fn is_outermost(declared: &[Declared], name: &[u8]) -> bool
+    ensures { result ≡ list_any (λ d. is_around_lem name.now d.name.items) declared.now }
+{
+    declared.iter().any(|one| is_around(name, &one.name))
+}
+
+fn is_type(types: &[Vec<u8>], name: &[u8]) -> bool
+    ensures { result ≡ is_in_lem (items_of types.now) name.now }
+{
+    is_in(types, name)
+}
+
+fn is_held_module(types: &[Vec<u8>], declared: &[Declared], name: &[u8]) -> bool
+    ensures { result ≡ is_held_module_lem (items_of types.now) declared.now name.now }
+{
+    is_type(types, name) || is_known_module(name) || is_outermost(declared, name)
+}
+
+fn allowed_module(
+    types: &[Vec<u8>],
+    declared: &[Declared],
+    mut name: Vec<u8>,
+) -> Result<Vec<u8>, AllocError>
+    ensures { IfOk result (λ v. v.items
+        ≡ allowed_module_lem (items_of types.now) declared.now name.items) }
+{
+    if is_held_module(types, declared, &name) {
+        name.push(b'_')?;
     }
-    false
+    allowed(name)
+}
+
+fn module_word(
+    alloc: Global,
+    types: &[Vec<u8>],
+    declared: &[Declared],
+    name: &[u8],
+) -> Result<Vec<u8>, AllocError>
+    ensures { IfOk result (λ v. v.items
+        ≡ module_word_lem (items_of types.now) declared.now name.now) }
+{
+    let word = snake(alloc, name)?;
+    allowed_module(types, declared, word)
 }
 
 fn module_names(
     alloc: Global,
     declared: &[Declared],
     types: &[Vec<u8>],
-) -> Result<Vec<Vec<u8>>, AllocError> {
+) -> Result<Vec<Vec<u8>>, AllocError>
+    ensures { IfOk result (λ v. names_in v ≡ modules_of (items_of types.now) declared.now) }
+{
     let mut names = Vec::new(alloc);
-    for name in types {
-        let mut name = snake(alloc, name)?;
-        if is_in(types, &name) || is_known_module(&name) || is_outermost(declared, &name) {
-            name.push(b'_')?;
-        }
-        add(&mut names, allowed(name)?)?;
+    let mut rest = types;
+    'types: while let Some((first, after)) = rest.split_first() {
+        let word = module_word(alloc, types, declared, first)?;
+        add(&mut names, word)?;
+        rest = after;
     }
     Ok(names)
 }
@@ -222,6 +273,7 @@ impl Places {
 
 fn names_of(alloc: Global, declared: &[Declared]) -> Result<Names, AllocError>
     ensures types { IfOk result (λ n. names_in n.types ≡ type_names_lem declared.now) }
+    ensures modules { IfOk result (λ n. names_in n.modules ≡ module_names_lem declared.now) }
     ensures members { IfOk result (λ n. map names_in n.members.items
         ≡ all_member_names declared.now) }
     ensures counts { IfOk result (λ n. map (λ m. length m.items) n.members.items
@@ -257,6 +309,8 @@ impl Names {
         ensures counts_of_each { IfOk result (λ n. map (λ m. length m.items) n.members.items
             ≡ map (λ d. length (said_in d.body)) declared.now) }
         ensures types_named { IfOk result (λ n. names_in n.types ≡ type_names_lem declared.now) }
+        ensures modules_named { IfOk result (λ n. names_in n.modules
+            ≡ module_names_lem declared.now) }
         ensures members_named { IfOk result (λ n. map names_in n.members.items
             ≡ all_member_names declared.now) }
         ensures members { IfOk result (λ n. are_scopes_lem n.members.items ≡ true) }
