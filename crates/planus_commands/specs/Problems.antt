@@ -28,7 +28,7 @@ after problem.MemberIsNoTable =
 after problem.NoStructField = codes ": a field of a struct is a scalar, an enum or a struct"
 after problem.DeclaredLater =
     codes ": a struct holds only structs and enums that are declared before it"
-after problem.DefaultInStruct = codes ": a field of a struct can't have a default"
+after problem.DefaultInStruct = codes ": a field of a struct can't have a default other than zero"
 after problem.AttributeInStruct = codes ": a field of a struct can't be `required` or `deprecated`"
 after problem.EmptyStruct = codes ": a struct needs a field"
 after problem.StructTooLarge = codes ": the struct has more than 65535 bytes"

@@ -42,7 +42,7 @@ fn after(problem: Problem) -> &'static str
         Problem::NoStructField => ": a field of a struct is a scalar, an enum or a struct",
         Problem::DeclaredLater =>
             ": a struct holds only structs and enums that are declared before it",
-        Problem::DefaultInStruct => ": a field of a struct can't have a default",
+        Problem::DefaultInStruct => ": a field of a struct can't have a default other than zero",
         Problem::AttributeInStruct => ": a field of a struct can't be `required` or `deprecated`",
         Problem::EmptyStruct => ": a struct needs a field",
         Problem::StructTooLarge => ": the struct has more than 65535 bytes",

@@ -1,24 +1,22 @@
 -- One more field of a struct.
-use Rattle.std.proofs.Common.{◌≡◌, ℕ, ◌+◌, ◌<◌, ◌≤◌, max, Bool, true, false, List, [], ◌∷◌, ◌++◌, length, map, take, drop, get_or, suc, add-one, drop-cons, refl, sym, ap, subst, ◌∙◌, arith}
+use Rattle.std.proofs.Common.{◌≡◌, ℕ, ◌+◌, ◌<◌, ◌≤◌, max, true, false, List, [], ◌∷◌, ◌++◌, length, map, take, drop, get_or, suc, add-one, drop-cons, refl, sym, ap, subst, ◌∙◌, arith}
 use Rattle.std.proofs.lemmas.List.{map_push}
 use Rattle.std.proofs.lemmas.List.Sums.{fold-append}
 use Rattle.std.proofs.lemmas.Bool.{le-leb, lt-leb}
 use Rattle.std.proofs.lemmas.Bool.Decides.{nat_tests}
 use Rattle.planus_layout.specs.declared.schema.StructField.{StructField}
 use Rattle.std.proofs.lemmas.Grind.{common_steps}
-use Rattle.std.specs.Option.{is_some}
-use Rattle.planus_layout.specs.declared.schema.FieldType.{FieldType}
-use Rattle.std.specs.Prelude.{codes, Option, Some, None, not, nat_le, ◌==◌}
-use Rattle.planus_syntax.specs.Values.{Name, kind_of, attribute_of}
+use Rattle.std.specs.Prelude.{Option, Some, None, not, nat_le, ◌==◌}
+use Rattle.planus_syntax.specs.Values.{Name, kind_of}
 use Rattle.planus_syntax.specs.declared.value.Field.{Field}
 use Rattle.planus_layout.specs.declared.measure.Measure.{Measure}
 use Rattle.planus_layout.specs.declared.schema.Base.{Base}
 use Rattle.planus_schema.specs.declared.fault.Problem.TheVariants as problem
 use Rattle.planus_schema.specs.declared.fault.Stop.{Stop}
 use Rattle.planus_schema.specs.declared.fault.Stop.TheVariants as stop
-use Rattle.planus_schema.specs.Names.{HeadV, SpaceV, type_named, is_set, has}
-use Rattle.planus_schema.specs.Wrong.{Broken, broken, when, first, Stops, wrong_kind}
-use Rattle.planus_schema.specs.WrongStructs.{is_empty, is_vector, wrong_plain, wrong_measure, wrong_type, measure_among, measure_in_type, wrong_struct_field, wrong_struct_fields, end_of, end_after, greatest_after, alignment_in, field_measure}
+use Rattle.planus_schema.specs.Names.{HeadV, SpaceV, type_named}
+use Rattle.planus_schema.specs.Wrong.{Broken, broken, when, first, Stops}
+use Rattle.planus_schema.specs.WrongStructs.{is_empty, wrong_plain, wrong_measure, wrong_type, measure_among, measure_in_type, wrong_struct_field, wrong_struct_fields, end_of, end_after, greatest_after, alignment_in, field_measure}
 use Rattle.planus_schema.proofs.FaultLemmas.{skip, passes, stops_first, stops_next, stops_now}
 use Rattle.planus_layout.specs.Distinct.{Each2, is_in}
 use Rattle.planus_layout.specs.Layouts.{IsNext, Laid, greatest_alignment}
@@ -90,17 +88,3 @@ ends_after at end left o m e is h =
 pub empty_is : (fs : List Field) → is_empty fs ≡ (length fs == 0)
 empty_is [] = refl
 empty_is (f ∷ fs) = grind (arith, nat_tests)
-
-set_is : {A : Type 0} (o : Option A) → is_some o ≡ is_set o
-set_is None = refl
-set_is (Some x) = refl
-
-pub plain_left : (hs : List HeadV) (space : SpaceV) (f : Field) (d r p : Bool) → d ≡ is_some f.default → r ≡ has (codes "required") (map attribute_of f.attributes.items) → p ≡ has (codes "deprecated") (map attribute_of f.attributes.items) → d ≡ false → r ≡ false → p ≡ false → wrong_plain hs space f ≡ first (wrong_kind hs space f.kind) (when (is_vector (type_named hs space (kind_of f.kind))) problem.NoStructField f.left)
-plain_left hs space f d r p d' r' p' dn rn pn =
-    let a : is_set f.default ≡ false = sym (set_is f.default) ∙ sym d' ∙ dn in
-    let b : has (codes "required") (map attribute_of f.attributes.items) ≡ false = sym r' ∙ rn in
-    let c : has (codes "deprecated") (map attribute_of f.attributes.items) ≡ false = sym p' ∙ pn in
-    rw (a, b, c) refl
-
-pub vector_is : (o : Option FieldType) (t : FieldType) (v : Bool) (left : ℕ) → o ≡ Some t → t.vector ≡ v → when (is_vector o) problem.NoStructField left ≡ when v problem.NoStructField left
-vector_is o t v left e h = rw (e, h) refl

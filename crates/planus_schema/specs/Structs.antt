@@ -1,23 +1,43 @@
 -- Declared structs.
-use Rattle.std.specs.Prelude.{◌≡◌, ℕ, Bool, true, false, ◌&&◌, not}
+use Rattle.std.specs.Prelude.{◌≡◌, ℕ, ◌==◌, Bool, true, false, ◌&&◌, not}
 use Rattle.std.specs.Prelude.{if◌then◌else◌}
+use Rattle.std.specs.Str.{bytes_eq}
 use Rattle.std.specs.Prelude.{List, Option, Some, None, codes}
 use Rattle.planus_syntax.specs.Values.{LiteralV, numeral, named, quote, nothing, AttributeV}
 use Rattle.planus_syntax.specs.Values.{FieldV, RecordV, names_of}
 use Rattle.planus_syntax.specs.Tokens.{is_number}
 use Rattle.planus_layout.specs.declared.schema.Body.{Body}
+use Rattle.planus_layout.specs.declared.schema.FieldType.{FieldType}
 use Rattle.planus_layout.specs.declared.schema.Struct.{Struct}
 use Rattle.planus_layout.specs.declared.schema.StructField.{StructField}
 use Rattle.planus_layout.specs.declared.number.Number.{Number}
 use Rattle.planus_layout.specs.Numbers.{integer_said}
 use Rattle.planus_layout.specs.Distinct.{Each2}
 use Rattle.planus_layout.specs.Layouts.{measure_in, greatest_alignment}
-use Rattle.planus_schema.specs.Names.{HeadV, SpaceV, type_named, setting, has, is_set}
+use Rattle.planus_schema.specs.Defaults.{ValueV, absent, integer, float, text, empty, default_said}
+use Rattle.planus_schema.specs.Names.{HeadV, SpaceV, type_named, setting, has}
 
--- no default, and not `required` or `deprecated`
+-- not `required` or `deprecated`
 abbrev pub is_plain : FieldV → Bool
-is_plain f = not (is_set f.default) && not (has (codes "required") f.attributes)
-    && not (has (codes "deprecated") f.attributes)
+is_plain f = not (has (codes "required") f.attributes) && not (has (codes "deprecated") f.attributes)
+
+-- the value that a table's field of the type has without a default
+abbrev pub is_zero_value : ValueV → Bool
+is_zero_value absent = false
+is_zero_value (integer n) = n.magnitude == 0
+is_zero_value (float w) = bytes_eq w (codes "0")
+is_zero_value (text w) = false
+is_zero_value empty = false
+
+abbrev pub is_zero_said : Option (Option ValueV) → Bool
+is_zero_said None = false
+is_zero_said (Some None) = false
+is_zero_said (Some (Some v)) = is_zero_value v
+
+-- no default, or zero
+abbrev pub is_zero_default : List HeadV → FieldType → Option LiteralV → Bool
+is_zero_default hs t None = true
+is_zero_default hs t (Some l) = is_zero_said (default_said hs t (Some l))
 
 pub record SaysStructField (hs : List HeadV) (space : SpaceV) (bodies : List Body) (d : FieldV)
     (f : StructField) : Type 0 where
@@ -26,6 +46,7 @@ pub record SaysStructField (hs : List HeadV) (space : SpaceV) (bodies : List Bod
   pub kind : type_named hs space d.kind ≡ Some (record { vector = false; base = f.base })
   pub measure : measure_in bodies f.base ≡ Some (record { size = f.size; alignment = f.alignment })
   pub plain : is_plain d ≡ true
+  pub zero : is_zero_default hs (record { vector = false; base = f.base }) d.default ≡ true
 
 abbrev pub natural_of : Option Number → Option ℕ
 natural_of None = None

@@ -4,7 +4,7 @@ use Rattle.std.specs.Prelude.{codes}
 use Rattle.std.specs.Prelude.{if◌then◌else◌, List, [], ◌∷◌, ◌++◌, map, Option, Some, None}
 use Rattle.std.specs.Prelude.{slice_get}
 use Rattle.std.specs.Option.{option_map}
-use Rattle.planus_syntax.specs.Values.{Name, kind_of, attribute_of}
+use Rattle.planus_syntax.specs.Values.{Name, kind_of, attribute_of, literal_of}
 use Rattle.planus_syntax.specs.declared.value.Attribute.{Attribute}
 use Rattle.planus_syntax.specs.declared.value.Field.{Field}
 use Rattle.planus_syntax.specs.declared.value.Record.{Record}
@@ -17,8 +17,8 @@ use Rattle.planus_layout.specs.Numbers.{scalar_size}
 use Rattle.planus_layout.specs.Distinct.{is_in}
 use Rattle.planus_layout.specs.Layouts.{next_multiple, is_alignment, measure_of_body}
 use Rattle.planus_schema.specs.declared.fault.Problem.TheVariants as problem
-use Rattle.planus_schema.specs.Names.{HeadV, SpaceV, type_named, has, setting, is_set, attribute_named}
-use Rattle.planus_schema.specs.Structs.{number_in, alignment_said}
+use Rattle.planus_schema.specs.Names.{HeadV, SpaceV, type_named, has, setting, attribute_named}
+use Rattle.planus_schema.specs.Structs.{number_in, alignment_said, is_zero_default}
 use Rattle.planus_schema.specs.Tables.{at_most}
 use Rattle.planus_schema.specs.Wrong.{Broken, broken, when, first, wrong_kind}
 
@@ -64,18 +64,20 @@ abbrev pub end_of : ℕ → Option Measure → ℕ
 end_of at None = at
 end_of at (Some m) = next_multiple m.alignment at + m.size
 
-abbrev pub is_vector : Option FieldType → Bool
-is_vector None = false
-is_vector (Some t) = t.vector
+-- no vector, and without a default or with zero
+abbrev pub wrong_single : List HeadV → Field → Option FieldType → Option Broken
+wrong_single hs f None = None
+wrong_single hs f (Some t) = first (when t.vector problem.NoStructField f.left)
+    (when (not (is_zero_default hs t (option_map literal_of f.default))) problem.DefaultInStruct
+    f.left)
 
 abbrev pub wrong_plain : List HeadV → SpaceV → Field → Option Broken
 wrong_plain hs space f =
     let set = map attribute_of f.attributes.items in
-    first (when (is_set f.default) problem.DefaultInStruct f.left)
-    (first (when (has (codes "required") set || has (codes "deprecated") set)
+    first (when (has (codes "required") set || has (codes "deprecated") set)
     problem.AttributeInStruct f.left)
     (first (wrong_kind hs space f.kind)
-    (when (is_vector (type_named hs space (kind_of f.kind))) problem.NoStructField f.left)))
+    (wrong_single hs f (type_named hs space (kind_of f.kind))))
 
 abbrev pub wrong_type : List (Option Measure) → ℕ → ℕ → Option FieldType → Option Broken
 wrong_type ms at left None = None

@@ -335,7 +335,7 @@ fn enum_at<'b>(heads: &'b Heads, index: usize) -> Option<&'b Enumeration>
     }
 }
 
-fn literal_default(
+pub(crate) fn literal_default(
     alloc: Global,
     heads: &Heads,
     kind: FieldType,

@@ -35,7 +35,7 @@ pub enum Problem {
     NoStructField,
     /// A struct or an enum in a struct is declared after it, or is the struct itself.
     DeclaredLater,
-    /// A field of a struct has a default.
+    /// A field of a struct has a default other than zero.
     DefaultInStruct,
     /// A field of a struct is `required` or `deprecated`.
     AttributeInStruct,

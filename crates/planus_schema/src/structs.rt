@@ -1,45 +1,83 @@
 //! The places of a struct's fields.
 
 ghost use Rattle.std.specs.Prelude.{◌≡◌, ◌≤◌, ◌<◌, ◌+◌, true, false, map, IfOk, Some};
-ghost use Rattle.std.specs.Prelude.{[], codes};
-ghost use Rattle.planus_syntax.specs.Values.{field_of, attribute_of};
+ghost use Rattle.std.specs.Prelude.{[], codes, not};
+ghost use Rattle.std.specs.Option.{option_map};
+ghost use Rattle.planus_syntax.specs.Values.{field_of, attribute_of, literal_of};
 ghost use Rattle.planus_schema.specs.inner.Read.{IsMeasureRead, IsStructFieldRead};
 ghost use Rattle.planus_schema.specs.inner.Read.{IsLayoutRead, IsStructRead};
 ghost use Rattle.planus_schema.specs.inner.Scopes.{scope_heads, scope_space};
 ghost use Rattle.planus_schema.specs.Names.{type_named, setting as setting_lem};
 ghost use Rattle.planus_layout.specs.Layouts.{is_alignment as is_alignment_lem};
-ghost use Rattle.planus_schema.specs.Structs.{is_plain};
+ghost use Rattle.planus_schema.specs.Defaults.{value_of, some_default};
+ghost use Rattle.planus_schema.specs.Structs.{is_plain, is_zero_said, is_zero_default};
 ghost use Rattle.planus_schema.specs.Structs.{alignment_said, natural_of, number_in};
 ghost use Rattle.planus_layout.specs.Numbers.{integer_said};
 ghost use Rattle.planus_schema.specs.Names.{attribute_named};
-ghost use Rattle.planus_schema.specs.Wrong.{Tells};
+ghost use Rattle.planus_schema.specs.Wrong.{Tells, when};
 ghost use Rattle.planus_schema.specs.WrongStructs.{wrong_plain, wrong_measure, wrong_struct};
 ghost use Rattle.planus_schema.specs.WrongStructs.{wrong_struct_field, wrong_struct_fields};
 ghost use Rattle.planus_schema.specs.WrongStructs.{measure_among, measures_of};
 ghost use Rattle.planus_schema.specs.WrongStructs.{wrong_alignment};
 
 use crate::attributes::{has, setting};
+use crate::defaults::literal_default;
 use crate::fault::{Problem, Stop, or_return, wrong};
 use crate::kind::type_of;
 use crate::names::{copied, take_key};
 use crate::scope::Scope;
 use planus_layout::{
-    Base, Declared, Layout, Measure, Struct, StructField, greater, integer, is_alignment,
-    measure_of, next_multiple,
+    Base, Declared, FieldType, Layout, Measure, Struct, StructField, Value, greater, integer,
+    is_alignment, measure_of, next_multiple,
 };
 use planus_syntax::{Attribute, Field, Literal, Record, is_number};
 use std::collections::BTreeMap;
+
+fn is_zero(value: &Option<Value>) -> bool
+    ensures { result ≡ is_zero_said (some_default (option_map value_of value.now)) }
+{
+    match value {
+        Some(Value::Integer(number)) => number.magnitude == 0,
+        Some(Value::Float(word)) => word.as_slice() == b"0".as_slice(),
+        _ => false,
+    }
+}
+
+fn check_zero(
+    scope: &Scope,
+    kind: FieldType,
+    literal: &Option<Literal>,
+    left: usize,
+) -> Result<(), Stop>
+    ensures zero { IfOk result (λ _. is_zero_default (scope_heads scope.now) kind
+        (option_map literal_of literal.now) ≡ true) }
+    ensures wrong { Tells (when (not (is_zero_default (scope_heads scope.now) kind
+        (option_map literal_of literal.now))) Problem.DefaultInStruct left) result }
+{
+    let literal = match literal {
+        Some(literal) => literal,
+        None => return Ok(()),
+    };
+    let value = or_return!(
+        literal_default(scope.alloc, scope.heads, kind, literal),
+        Stop::OutOfMemory
+    );
+    if is_zero(&value) {
+        Ok(())
+    } else {
+        Err(wrong(Problem::DefaultInStruct, left))
+    }
+}
 
 fn base_in_struct(scope: &Scope, field: &Field) -> Result<Base, Stop>
     ensures kind { IfOk result (λ b. type_named (scope_heads scope.now) (scope_space scope.now)
         (field_of field.now).kind ≡ Some (record { vector = false; base = b })) }
     ensures plain { IfOk result (λ _. is_plain (field_of field.now) ≡ true) }
+    ensures zero { IfOk result (λ b. is_zero_default (scope_heads scope.now)
+        (record { vector = false; base = b }) (field_of field.now).default ≡ true) }
     ensures wrong { Tells (wrong_plain (scope_heads scope.now) (scope_space scope.now) field.now)
         result }
 {
-    if field.default.is_some() {
-        return Err(wrong(Problem::DefaultInStruct, field.left));
-    }
     if has(&field.attributes, b"required") || has(&field.attributes, b"deprecated") {
         return Err(wrong(Problem::AttributeInStruct, field.left));
     }
@@ -47,6 +85,7 @@ fn base_in_struct(scope: &Scope, field: &Field) -> Result<Base, Stop>
     if kind.vector {
         return Err(wrong(Problem::NoStructField, field.left));
     }
+    or_return!(check_zero(scope, kind, &field.default, field.left));
     Ok(kind.base)
 }
 

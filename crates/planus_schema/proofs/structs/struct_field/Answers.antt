@@ -32,6 +32,7 @@ returns-clause-read c = record {
     kind = c.in-Ok.ensures.kind;
     measure = c.in-Ok-measure_in_struct.ensures.read.measure;
     plain = c.in-Ok.ensures.plain;
+    zero = c.in-Ok.ensures.zero;
   };
   placed = c.next_multiple-distance.ensures.next;
   within = c.if-distance-measure-gt65535.false;
