@@ -69,6 +69,9 @@ fn unsupported_enum(one: &Enum) -> Option<&'static str> {
 }
 
 fn unsupported_union(one: &Union) -> Option<&'static str> {
+    if one.members.is_empty() {
+        return Some("a union without members");
+    }
     if one.members.len() > MOST_MEMBERS {
         return Some("a union of more than 128 members");
     }

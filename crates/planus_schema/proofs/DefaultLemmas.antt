@@ -18,6 +18,7 @@ use Rattle.planus_layout.specs.declared.schema.Base.TheVariants as base
 use Rattle.planus_layout.specs.declared.schema.FieldType.{FieldType}
 use Rattle.planus_layout.specs.Numbers.{integer_said, is_float, is_bool, fits, zero_number, is_hexadecimal, without_sign}
 use Rattle.planus_schema.specs.Names.{HeadV, item_at, cut_words}
+use Rattle.planus_schema.specs.Enums.{variants_or_none}
 use Rattle.planus_schema.specs.Enums.{is_flags}
 use Rattle.planus_schema.specs.Defaults.{ValueV, absent, integer, float, text, empty, lone_word, is_null, null_or, if_fits, whole_number, number_default, truth, bool_number, named_bool, named_float, float_number, scalar_number, scalar_word, scalar_named_by, scalar_default, enum_quoted, value_named, value_name, value_in, as_integer, enum_named, is_among_values, among_values, flags_named, with_flag, or_flag, as_flags, text_default, vector_default, enum_at, default_in, base_default, zero_in, zero_scalar, zero_default, some_default, default_said, is_scalar_value, is_enum_value, is_text_value, is_vector_value, is_value, is_default}
 
@@ -113,7 +114,7 @@ integer_allowed (Some n) = one_allowed is_enum_value (integer n) refl
 
 value_allowed : (e : EnumerationV) (o : Option Name) → Allowed is_enum_value (value_in e o)
 value_allowed e None = none_allowed is_enum_value
-value_allowed e (Some w) = integer_allowed (value_named w (is_flags e) None e.variants)
+value_allowed e (Some w) = integer_allowed (value_named w (is_flags e) None (variants_or_none e.variants))
 
 among_allowed : (e : EnumerationV) (n : Number) → Allowed is_enum_value (among_values e n)
 among_allowed e n = chosen is_enum_value (is_among_values e n) (Some (integer n)) None (λ _. one_allowed is_enum_value (integer n) refl) (λ _. none_allowed is_enum_value)
@@ -210,7 +211,7 @@ pub default_lawful : (hs : List HeadV) (d : Option LiteralV) (t : FieldType) (o 
 default_lawful hs None t o e = none_lawful hs t.vector t.base o e
 default_lawful hs (Some l) t o e = literal_lawful hs t.vector t.base l o e
 
-pub no_flag : (e : EnumerationV) (ws : List (Vec ℕ)) (i : ℕ) (w : Vec ℕ) (total : ℕ) → i < length ws → w ≡ get_or ws i w → flags_named e (names_of (take i ws)) ≡ Some total → value_named w.items true None e.variants ≡ None → flags_named e (names_of ws) ≡ None
+pub no_flag : (e : EnumerationV) (ws : List (Vec ℕ)) (i : ℕ) (w : Vec ℕ) (total : ℕ) → i < length ws → w ≡ get_or ws i w → flags_named e (names_of (take i ws)) ≡ Some total → value_named w.items true None (variants_or_none e.variants) ≡ None → flags_named e (names_of ws) ≡ None
 no_flag e ws i w total l is t n =
     let rest = names_of (drop (i + 1) ws) in
     let s : names_of ws ≡ names_of (take i ws) ++ (w.items ∷ rest) = ap names_of (sym (take-append-drop i ws)) ∙ map-append (λ (v : Vec ℕ). v.items) (take i ws) (drop i ws) ∙ ap (λ vs. names_of (take i ws) ++ vs) (map_rest (λ (v : Vec ℕ). v.items) ws i w l is) in

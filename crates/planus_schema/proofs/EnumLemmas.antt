@@ -8,7 +8,8 @@ use Rattle.std.proofs.lemmas.List.Folds.{list_all-append}
 use Rattle.planus_syntax.specs.Values.{Name, VariantV, names_of, digits_of, path_of, attribute_of}
 use Rattle.planus_syntax.specs.declared.value.Enumeration.{Enumeration}
 use Rattle.planus_syntax.specs.declared.value.Variant.{Variant}
-use Rattle.planus_layout.specs.Distinct.{is_in}
+use Rattle.planus_layout.specs.Distinct.{is_in, AreDistinct}
+use Rattle.std.specs.Str.{bytes_eq}
 use Rattle.planus_schema.specs.declared.fault.Problem.TheVariants as problem
 use Rattle.planus_schema.specs.declared.fault.Stop.{Stop}
 use Rattle.planus_schema.specs.declared.fault.Stop.TheVariants as stop
@@ -18,9 +19,10 @@ use Rattle.planus_schema.specs.WrongEnums.{wrong_value, wrong_values, wrong_name
 use Rattle.planus_schema.proofs.FaultLemmas.{skip, passes, stops_first, stops_now}
 use Rattle.planus_layout.specs.declared.number.Number.{Number}
 use Rattle.planus_layout.specs.declared.scalar.Scalar.{Scalar}
+use Rattle.planus_layout.specs.declared.scalar.Scalar.TheVariants as scalar
 use Rattle.planus_layout.specs.declared.schema.EnumValue.{EnumValue}
 use Rattle.planus_layout.specs.Numbers.{fits, scalar_named}
-use Rattle.planus_schema.specs.Enums.{integer_in, integer_type, integer_type_of, is_integer_type, same_number, number_of_value, number_said, settled_said, value_said, values_said, IsValueAdded}
+use Rattle.planus_schema.specs.Enums.{integer_in, integer_type, integer_type_of, is_integer_type, same_number, number_of_value, number_said, settled_said, value_said, values_said, none_variant, variants_or_none, AreValues, IsValueAdded}
 use Rattle.planus_layout.proofs.Lists.{distinct_push, distinct_none, list_any-map}
 
 pub value_added : (s : Scalar) (v : VariantV) (n : Number) (old new : List EnumValue) (x : EnumValue) → new ≡ old ++ x ∷ [] → x.name.items ≡ v.name → names_of x.docs.items ≡ v.docs → x.number ≡ n → fits s n ≡ true → list_any (λ v. same_number v.number n) old ≡ false → IsValueAdded s v n old new
@@ -115,3 +117,44 @@ untyped e h = rw h refl
 
 pub typed : (e : Enumeration) (s : Scalar) → integer_type (path_of e.base) ≡ Some s → wrong_enum e ≡ first (wrong_names [] e.variants.items) (wrong_values s (has (codes "bit_flags") (map attribute_of e.attributes.items)) None [] e.variants.items)
 typed e s h = rw h refl
+
+fits_flag : (s : Scalar) (flags : Bool) → is_integer_type s ≡ true → fits s (record { negative = false; magnitude = if flags then 1 else 0 }) ≡ true
+fits_flag scalar.Bool true h = absurd cc
+fits_flag scalar.Bool false h = absurd cc
+fits_flag scalar.Byte true h = refl
+fits_flag scalar.Byte false h = refl
+fits_flag scalar.UByte true h = refl
+fits_flag scalar.UByte false h = refl
+fits_flag scalar.Short true h = refl
+fits_flag scalar.Short false h = refl
+fits_flag scalar.UShort true h = refl
+fits_flag scalar.UShort false h = refl
+fits_flag scalar.Int true h = refl
+fits_flag scalar.Int false h = refl
+fits_flag scalar.UInt true h = refl
+fits_flag scalar.UInt false h = refl
+fits_flag scalar.Long true h = refl
+fits_flag scalar.Long false h = refl
+fits_flag scalar.ULong true h = refl
+fits_flag scalar.ULong false h = refl
+fits_flag scalar.Float true h = absurd cc
+fits_flag scalar.Float false h = absurd cc
+fits_flag scalar.Double true h = absurd cc
+fits_flag scalar.Double false h = absurd cc
+
+none_said : (flags : Bool) → values_said flags None (none_variant ∷ []) ≡ Some (record { negative = false; magnitude = if flags then 1 else 0 } ∷ [])
+none_said true = refl
+none_said false = refl
+
+pub none_are : (s : Scalar) (flags : Bool) (x : EnumValue) → x.name.items ≡ codes "NONE" → names_of x.docs.items ≡ [] → x.number ≡ record { negative = false; magnitude = if flags then 1 else 0 } → is_integer_type s ≡ true → AreValues s flags (none_variant ∷ []) (x ∷ [])
+none_are s flags x name docs number h = record {
+  names = ap (λ w. w ∷ []) name;
+  docs = ap (λ w. w ∷ []) docs;
+  numbers = none_said flags ∙ ap (λ n. Some (n ∷ [])) (sym number);
+  within = rw (number, fits_flag s flags h) refl;
+  distinct = distinct_push same_number [] x.number refl (distinct_none same_number);
+}
+
+pub distinct_or_none : (vs : List VariantV) → AreDistinct (map (λ (v : VariantV). v.name) vs) → AreDistinct (map (λ (v : VariantV). v.name) (variants_or_none vs))
+distinct_or_none [] d = distinct_push bytes_eq [] (codes "NONE") refl d
+distinct_or_none (v ∷ vs) d = d

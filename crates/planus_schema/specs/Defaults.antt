@@ -23,7 +23,7 @@ use Rattle.planus_layout.specs.Numbers.{zero_number}
 use Rattle.planus_layout.specs.Numbers.{is_hexadecimal, without_sign, scalar_named}
 use Rattle.planus_schema.specs.Names.{HeadV, item_at, cut_words}
 use Rattle.planus_schema.specs.Enums.{number_said, settled_said, is_flags, numbers_said}
-use Rattle.planus_schema.specs.Enums.{same_number}
+use Rattle.planus_schema.specs.Enums.{same_number, variants_or_none}
 
 -- ---- values
 
@@ -129,7 +129,7 @@ value_name e p = name_in p.more
 
 abbrev pub value_in : EnumerationV → Option Name → Option ValueV
 value_in e None = None
-value_in e (Some w) = as_integer (value_named w (is_flags e) None e.variants)
+value_in e (Some w) = as_integer (value_named w (is_flags e) None (variants_or_none e.variants))
 
 abbrev pub enum_named : EnumerationV → PathV → Option ValueV
 enum_named e p = value_in e (value_name e p)
@@ -137,7 +137,7 @@ enum_named e p = value_in e (value_name e p)
 -- one of the values, or with `bit_flags` any number of the type
 abbrev pub is_among_values : EnumerationV → Number → Bool
 is_among_values e n = if is_flags e then fits_in (scalar_named e.base.first)
-    else list_any (λ v. same_number v n) (numbers_said None e.variants)
+    else list_any (λ v. same_number v n) (numbers_said None (variants_or_none e.variants))
   where
     fits_in : Option Scalar → Bool
     fits_in None = false
@@ -152,7 +152,7 @@ or_flag total (Some n) = Some (bit_or total n.magnitude)
 
 abbrev pub with_flag : EnumerationV → Option ℕ → Name → Option ℕ
 with_flag e None w = None
-with_flag e (Some total) w = or_flag total (value_named w true None e.variants)
+with_flag e (Some total) w = or_flag total (value_named w true None (variants_or_none e.variants))
 
 -- the values of these names, joined by or
 abbrev pub flags_named : EnumerationV → List Name → Option ℕ

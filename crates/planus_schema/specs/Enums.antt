@@ -54,6 +54,14 @@ values_said flags previous (v ∷ vs) =
     also_said (value_said flags (number_said previous v.value))
     (values_said flags (number_said previous v.value) vs)
 
+-- the value that nothing in braces stands for
+abbrev pub none_variant : VariantV
+none_variant = record { docs = []; name = codes "NONE"; value = None }
+
+abbrev pub variants_or_none : List VariantV → List VariantV
+variants_or_none [] = none_variant ∷ []
+variants_or_none (v ∷ vs) = v ∷ vs
+
 abbrev pub is_flags : EnumerationV → Bool
 is_flags e = has (codes "bit_flags") e.attributes
 
@@ -105,12 +113,14 @@ pub record IsEnum (e : Enum) : Type 0 where
   pub distinct : IsDistinct same_number (map number_of_value e.values.items)
   pub names : AreDistinct (map (λ v. v.name.items) e.values.items)
 
--- the enum is what is declared
+-- the enum is what is declared, with `NONE` alone for nothing in braces
 pub record SaysEnum (d : EnumerationV) (e : Enum) : Type 0 where
   pub single : d.base.more ≡ []
   pub scalar : scalar_named d.base.first ≡ Some e.scalar
   pub flags : e.flags ≡ is_flags d
-  pub names : map (λ v. v.name.items) e.values.items ≡ map (λ v. v.name) d.variants
-  pub docs : map (λ v. names_of v.docs.items) e.values.items ≡ map (λ v. v.docs) d.variants
-  pub numbers : values_said (is_flags d) None d.variants
+  pub names : map (λ v. v.name.items) e.values.items
+      ≡ map (λ v. v.name) (variants_or_none d.variants)
+  pub docs : map (λ v. names_of v.docs.items) e.values.items
+      ≡ map (λ v. v.docs) (variants_or_none d.variants)
+  pub numbers : values_said (is_flags d) None (variants_or_none d.variants)
       ≡ Some (map number_of_value e.values.items)

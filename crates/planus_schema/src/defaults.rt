@@ -9,7 +9,7 @@ ghost use Rattle.planus_schema.specs.Names.{head_of, item_at, is_set};
 ghost use Rattle.planus_schema.specs.Wrong.{Tells, when};
 ghost use Rattle.planus_schema.specs.WrongTables.{wrong_default};
 ghost use Rattle.planus_schema.specs.Defaults.{some_default};
-ghost use Rattle.planus_schema.specs.Enums.{same_number as same_number_lem, numbers_said};
+ghost use Rattle.planus_schema.specs.Enums.{same_number as same_number_lem, numbers_said, variants_or_none};
 ghost use Rattle.planus_schema.specs.Defaults.{value_of, float, number_default, as_flags};
 ghost use Rattle.planus_schema.specs.Defaults.{lone_word as lone_word_lem, is_null as is_null_lem};
 ghost use Rattle.planus_schema.specs.Defaults.{bool_number as bool_number_lem};
@@ -194,6 +194,36 @@ fn has_value(variants: &[Variant], number: Number) -> bool
     false
 }
 
+fn named_value(declared: &Enumeration, name: &[u8], flags: bool) -> Option<Number>
+    ensures { result ≡ value_named_lem name.now flags None
+        (variants_or_none (enumeration_of declared.now).variants) }
+{
+    if !declared.variants.is_empty() {
+        value_named(&declared.variants, name, flags)
+    } else if name == b"NONE".as_slice() {
+        settled(
+            flags,
+            Number {
+                negative: false,
+                magnitude: 0,
+            },
+        )
+    } else {
+        None
+    }
+}
+
+fn is_value(declared: &Enumeration, number: Number) -> bool
+    ensures { result ≡ list_any (λ v. same_number_lem v number)
+        (numbers_said None (variants_or_none (enumeration_of declared.now).variants)) }
+{
+    if declared.variants.is_empty() {
+        !number.negative && number.magnitude == 0
+    } else {
+        has_value(&declared.variants, number)
+    }
+}
+
 fn is_among_values(declared: &Enumeration, number: Number) -> bool
     ensures { result ≡ is_among_values_lem (enumeration_of declared.now) number }
 {
@@ -203,7 +233,7 @@ fn is_among_values(declared: &Enumeration, number: Number) -> bool
             None => false,
         }
     } else {
-        has_value(&declared.variants, number)
+        is_value(declared, number)
     }
 }
 
@@ -223,7 +253,7 @@ fn value_in(declared: &Enumeration, name: &[u8]) -> Option<Value>
         ≡ value_in_lem (enumeration_of declared.now) (Some name.now) }
 {
     let flags = has(&declared.attributes, b"bit_flags");
-    match value_named(&declared.variants, name, flags) {
+    match named_value(declared, name, flags) {
         Some(number) => Some(Value::Integer(number)),
         None => None,
     }
@@ -254,7 +284,7 @@ fn flags_named(declared: &Enumeration, words: &[Vec<u8>]) -> Option<u64>
 {
     let mut total = 0;
     'words: for word in words {
-        match value_named(&declared.variants, word, true) {
+        match named_value(declared, word, true) {
             Some(number) => total |= number.magnitude,
             None => return None,
         }

@@ -1,11 +1,13 @@
 //! Enums.
 
-ghost use Rattle.std.specs.Prelude.{◌≡◌, ◌^◌, ◌<◌, true, false, map, IfOk, [], Some, None};
+ghost use Rattle.std.specs.Prelude.{◌≡◌, ◌^◌, ◌<◌, ◌∷◌, true, false, map, IfOk, [], Some, None};
+ghost use Rattle.std.specs.Prelude.{if◌then◌else◌};
 ghost use Rattle.std.specs.List.{list_any};
 ghost use Rattle.planus_syntax.specs.Values.{path_of, variant_of, enumeration_of};
 ghost use Rattle.planus_schema.specs.Enums.{same_number as same_number_lem, number_of_value};
 ghost use Rattle.planus_schema.specs.Enums.{SaysEnum, IsEnum};
 ghost use Rattle.planus_schema.specs.Enums.{IsValueAdded, AreValues, number_said};
+ghost use Rattle.planus_schema.specs.Enums.{none_variant, variants_or_none, is_integer_type};
 ghost use Rattle.planus_schema.specs.Enums.{settled_said, integer_type as integer_type_lem};
 ghost use Rattle.planus_schema.specs.Wrong.{Tells};
 ghost use Rattle.planus_schema.specs.WrongEnums.{wrong_value, wrong_names};
@@ -18,7 +20,7 @@ use crate::names::{copied, take_key};
 use crate::scalar_names::scalar_named;
 use planus_layout::{Enum, EnumValue, Number, Scalar, following, integer};
 use planus_syntax::{Enumeration, Path, Variant};
-use std::alloc::Global;
+use std::alloc::{AllocError, Global};
 use std::collections::BTreeMap;
 
 fn integer_type(path: &Path) -> Option<Scalar>
@@ -149,6 +151,49 @@ fn enum_values(
     Ok(values)
 }
 
+fn none_number(flags: bool) -> Number
+    ensures { result ≡ record { negative = false; magnitude = if flags then 1 else 0 } }
+{
+    Number {
+        negative: false,
+        magnitude: if flags { 1 } else { 0 },
+    }
+}
+
+fn none_alone(alloc: Global, scalar: Scalar, flags: bool) -> Result<Vec<EnumValue>, AllocError>
+    requires { is_integer_type scalar ≡ true }
+    ensures says { IfOk result (λ values. AreValues scalar flags (none_variant ∷ [])
+        values.items) }
+{
+    let name = or_return!(Vec::from_slice(alloc, b"NONE"));
+    let number = none_number(flags);
+    let mut values = Vec::new(alloc);
+    values.push(EnumValue {
+        name,
+        docs: Vec::new(alloc),
+        number,
+    })?;
+    Ok(values)
+}
+
+fn values_or_none(
+    alloc: Global,
+    scalar: Scalar,
+    flags: bool,
+    variants: &[Variant],
+) -> Result<Vec<EnumValue>, Stop>
+    requires { is_integer_type scalar ≡ true }
+    ensures says { IfOk result (λ values. AreValues scalar flags
+        (variants_or_none (map variant_of variants.now)) values.items) }
+    ensures wrong { Tells (wrong_values scalar flags None [] variants.now) result }
+{
+    if variants.is_empty() {
+        let values = or_return!(none_alone(alloc, scalar, flags), Stop::OutOfMemory);
+        return Ok(values);
+    }
+    enum_values(alloc, scalar, flags, variants)
+}
+
 pub(crate) fn enum_of(alloc: Global, declared: &Enumeration) -> Result<Enum, Stop>
     ensures says { IfOk result (λ e. SaysEnum (enumeration_of declared.now) e) }
     ensures sound { IfOk result (λ e. IsEnum e) }
@@ -162,7 +207,7 @@ pub(crate) fn enum_of(alloc: Global, declared: &Enumeration) -> Result<Enum, Sto
         None => return Err(wrong(Problem::NoIntegerType, declared.base.left)),
     };
     or_return!(check_names(alloc, &declared.variants));
-    let values = or_return!(enum_values(alloc, scalar, flags, &declared.variants));
+    let values = or_return!(values_or_none(alloc, scalar, flags, &declared.variants));
     Ok(Enum {
         scalar,
         flags,

@@ -3,8 +3,8 @@ use Rattle.std.proofs.Common.{◌≡◌, ℕ, Bool, true, false, List, [], ◌�
 use Rattle.std.specs.Prelude.{codes, ◌==◌, ◌||◌, not}
 use Rattle.planus_syntax.specs.Tokens.{Piece, word, text, doc, mark}
 use Rattle.planus_syntax.specs.Values.{closing_before, PathV, KindV, single, vector, LiteralV, numeral, named, quote, nothing, LabelV, AttributeV, FieldV, RecordV, VariantV, EnumerationV, MemberV, UnionV, MethodV, ServiceV, ItemV, include, native_include, namespace, attribute, table, struct, enumeration, union, service, root, identifier, extension, DeclarationV, Before, each_before, doc_before, docs_before, dotted_before, path_before, kind_before, literal_before, after_before, number_before, label_piece, label_before, attribute_before, next_before, attributes_before, field_before, record_before, variant_before, list_before, comma_before, enumeration_before, member_before, union_before, method_before, service_before, quoted_before, rooted_before, declared_before, namespace_before, item_before, declaration_before, schema_pieces}
-use Rattle.planus_syntax.specs.Reading.{begins_closing, closing_at, Fault, Reads, optional_at, ◌>>=◌, begins_mark, begins_doc, begins_next, is_some, inside, mark_at, word_at, doc_at, number_at, label_at, list_at, with_items, docs_at, dotted_at, path_at, kind_at, brackets_at, name_at, literal_at, attribute_at, next_attribute_at, attributes_at, field_at, record_at, comma_at, variant_at, next_variant_at, variants_at, enumeration_at, member_at, next_member_at, members_at, union_at, method_at, service_at, quoted_at, rooted_at, namespace_at, declared_at, as_item, statement_at, item_at, declaration_at, schema_at}
-use Rattle.planus_syntax.specs.Values.{is_whole, is_whole_item, is_some_of, AreWhole}
+use Rattle.planus_syntax.specs.Reading.{begins_closing, closing_at, Fault, Reads, optional_at, ◌>>=◌, begins_mark, begins_doc, begins_next, is_some, inside, if_inside, mark_at, word_at, doc_at, number_at, label_at, list_at, with_items, docs_at, dotted_at, path_at, kind_at, brackets_at, name_at, literal_at, attribute_at, next_attribute_at, attributes_at, field_at, record_at, comma_at, variant_at, next_variant_at, variants_at, enumeration_at, member_at, next_member_at, members_at, union_at, method_at, service_at, quoted_at, rooted_at, namespace_at, declared_at, as_item, statement_at, item_at, declaration_at, schema_at}
+use Rattle.planus_syntax.specs.Values.{is_whole, is_whole_item, is_comma_after, AreWhole}
 use Rattle.planus_syntax.proofs.Many.{Again, list_again, suits_all, always, all_always}
 use Rattle.planus_syntax.proofs.Loops.{dotted_looped, docs_looped, attributes_looped, fields_looped, variants_looped, members_looped, methods_looped, declarations_looped}
 use Rattle.std.proofs.lemmas.Bool.{eq-eqb}
@@ -197,10 +197,9 @@ variants_are_again = record {
   begins = λ v rest. (ap not (docs_closing v.docs (word v.name ∷ after_before 61 number_before v.value rest)), refl);
 }
 
-variants_again : (xs : List VariantV) (rest : List Piece) → is_some_of xs ≡ true → begins_next rest ≡ false → ends_value rest ≡ true → variants_at (list_before variant_before xs rest) ≡ Ok (xs, rest)
+variants_again : (v : VariantV) (more : List VariantV) (rest : List Piece) → begins_next rest ≡ false → ends_value rest ≡ true → variants_at (list_before variant_before (v ∷ more) rest) ≡ Ok (v ∷ more, rest)
 unfolding variants_at
-variants_again [] rest i h k = absurd cc
-variants_again (v ∷ more) rest i h k =
+variants_again v more rest h k =
     let tail = each_before (next_before variant_before) more rest in
     let suits = suits_all begins_next next_variant_at (next_before variant_before) ends_value always variants_are_again more rest k in
     step (variant_at (variant_before v tail)) (v, tail) _ (variant_again v tail suits)
@@ -213,16 +212,29 @@ members_are_again = record {
   begins = λ v rest. (ap not (docs_closing v.docs (path_before v.path (after_before 58 path_before v.target (after_before 61 number_before v.value rest)))), refl);
 }
 
-members_again : (xs : List MemberV) (rest : List Piece) → is_some_of xs ≡ true → begins_next rest ≡ false → ends_value rest ≡ true → members_at (list_before member_before xs rest) ≡ Ok (xs, rest)
+members_again : (v : MemberV) (more : List MemberV) (rest : List Piece) → begins_next rest ≡ false → ends_value rest ≡ true → members_at (list_before member_before (v ∷ more) rest) ≡ Ok (v ∷ more, rest)
 unfolding members_at
-members_again [] rest i h k = absurd cc
-members_again (v ∷ more) rest i h k =
+members_again v more rest h k =
     let tail = each_before (next_before member_before) more rest in
     let suits = suits_all begins_next next_member_at (next_before member_before) ends_value always members_are_again more rest k in
     step (member_at (member_before v tail)) (v, tail) _ (member_again v tail suits)
     ∙ ap (λ r. with_items (v ∷ []) r) (list_again begins_next next_member_at (next_before member_before) ends_value always members_looped members_are_again more rest (all_always more) h k)
 
-enumeration_again : (e : EnumerationV) (rest : List Piece) → is_some_of e.variants ≡ true → enumeration_at (enumeration_before e rest) ≡ Ok (e, rest)
+variants_inside : (xs : List VariantV) (c : Bool) (docs : List (List ℕ)) (rest : List Piece) → is_comma_after xs c ≡ true → if_inside variants_at (list_before variant_before xs (comma_before c (closing_before docs rest))) ≡ Ok (xs, comma_before c (closing_before docs rest))
+variants_inside [] true docs rest i = absurd cc
+variants_inside [] false docs rest i = rw (closing_outside docs rest) refl
+variants_inside (v ∷ more) c docs rest i =
+    let tail = each_before (next_before variant_before) more (comma_before c (closing_before docs rest)) in
+    rw (docs_inside v.docs v.name (after_before 61 number_before v.value tail)) (variants_again v more (comma_before c (closing_before docs rest)) (comma_stops c docs rest) (comma_ends c docs rest))
+
+members_inside : (xs : List MemberV) (c : Bool) (docs : List (List ℕ)) (rest : List Piece) → is_comma_after xs c ≡ true → if_inside members_at (list_before member_before xs (comma_before c (closing_before docs rest))) ≡ Ok (xs, comma_before c (closing_before docs rest))
+members_inside [] true docs rest i = absurd cc
+members_inside [] false docs rest i = rw (closing_outside docs rest) refl
+members_inside (v ∷ more) c docs rest i =
+    let tail = each_before (next_before member_before) more (comma_before c (closing_before docs rest)) in
+    rw (docs_inside v.docs v.path.first (each_before dotted_before v.path.more (after_before 58 path_before v.target (after_before 61 number_before v.value tail)))) (members_again v more (comma_before c (closing_before docs rest)) (comma_stops c docs rest) (comma_ends c docs rest))
+
+enumeration_again : (e : EnumerationV) (rest : List Piece) → is_comma_after e.variants e.comma ≡ true → enumeration_at (enumeration_before e rest) ≡ Ok (e, rest)
 unfolding enumeration_at
 enumeration_again e rest i =
     let c = comma_before e.comma (closing_before e.trailing rest) in
@@ -230,17 +242,17 @@ enumeration_again e rest i =
     let a = attributes_before e.attributes (mark 123 ∷ v) in
     step (path_at (path_before e.base a)) (e.base, a) _ (path_again e.base a (attributes_front 46 e.attributes (mark 123 ∷ v) refl refl))
     ∙ step (attributes_at a) (e.attributes, mark 123 ∷ v) _ (attributes_again e.attributes (mark 123 ∷ v) refl)
-    ∙ step (variants_at v) (e.variants, c) _ (variants_again e.variants c i (comma_stops e.comma e.trailing rest) (comma_ends e.comma e.trailing rest))
+    ∙ step (if_inside variants_at v) (e.variants, c) _ (variants_inside e.variants e.comma e.trailing rest i)
     ∙ step (comma_at c) (e.comma, closing_before e.trailing rest) _ (comma_again e.comma e.trailing rest)
     ∙ step (closing_at (closing_before e.trailing rest)) (e.trailing, rest) _ (closing_again e.trailing rest)
 
-union_again : (u : UnionV) (rest : List Piece) → is_some_of u.members ≡ true → union_at (union_before u rest) ≡ Ok (u, rest)
+union_again : (u : UnionV) (rest : List Piece) → is_comma_after u.members u.comma ≡ true → union_at (union_before u rest) ≡ Ok (u, rest)
 unfolding union_at
 union_again u rest i =
     let c = comma_before u.comma (closing_before u.trailing rest) in
     let v = list_before member_before u.members c in
     step (attributes_at (attributes_before u.attributes (mark 123 ∷ v))) (u.attributes, mark 123 ∷ v) _ (attributes_again u.attributes (mark 123 ∷ v) refl)
-    ∙ step (members_at v) (u.members, c) _ (members_again u.members c i (comma_stops u.comma u.trailing rest) (comma_ends u.comma u.trailing rest))
+    ∙ step (if_inside members_at v) (u.members, c) _ (members_inside u.members u.comma u.trailing rest i)
     ∙ step (comma_at c) (u.comma, closing_before u.trailing rest) _ (comma_again u.comma u.trailing rest)
     ∙ step (closing_at (closing_before u.trailing rest)) (u.trailing, rest) _ (closing_again u.trailing rest)
 
@@ -351,11 +363,11 @@ struct_is : (left : ℕ) (v : RecordV) (rest : List Piece) → item_at (codes "s
 unfolding item_at
 struct_is left v rest = ap (as_item struct) (record_again v rest)
 
-enumeration_is : (left : ℕ) (v : EnumerationV) (rest : List Piece) → is_some_of v.variants ≡ true → item_at (codes "enum") left (enumeration_before v rest) ≡ Ok (enumeration v, rest)
+enumeration_is : (left : ℕ) (v : EnumerationV) (rest : List Piece) → is_comma_after v.variants v.comma ≡ true → item_at (codes "enum") left (enumeration_before v rest) ≡ Ok (enumeration v, rest)
 unfolding item_at
 enumeration_is left v rest i = ap (as_item enumeration) (enumeration_again v rest i)
 
-union_is : (left : ℕ) (v : UnionV) (rest : List Piece) → is_some_of v.members ≡ true → item_at (codes "union") left (union_before v rest) ≡ Ok (union v, rest)
+union_is : (left : ℕ) (v : UnionV) (rest : List Piece) → is_comma_after v.members v.comma ≡ true → item_at (codes "union") left (union_before v rest) ≡ Ok (union v, rest)
 unfolding item_at
 union_is left v rest i = ap (as_item union) (union_again v rest i)
 

@@ -6,7 +6,7 @@ use Rattle.std.proofs.lemmas.Bool.{eqb-true}
 use Rattle.planus_syntax.specs.Tokens.{Piece, word, number, text, doc, mark}
 use Rattle.planus_syntax.specs.Values.{closing_before, Name, PathV, KindV, single, vector, LiteralV, numeral, named, quote, nothing, LabelV, AttributeV, FieldV, RecordV, VariantV, EnumerationV, MemberV, UnionV, MethodV, ServiceV, ItemV, include, native_include, namespace, attribute, table, struct, enumeration, union, service, root, identifier, extension, DeclarationV, Before, each_before, doc_before, docs_before, dotted_before, path_before, kind_before, literal_before, after_before, number_before, label_before, attribute_before, next_before, attributes_before, field_before, record_before, variant_before, list_before, comma_before, enumeration_before, member_before, union_before, method_before, service_before, quoted_before, rooted_before, declared_before, namespace_before, item_before, declaration_before, schema_pieces}
 use Rattle.planus_syntax.specs.declared.parse_fault.ParseFault.TheVariants as fault
-use Rattle.planus_syntax.specs.Reading.{closing_at, Looped, Takes, Fault, Reads, optional_at, begins_mark, begins_doc, begins_next, is_some, inside, mark_at, word_at, doc_at, number_at, text_at, label_at, list_at, with_items, docs_at, dotted_at, path_at, kind_at, brackets_at, name_at, literal_at, attribute_at, next_attribute_at, attributes_at, field_at, record_at, comma_at, variant_at, next_variant_at, variants_at, enumeration_at, member_at, next_member_at, members_at, union_at, method_at, service_at, quoted_at, rooted_at, namespace_at, declared_at, as_item, statement_at, item_at, declaration_at, schema_at}
+use Rattle.planus_syntax.specs.Reading.{closing_at, Looped, Takes, Fault, Reads, optional_at, begins_mark, begins_doc, begins_next, is_some, inside, if_inside, mark_at, word_at, doc_at, number_at, text_at, label_at, list_at, with_items, docs_at, dotted_at, path_at, kind_at, brackets_at, name_at, literal_at, attribute_at, next_attribute_at, attributes_at, field_at, record_at, comma_at, variant_at, next_variant_at, variants_at, enumeration_at, member_at, next_member_at, members_at, union_at, method_at, service_at, quoted_at, rooted_at, namespace_at, declared_at, as_item, statement_at, item_at, declaration_at, schema_at}
 use Rattle.planus_syntax.proofs.Many.{bind_ok, ok_is, ok, list_takes}
 
 guard : {A : Type 0} (b : Bool) (x y : A) (e : Fault) → cond b (ok x) (Err e) ≡ Ok y → (b ≡ true) × (x ≡ y)
@@ -337,6 +337,13 @@ variants_take ps x e =
     let a = bind_ok _ _ x e in
     firsts variant_before begins_next next_variant_at ps a.0 x variants_looped next_variant_takes (variant_takes ps a.0 a.1) a.2
 
+inside_takes : {A : Type 0} (read : List Piece → Reads (List A)) (before : Before A) → Takes read (list_before before) → Takes (if_inside read) (list_before before)
+inside_takes read before takes ps x e =
+    chosen (inside ps) _ _ (ps ≡ list_before before x.0 x.1) x e (λ _ h. takes ps x h) (λ h. subst (λ y. ps ≡ list_before before y.0 y.1) (ok_is ([], ps) x h) refl)
+
+pub variants_inside_take : Takes (if_inside variants_at) (list_before variant_before)
+variants_inside_take = inside_takes variants_at variant_before variants_take
+
 pub enumeration_takes : Takes enumeration_at enumeration_before
 unfolding enumeration_at
 enumeration_takes ps x e =
@@ -354,7 +361,7 @@ enumeration_takes ps x e =
     (path_takes y1.0 y2.0 y2.1) ∙ ap (λ (r : List Piece). path_before y2.0.0 r) (
     (attributes_takes y2.0.1 y3.0 y3.1) ∙ ap (λ (r : List Piece). attributes_before y3.0.0 r) (
     (mark_takes 123 y3.0.1 y4.0 y4.1) ∙ ap (λ (r : List Piece). mark 123 ∷ r) (
-    (variants_take y4.0 y5.0 y5.1) ∙ ap (λ (r : List Piece). list_before variant_before y5.0.0 r) (
+    (variants_inside_take y4.0 y5.0 y5.1) ∙ ap (λ (r : List Piece). list_before variant_before y5.0.0 r) (
     (comma_takes y5.0.1 y6.0 y6.1) ∙ ap (λ (r : List Piece). comma_before y6.0.0 r) (
     closing_takes y6.0.1 y7.0 y7.1))))))))
 
@@ -392,6 +399,9 @@ members_take ps x e =
     let a = bind_ok _ _ x e in
     firsts member_before begins_next next_member_at ps a.0 x members_looped next_member_takes (member_takes ps a.0 a.1) a.2
 
+pub members_inside_take : Takes (if_inside members_at) (list_before member_before)
+members_inside_take = inside_takes members_at member_before members_take
+
 pub union_takes : Takes union_at union_before
 unfolding union_at
 union_takes ps x e =
@@ -405,7 +415,7 @@ union_takes ps x e =
     ((word_takes ps y0.0 y0.1) ∙ ap (λ (r : List Piece). word y0.0.0 ∷ r) (
     (attributes_takes y0.0.1 y1.0 y1.1) ∙ ap (λ (r : List Piece). attributes_before y1.0.0 r) (
     (mark_takes 123 y1.0.1 y2.0 y2.1) ∙ ap (λ (r : List Piece). mark 123 ∷ r) (
-    (members_take y2.0 y3.0 y3.1) ∙ ap (λ (r : List Piece). list_before member_before y3.0.0 r) (
+    (members_inside_take y2.0 y3.0 y3.1) ∙ ap (λ (r : List Piece). list_before member_before y3.0.0 r) (
     (comma_takes y3.0.1 y4.0 y4.1) ∙ ap (λ (r : List Piece). comma_before y4.0.0 r) (
     closing_takes y4.0.1 y5.0 y5.1))))))
 

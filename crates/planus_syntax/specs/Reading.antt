@@ -277,6 +277,10 @@ variants_at ps = do
   first ← variant_at ps
   with_items (first.0 ∷ []) (list_at begins_next next_variant_at first.1)
 
+-- nothing before a closing brace, else this
+abbrev pub if_inside : {A : Type 0} → (List Piece → Reads (List A)) → List Piece → Reads (List A)
+if_inside read ps = if inside ps then read ps else Ok ([], ps)
+
 unfoldable pub enumeration_at : List Piece → Reads EnumerationV
 enumeration_at ps = do
   name ← word_at ps
@@ -284,7 +288,7 @@ enumeration_at ps = do
   base ← path_at colon
   attributes ← attributes_at base.1
   start ← mark_at 123 attributes.1
-  variants ← variants_at start
+  variants ← if_inside variants_at start
   comma ← comma_at variants.1
   end ← closing_at comma.1
   Ok (
@@ -320,7 +324,7 @@ union_at ps = do
   name ← word_at ps
   attributes ← attributes_at name.1
   start ← mark_at 123 attributes.1
-  members ← members_at start
+  members ← if_inside members_at start
   comma ← comma_at members.1
   end ← closing_at comma.1
   Ok (

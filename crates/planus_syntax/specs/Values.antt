@@ -1,6 +1,6 @@
 -- A schema, and its tokens. `x_before v rest` is the tokens of v before those of rest.
 use Rattle.std.specs.Prelude.{◌≡◌, ℕ, Bool, true, false, List, [], ◌∷◌, map, codes, Option, Some}
-use Rattle.std.specs.Prelude.{None}
+use Rattle.std.specs.Prelude.{None, not}
 use Rattle.std.specs.List.{AllByRecursion}
 use Rattle.std.specs.Option.{option_map}
 use Rattle.std.specs.Global.{Vec}
@@ -268,11 +268,12 @@ declaration_before d rest = docs_before d.docs (item_before d.item rest)
 abbrev pub schema_pieces : List DeclarationV → List Piece
 schema_pieces ds = each_before declaration_before ds []
 
-abbrev pub is_some_of : {A : Type 0} → List A → Bool
-is_some_of [] = false
-is_some_of (x ∷ xs) = true
+-- no comma alone
+abbrev pub is_comma_after : {A : Type 0} → List A → Bool → Bool
+is_comma_after [] comma = not comma
+is_comma_after (x ∷ xs) comma = true
 
--- an enum has a variant, and a union a member
+-- in an enum and a union a last comma is after an item
 abbrev pub is_whole_item : ItemV → Bool
 is_whole_item (include w) = true
 is_whole_item (native_include w) = true
@@ -280,8 +281,8 @@ is_whole_item (namespace p) = true
 is_whole_item (attribute l) = true
 is_whole_item (table r) = true
 is_whole_item (struct r) = true
-is_whole_item (enumeration e) = is_some_of e.variants
-is_whole_item (union u) = is_some_of u.members
+is_whole_item (enumeration e) = is_comma_after e.variants e.comma
+is_whole_item (union u) = is_comma_after u.members u.comma
 is_whole_item (service s) = true
 is_whole_item (root p) = true
 is_whole_item (identifier w) = true
@@ -293,7 +294,7 @@ is_whole d = is_whole_item d.item
 abbrev pub AreWhole : List DeclarationV → Type 0
 AreWhole ds = AllByRecursion (λ d. is_whole d ≡ true) ds
 
--- A schema that has a text: each enum has a variant, each union a member, and each token is lawful.
+-- A schema that has a text: a last comma is after an item, and each token is lawful.
 abbrev pub IsSchema : List DeclarationV → Type 0
 IsSchema ds = AreWhole ds × AllByRecursion (λ p. is_lawful p ≡ true) (schema_pieces ds)
 

@@ -4,7 +4,7 @@ ghost use Rattle.std.specs.Prelude.{map};
 ghost use Rattle.planus_syntax.specs.Tokens.{pieces_of};
 ghost use Rattle.planus_syntax.specs.Values.{VariantV, variant_of, item_of};
 ghost use Rattle.planus_syntax.specs.Values.{enumeration as enumeration_item};
-ghost use Rattle.planus_syntax.specs.Reading.{Gives, as_item};
+ghost use Rattle.planus_syntax.specs.Reading.{Gives, as_item, if_inside};
 ghost use Rattle.planus_syntax.specs.Reading.{begins_next as begins_next_lem};
 ghost use Rattle.planus_syntax.specs.Reading.{comma_at as comma_at_lem};
 ghost use Rattle.planus_syntax.specs.Reading.{variant_at as variant_at_lem};
@@ -17,7 +17,7 @@ ghost use Rattle.planus_syntax.specs.Values.{next_before, variant_before};
 use crate::parse::attributes::{attributes_at, closing_at, docs_at, value_at};
 use crate::parse::lists::{Items, list_after};
 use crate::parse::paths::path_at;
-use crate::parse::tokens::{after_mark, begins_next, mark_at, word_at};
+use crate::parse::tokens::{after_mark, begins_next, inside, mark_at, word_at};
 use crate::read_error::ReadError;
 use crate::token::Token;
 use crate::value::{Enumeration, Item, Variant};
@@ -88,6 +88,18 @@ fn variants_at(alloc: Global, tokens: &[Token]) -> Result<(Vec<Variant>, &[Token
     list_after::<MoreVariants>(alloc, first, rest)
 }
 
+fn variants_inside(alloc: Global, tokens: &[Token]) -> Result<(Vec<Variant>, &[Token]), ReadError>
+    ensures { GivesCounted (λ x. EachCounted VariantCounted variant_of (next_before variant_before) x.0.items
+        (pieces_of x.1.now)) (λ x. (map variant_of x.0.items, pieces_of x.1.now)) result
+        (if_inside variants_at_lem (pieces_of tokens.now)) }
+{
+    if inside(tokens) {
+        variants_at(alloc, tokens)
+    } else {
+        Ok((Vec::new(alloc), tokens))
+    }
+}
+
 pub(crate) fn enumeration_at(alloc: Global, tokens: &[Token]) -> Result<(Item, &[Token]), ReadError>
     ensures { GivesCounted (λ x. ItemCounted x.0 (pieces_of x.1.now))
         (λ x. (item_of x.0, pieces_of x.1.now)) result
@@ -98,7 +110,7 @@ pub(crate) fn enumeration_at(alloc: Global, tokens: &[Token]) -> Result<(Item, &
     let (base, rest) = or_return!(path_at(alloc, rest));
     let (attributes, rest) = or_return!(attributes_at(alloc, rest));
     let rest = or_return!(mark_at(rest, b'{'));
-    let (variants, rest) = or_return!(variants_at(alloc, rest));
+    let (variants, rest) = or_return!(variants_inside(alloc, rest));
     let (comma, rest) = or_return!(comma_at(rest));
     let (trailing, rest) = or_return!(closing_at(alloc, rest));
     Ok((

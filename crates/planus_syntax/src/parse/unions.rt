@@ -3,7 +3,7 @@
 ghost use Rattle.std.specs.Prelude.{map};
 ghost use Rattle.planus_syntax.specs.Tokens.{pieces_of};
 ghost use Rattle.planus_syntax.specs.Values.{MemberV, member_of, item_of, union as union_item};
-ghost use Rattle.planus_syntax.specs.Reading.{Gives, as_item};
+ghost use Rattle.planus_syntax.specs.Reading.{Gives, as_item, if_inside};
 ghost use Rattle.planus_syntax.specs.Reading.{begins_next as begins_next_lem};
 ghost use Rattle.planus_syntax.specs.Reading.{member_at as member_at_lem};
 ghost use Rattle.planus_syntax.specs.Reading.{next_member_at as next_member_at_lem};
@@ -16,7 +16,7 @@ use crate::parse::attributes::{attributes_at, closing_at, docs_at, target_at, va
 use crate::parse::enums::comma_at;
 use crate::parse::lists::{Items, list_after};
 use crate::parse::paths::path_at;
-use crate::parse::tokens::{begins_next, mark_at, word_at};
+use crate::parse::tokens::{begins_next, inside, mark_at, word_at};
 use crate::read_error::ReadError;
 use crate::token::Token;
 use crate::value::{Item, Member, UnionBody};
@@ -79,6 +79,18 @@ fn members_at(alloc: Global, tokens: &[Token]) -> Result<(Vec<Member>, &[Token])
     list_after::<MoreMembers>(alloc, first, rest)
 }
 
+fn members_inside(alloc: Global, tokens: &[Token]) -> Result<(Vec<Member>, &[Token]), ReadError>
+    ensures { GivesCounted (λ x. EachCounted MemberCounted member_of (next_before member_before) x.0.items
+        (pieces_of x.1.now)) (λ x. (map member_of x.0.items, pieces_of x.1.now)) result
+        (if_inside members_at_lem (pieces_of tokens.now)) }
+{
+    if inside(tokens) {
+        members_at(alloc, tokens)
+    } else {
+        Ok((Vec::new(alloc), tokens))
+    }
+}
+
 pub(crate) fn union_at(alloc: Global, tokens: &[Token]) -> Result<(Item, &[Token]), ReadError>
     ensures { GivesCounted (λ x. ItemCounted x.0 (pieces_of x.1.now))
         (λ x. (item_of x.0, pieces_of x.1.now)) result
@@ -87,7 +99,7 @@ pub(crate) fn union_at(alloc: Global, tokens: &[Token]) -> Result<(Item, &[Token
     let (name, rest) = or_return!(word_at(alloc, tokens));
     let (attributes, rest) = or_return!(attributes_at(alloc, rest));
     let rest = or_return!(mark_at(rest, b'{'));
-    let (members, rest) = or_return!(members_at(alloc, rest));
+    let (members, rest) = or_return!(members_inside(alloc, rest));
     let (comma, rest) = or_return!(comma_at(rest));
     let (trailing, rest) = or_return!(closing_at(alloc, rest));
     Ok((

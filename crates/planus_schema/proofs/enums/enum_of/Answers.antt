@@ -2,10 +2,10 @@ use Rattle.std.proofs.Common.{ap, sym, ◌∙◌, map, subst}
 use Rattle.std.specs.Prelude.{None}
 use Rattle.planus_syntax.specs.Values.{VariantV, variant_of, path_of, enumeration_of}
 use Rattle.planus_layout.specs.Distinct.{AreDistinct}
-use Rattle.planus_schema.specs.Enums.{values_said}
+use Rattle.planus_schema.specs.Enums.{values_said, variants_or_none}
 use Rattle.planus_schema.specs.Wrong.{Stops}
 use Rattle.planus_schema.proofs.FaultLemmas.{skip, stops_first, stops_next}
-use Rattle.planus_schema.proofs.EnumLemmas.{integer_known, typed, untyped}
+use Rattle.planus_schema.proofs.EnumLemmas.{integer_known, distinct_or_none, typed, untyped}
 use Rattle.planus_schema.proofs.enums.enum_of.Goals as goal
 
 pub returns-clause-sound : goal.returns-clause-sound
@@ -14,9 +14,9 @@ returns-clause-sound c =
     let known = integer_known p.more p.first c.in-Some.scalar (sym c.in-Some.ensures) in
     record {
       integer = known.integer;
-      within = c.in-Ok-enum_values.ensures.says.within;
-      distinct = c.in-Ok-enum_values.ensures.says.distinct;
-      names = subst AreDistinct (ap (λ vs. map (λ (v : VariantV). v.name) (map variant_of vs)) (c.deref-2.ensures.value ∙ sym c.deref-3.ensures.value) ∙ sym c.in-Ok-enum_values.ensures.says.names) c.in-Ok.ensures.distinct;
+      within = c.in-Ok-values_or_none.ensures.says.within;
+      distinct = c.in-Ok-values_or_none.ensures.says.distinct;
+      names = subst AreDistinct (ap (λ vs. map (λ (v : VariantV). v.name) (variants_or_none (map variant_of vs))) (c.deref-2.ensures.value ∙ sym c.deref-3.ensures.value) ∙ sym c.in-Ok-values_or_none.ensures.says.names) (distinct_or_none _ c.in-Ok.ensures.distinct);
     }
 
 pub returns-clause-scalar : goal.returns-clause-scalar
@@ -30,29 +30,29 @@ returns-in-Err-clause-wrong c =
     subst (λ o. Stops o c.in-Err.error) (sym (typed c.args.declared.now c.in-Some.scalar (sym c.in-Some.ensures)))
     (stops_first _ _ c.in-Err.error (rw c.deref-2.ensures.value at c.in-Err.ensures.wrong))
 
-pub returns-in-Err-enum_values-clause-wrong : goal.returns-in-Err-enum_values-clause-wrong
-returns-in-Err-enum_values-clause-wrong c =
-    subst (λ o. Stops o c.in-Err-enum_values.error) (sym (typed c.args.declared.now c.in-Some.scalar (sym c.in-Some.ensures)))
-    (stops_next _ _ c.in-Err-enum_values.error (rw c.deref-2.ensures.value at c.in-Ok.ensures.wrong)
-    (rw (c.deref-3.ensures.value, c.has-flags.ensures, c.deref.ensures.value) at c.in-Err-enum_values.ensures.wrong))
+pub returns-in-Err-values_or_none-clause-wrong : goal.returns-in-Err-values_or_none-clause-wrong
+returns-in-Err-values_or_none-clause-wrong c =
+    subst (λ o. Stops o c.in-Err-values_or_none.error) (sym (typed c.args.declared.now c.in-Some.scalar (sym c.in-Some.ensures)))
+    (stops_next _ _ c.in-Err-values_or_none.error (rw c.deref-2.ensures.value at c.in-Ok.ensures.wrong)
+    (rw (c.deref-3.ensures.value, c.has-flags.ensures, c.deref.ensures.value) at c.in-Err-values_or_none.ensures.wrong))
 
 pub returns-clause-wrong : goal.returns-clause-wrong
 returns-clause-wrong c =
     typed c.args.declared.now c.in-Some.scalar (sym c.in-Some.ensures)
     ∙ skip _ _ (rw c.deref-2.ensures.value at c.in-Ok.ensures.wrong)
-    ∙ (rw (c.deref-3.ensures.value, c.has-flags.ensures, c.deref.ensures.value) at c.in-Ok-enum_values.ensures.wrong)
+    ∙ (rw (c.deref-3.ensures.value, c.has-flags.ensures, c.deref.ensures.value) at c.in-Ok-values_or_none.ensures.wrong)
 
 pub returns-clause-says : goal.returns-clause-says
 returns-clause-says c =
     let d = enumeration_of c.args.declared.now in
     let known = integer_known d.base.more d.base.first c.in-Some.scalar (sym c.in-Some.ensures) in
     let flags = rw c.deref.ensures.value at c.has-flags.ensures in
-    let values = rw c.deref-3.ensures.value at c.in-Ok-enum_values.ensures.says in
+    let values = rw c.deref-3.ensures.value at c.in-Ok-values_or_none.ensures.says in
     record {
       single = known.single;
       scalar = known.named;
       flags = flags;
       names = values.names;
       docs = values.docs;
-      numbers = ap (λ f. values_said f None d.variants) (sym flags) ∙ values.numbers;
+      numbers = ap (λ f. values_said f None (variants_or_none d.variants)) (sym flags) ∙ values.numbers;
     }
