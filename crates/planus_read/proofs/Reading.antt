@@ -442,6 +442,14 @@ pub number_of_signed :
 number_of_signed None z h = absurd (let f : None ≡ Some z = h in cc)
 number_of_signed (Some n) z h = (n, refl)
 
+pub signed_value :
+    (S : List ℕ) (k : ℕ) (z : ℤ) → option_map (cast_signed w32) (Num S k w32) ≡ Some z
+    → z ≡ signed_number S k
+signed_value S k z h =
+    let n : (n : ℕ) × (Num S k w32 ≡ Some n) = number_of_signed (Num S k w32) z h in
+    signed_chosen (Num S k w32) (number S k w32) z
+    (num_there S k w32 (num_inside S k w32 n.0 n.1)) h
+
 pub table_holds :
     (S : List ℕ) (f object vtable size : ℕ) → TableThere S f object vtable size
     → AllHold (table_clauses S f) × (object ≡ target S f) × (vtable ≡ vtable_at S (target S f))

@@ -15,6 +15,7 @@ mod size_prefixed;
 mod slice_helpers;
 pub mod table_reader;
 mod traits;
+mod unchecked;
 
 pub use errors::Error;
 pub use heads::array_from_buffer;
@@ -29,6 +30,7 @@ pub use traits::{
     ReadAsRoot, ReadError, ReadSliceAsRoot, Stride, TableRead, TableReadUnion,
     TableReadUnionVector, VectorRead, VectorReadInner, VectorReadUnion,
 };
+pub use unchecked::{array_unchecked, bytes_unchecked, text_unchecked};
 
 /// The result of a read that names its location.
 pub type Result<T> = std::result::Result<T, Error>;

@@ -1,7 +1,7 @@
 //! Tables, read in place.
 
 ghost use Rattle.std.specs.Prelude.{◌≡◌, ◌<◌, ◌≤◌, ◌+◌, ◌*◌, ◌^◌, [], length};
-ghost use Rattle.std.specs.Prelude.{IfOk, IfErr, IfSome, IfNone};
+ghost use Rattle.std.specs.Prelude.{IfOk, IfErr, IfSome, IfNone, pos, ◌≤ℤ◌, ◌-ℤ◌, unsigned_abs};
 ghost use Rattle.planus_read.specs.Clauses.{Answer, shown, AllHold, FirstBroken};
 ghost use Rattle.planus_read.specs.Slices.{slice_bytes, slice_start};
 ghost use Rattle.planus_read.specs.Located.{Located, Required};
@@ -11,7 +11,7 @@ ghost use Rattle.planus_read.specs.Reading.{vtable_at, slots_of};
 use crate::errors::ErrorKind;
 use crate::located::{Error, locate};
 use crate::slice_helpers::SliceWithStartOffset;
-use crate::traits::{TableRead, TableReadUnion, TableReadUnionVector};
+use crate::traits::{TableRead, TableReadUnion, TableReadUnionVector, VectorRead};
 
 /// A view of a table. In the format it begins with a signed number of 4 bytes that leads to its
 /// vtable, which has 2 bytes for each field: the distance from the table's first byte, 0 if absent.
@@ -66,6 +66,30 @@ fn vtable_of<'buf>(
     Ok(&vtable[4..])
 }
 
+#[inline(always)]
+fn vtable_place(object_offset: usize, relative: i32) -> usize
+    requires small { object_offset < 2 ^ 63 }
+    requires behind { relative ≤ℤ pos object_offset }
+    requires inside { unsigned_abs (pos object_offset -ℤ relative) < 2 ^ 63 }
+    ensures { result ≡ unsigned_abs (pos object_offset -ℤ relative) }
+{
+    (object_offset as isize - relative as isize) as usize
+}
+
+#[inline(always)]
+fn vtable_unchecked<'buf>(buffer: SliceWithStartOffset<'buf>, object_offset: usize) -> &'buf [u8]
+    requires { AllHold (object_clauses (slice_bytes buffer) object_offset) }
+    ensures slots { result.now ≡ slots_of (slice_bytes buffer.entry) object_offset }
+    ensures small { length result.now + 4 < 2 ^ 16 }
+{
+    let relative = <i32 as VectorRead<'buf>>::from_buffer(buffer, object_offset);
+    let place = vtable_place(object_offset, relative);
+    let size = <u16 as VectorRead<'buf>>::from_buffer(buffer, place) as usize;
+    let rest = buffer.unchecked_advance(place).as_slice();
+    let vtable = &rest[..size];
+    &vtable[4..]
+}
+
 #[inline]
 fn required<A>(answer: Result<Option<A>, ErrorKind>) -> Result<A, ErrorKind>
     ensures { Required (λ a. a ≡ answer) result }
@@ -74,7 +98,10 @@ fn required<A>(answer: Result<Option<A>, ErrorKind>) -> Result<A, ErrorKind>
 }
 
 impl<'buf> Table<'buf> {
-    ghost use Rattle.planus_read.specs.Tables.{ShowsTable, table_start, table_slots};
+    ghost use Rattle.planus_read.specs.Tables.{ShowsTable, table_object, table_start, table_slots};
+    ghost use Rattle.planus_read.specs.Tables.{slot_of};
+    ghost use Rattle.planus_read.specs.Reading.{table_clauses};
+    ghost use Rattle.std.specs.Prelude.{Ok};
     ghost use Rattle.planus_read.specs.Tables.{Slot, BothSlots};
     ghost use Rattle.planus_read.specs.Tables.{FieldAnswer, UnionAnswer, UnionVectorAnswer};
     ghost use Rattle.planus_read.specs.Tables.{UnionThere, UnionAbsent, UnionBroken};
@@ -92,6 +119,38 @@ impl<'buf> Table<'buf> {
         let vtable = vtable_of(buffer, object_offset)?;
         let object = buffer.unchecked_advance(object_offset);
         Ok(Table { object, vtable })
+    }
+
+    /// As [`Table::from_buffer`], without tests. Requires all clauses of its reading to hold.
+    #[inline(always)]
+    pub fn from_buffer_unchecked(buffer: SliceWithStartOffset<'buf>, offset: usize) -> Self
+        requires { AllHold (table_clauses (slice_bytes buffer) offset) }
+        ensures { let S = slice_bytes buffer.entry in let start = slice_start buffer.entry in
+            Answer (shown (ShowsTable S start) (table_reading S offset)) (Ok result) }
+    {
+        let value = <u32 as VectorRead<'buf>>::from_buffer(buffer, offset) as usize;
+        let object_offset = offset + value;
+        let vtable = vtable_unchecked(buffer, object_offset);
+        let object = buffer.unchecked_advance(object_offset);
+        Table { object, vtable }
+    }
+
+    /// Returns the bytes from the table's first byte on.
+    #[inline(always)]
+    pub fn object(&self) -> SliceWithStartOffset<'buf>
+        ensures bytes { slice_bytes result ≡ table_object self.now }
+        ensures start { slice_start result ≡ table_start self.now }
+    {
+        self.object
+    }
+
+    /// Returns the number in a slot: the field's distance from the table's first byte, 0 if absent.
+    #[inline(always)]
+    pub fn slot_offset(&self, slot: usize) -> usize
+        ensures value { result ≡ slot_of self.now slot }
+        ensures small { result < 2 ^ 16 }
+    {
+        self.slot(slot)
     }
 
     #[inline]

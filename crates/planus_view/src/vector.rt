@@ -9,6 +9,7 @@ use crate::view::{ReadView, View};
 use planus_read::errors::ErrorKind;
 use planus_read::{
     Error, SliceWithStartOffset, Stride, TableRead, VectorRead, VectorReadInner, array_from_buffer,
+    array_unchecked,
 };
 use std::alloc::{AllocError, Global};
 use std::marker::PhantomData;
@@ -115,7 +116,43 @@ impl<'buf, T: Stride> TableRead<'buf> for Vector<'buf, T> {
 }
 
 impl<'buf, T: Stride> Vector<'buf, T> {
-    ghost use Rattle.planus_view.specs.VectorView.{view_of};
+    ghost use Rattle.std.specs.Prelude.{Ok};
+    ghost use Rattle.planus_read.specs.Clauses.{AllHold, Answer, shown};
+    ghost use Rattle.planus_read.specs.Reading.{vector_clauses, vector_reading};
+    ghost use Rattle.planus_read.specs.Slices.{slice_start};
+    ghost use Rattle.planus_view.specs.VectorView.{view_of, ShowsVector};
+
+    /// Returns the vector to which the reference at the offset leads, without tests. Requires all
+    /// clauses of its reading to hold.
+    #[inline(always)]
+    #[must_use]
+    pub fn from_buffer_unchecked(
+        buffer: SliceWithStartOffset<'buf>,
+        offset: usize,
+    ) -> Vector<'buf, T>
+        requires { AllHold (vector_clauses (slice_bytes buffer) offset T.Stands.SIZE) }
+        ensures { let S = slice_bytes buffer.entry in let start = slice_start buffer.entry in
+            Answer (shown (ShowsVector S start) (vector_reading S offset T.Stands.SIZE))
+            (Ok result) }
+    {
+        let (items, count) = array_unchecked(buffer, offset);
+        let view = SliceView {
+            buffer: items,
+            count,
+            _marker: PhantomData,
+        };
+        VectorOf { view }
+    }
+
+    /// Returns the bytes from the first item on.
+    #[inline(always)]
+    #[must_use]
+    pub fn items(&self) -> SliceWithStartOffset<'buf>
+        ensures bytes { slice_bytes result ≡ (view_of self.now).bytes }
+        ensures start { slice_start result ≡ (view_of self.now).start }
+    {
+        self.view.buffer
+    }
 
     /// Returns an empty vector with start 0.
     #[inline]

@@ -1,0 +1,16 @@
+use Rattle.std.proofs.Common.{take, drop, ap, ◌∙◌}
+use Rattle.planus_read.specs.Slices.{slice_bytes}
+use Rattle.planus_read.specs.Reading.{items_at, count_at}
+use Rattle.planus_read.proofs.Reading.{text_there}
+use Rattle.planus_read.proofs.unchecked.text_unchecked.Goals as goal
+
+pub returns : goal.returns
+returns c =
+    let S = slice_bytes c.args.buffer in let f = c.args.offset in
+    let head = c.array_unchecked-count.ensures in
+    let items = drop (items_at S f) S in (
+      take (count_at S f) items,
+      text_there S f c.requires,
+      c.from_utf8_unchecked.ensures ∙ ap (take c.array_unchecked-count.result.1) (c.as_slice-items.ensures ∙ head.bytes)
+          ∙ ap (λ n. take n items) head.count,
+    )
