@@ -1,0 +1,41 @@
+//! Verification of a buffer.
+
+ghost use Rattle.std.specs.Prelude.{◌≡◌, ℕ, IfOk, IfErr, Ok, Err};
+ghost use Rattle.planus_read.specs.Clauses.{Answer, shown};
+ghost use Rattle.planus_read.specs.Reading.{table_reading};
+ghost use Rattle.planus_read.specs.Tables.{ShowsTable, table_object, table_slots, table_start};
+ghost use Rattle.planus_verify.specs.Schemas.{shapes};
+ghost use Rattle.planus_verify.specs.Verified.{Verified, tables_in};
+ghost use Rattle.planus_verify.specs.Walks.{RootWalks};
+
+use crate::fault::Fault;
+use crate::limits::Limits;
+use crate::schema::Schema;
+use crate::walk::verify_table;
+use planus_read::table_reader::Table;
+use planus_read::{SliceWithStartOffset, TableRead};
+
+/// Verifies all that the accessors of a buffer's root read, and those of all tables to which it
+/// leads, in the order of the schema's fields; the root is the table at an index of the schema.
+/// Returns the root's table, or the first fault. Takes no memory.
+pub fn verify<'b>(
+    schema: &Schema<'_>,
+    index: usize,
+    bytes: &'b [u8],
+    limits: Limits,
+) -> Result<Table<'b>, Fault>
+    ensures root { IfOk result (λ table. Answer (shown (ShowsTable bytes.entry.now 0)
+        (table_reading bytes.entry.now 0)) (Ok table)) }
+    ensures passed { IfOk result (λ table. (left : ℕ)
+        × RootWalks (shapes schema.now) index limits.depth limits.tables bytes.entry.now (Ok left)) }
+    ensures fault { IfErr result (λ found.
+        RootWalks (shapes schema.now) index limits.depth limits.tables bytes.entry.now (Err found)) }
+{
+    let buffer = SliceWithStartOffset::new(bytes, 0);
+    let table = match Table::from_buffer(buffer, 0) {
+        Ok(table) => table,
+        Err(kind) => return Err(Fault::Root(kind)),
+    };
+    verify_table(schema, index, table, limits.depth, limits.tables)?;
+    Ok(table)
+}
