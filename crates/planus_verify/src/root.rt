@@ -1,11 +1,10 @@
 //! Verification of a buffer.
 
-ghost use Rattle.std.specs.Prelude.{◌≡◌, ℕ, IfOk, IfErr, Ok, Err};
+ghost use Rattle.std.specs.Prelude.{ℕ, IfOk, IfErr, Ok, Err};
 ghost use Rattle.planus_read.specs.Clauses.{Answer, shown};
 ghost use Rattle.planus_read.specs.Reading.{table_reading};
-ghost use Rattle.planus_read.specs.Tables.{ShowsTable, table_object, table_slots, table_start};
+ghost use Rattle.planus_read.specs.Tables.{ShowsTable};
 ghost use Rattle.planus_verify.specs.Schemas.{shapes};
-ghost use Rattle.planus_verify.specs.Verified.{Verified, tables_in};
 ghost use Rattle.planus_verify.specs.Walks.{RootWalks};
 
 use crate::fault::Fault;

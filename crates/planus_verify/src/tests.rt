@@ -2,10 +2,10 @@
 
 mod ship;
 
-use crate::{Fault, FieldPlace, Limits, verify};
+use crate::{Fault, FieldPlace, Limits, Schema, verify};
 use planus_read::errors::ErrorKind;
 use planus_read::table_reader::Table;
-use ship::{SHIP, ships};
+use ship::{LINKED, LINKS, SHIP, ships};
 use std::test::Fail;
 
 fn verified(bytes: &[u8], depth: u8, tables: usize) -> Result<Table<'_>, Fault> {
@@ -100,4 +100,40 @@ fn changed_bytes_are_refused_as_by_a_plain_verifier(rt: HostRuntime) -> Result<(
         assert!(rt; total == wanted, "{change}: {total}");
     }
     Ok(())
+}
+
+// A table of 16 bytes with its vtable: a reference to the next one, or none.
+fn link(last: bool) -> [u8; 16] {
+    let size = if last { 4 } else { 6 };
+    [
+        0xf8, 0xff, 0xff, 0xff, 12, 0, 0, 0, size, 0, 8, 0, 4, 0, 0, 0,
+    ]
+}
+
+// So many tables, each in the one before it.
+fn chain(count: usize) -> [u8; 4104] {
+    let mut bytes = [0; 4104];
+    bytes[0] = 4;
+    for i in 0..256_usize {
+        let one = link(i.wrapping_add(1) == count);
+        for (k, byte) in one.iter().enumerate() {
+            bytes[4 + 16 * i + k] = *byte;
+        }
+    }
+    bytes
+}
+
+#[test]
+fn tables_stand_in_tables_to_the_greatest_depth(rt: HostRuntime) {
+    let schema = Schema {
+        fields: &LINKS,
+        tables: &LINKED,
+        variants: &[],
+    };
+    let limits = Limits {
+        depth: u8::MAX,
+        tables: 1000,
+    };
+    assert!(rt; verify(&schema, 0, &chain(255), limits).is_ok());
+    assert!(rt; matches!(verify(&schema, 0, &chain(256), limits), Err(Fault::TooDeep)));
 }

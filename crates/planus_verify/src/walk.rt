@@ -4,7 +4,7 @@ ghost use Rattle.std.specs.Prelude.{◌≡◌, Some, take, drop};
 ghost use Rattle.planus_read.specs.Places.{place_bytes, place_start, place_offset};
 ghost use Rattle.planus_read.specs.Places.{tagged_tag, tagged_place};
 ghost use Rattle.planus_read.specs.Slices.{slice_bytes, slice_start};
-ghost use Rattle.planus_read.specs.Tables.{table_object, table_slots, table_start, slot_of};
+ghost use Rattle.planus_read.specs.Tables.{table_object, table_slots, table_start};
 ghost use Rattle.planus_verify.specs.Schemas.{shapes, fields_of, variant_in};
 ghost use Rattle.planus_verify.specs.Steps.{fields_steps, field_steps, value_steps, variant_steps};
 ghost use Rattle.planus_verify.specs.Steps.{reference_steps, text_steps};

@@ -132,6 +132,15 @@ const VARIANTS: [Variant; 2] = [
     },
 ];
 
+// Of a table that may have another.
+pub const LINKS: [FieldShape; 1] = [FieldShape {
+    slot: 0,
+    required: false,
+    kind: FieldKind::Value(ValueKind::Table(0)),
+}];
+
+pub const LINKED: [TableShape; 1] = [TableShape { first: 0, count: 1 }];
+
 pub fn ships() -> Schema<'static> {
     Schema {
         fields: &FIELDS,

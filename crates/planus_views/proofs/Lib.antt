@@ -1,0 +1,6 @@
+pub mod Fields
+pub mod UnionFacts
+pub mod Merely
+pub mod Vectors
+pub mod UnionAnswers
+pub mod Judged

@@ -1,0 +1,33 @@
+use Rattle.std.proofs.Common.{Ok, refl}
+use Rattle.std.proofs.Math.Logic.{∥∥₁_map}
+use Rattle.planus.specs.Accessors.{texts_kind}
+use Rattle.planus.specs.ReadVectors.{reads_vector}
+use Rattle.planus.proofs.Accessors.{required_read, texts_law}
+use Rattle.std.proofs.Common.{true}
+use Rattle.planus_verify.specs.declared.schema.ValueKind.TheVariants as value
+use Rattle.planus_views.proofs.Fields.{place_holds, faults_of, each_text, field_answered, is_present}
+use Rattle.planus_read.specs.Slices.{slice_start}
+use Rattle.planus_verify.specs.Verified.{Verified}
+use Rattle.planus_views.specs.Views.{view_table}
+use Rattle.planus_views.proofs.view.View.text_vector_required.Goals as goal
+
+pub texts_unchecked-requires : goal.texts_unchecked-requires
+texts_unchecked-requires g c =
+    ∥∥₁_map (place_holds g.K.VerifiedKind.schema g.K.VerifiedKind.index
+    c.args.slot true value.Texts (view_table c.args.self.now) _ _ _
+    c.args.self.now.verified c.requires c.in-Some.ensures.some)
+    (λ h. each_text (Verified g.K.VerifiedKind.schema h.0)
+    (faults_of g.K.VerifiedKind.index (view_table c.args.self.now) c.args.slot) _ (slice_start c.in-Some.buffer)
+    _ h.1)
+
+pub unreachable-requires : goal.unreachable-requires
+unreachable-requires g c =
+    is_present g.K.VerifiedKind.schema g.K.VerifiedKind.index c.args.slot
+    value.Texts (view_table c.args.self.now) c.args.self.now.verified c.requires c.in-None.ensures.none
+
+pub returns : goal.returns
+returns g c = λ type_ method.
+    required_read texts_kind (texts_law _ _ refl) (view_table c.args.self.now) c.args.slot type_ method
+    (Ok c.texts_unchecked.result.vector)
+    (field_answered (reads_vector _ _) (view_table c.args.self.now) c.args.slot _ _ _ c.texts_unchecked.result.vector
+    c.in-Some.ensures.some c.texts_unchecked.ensures)

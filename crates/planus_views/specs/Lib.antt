@@ -1,0 +1,6 @@
+pub mod Whole
+pub mod Fields
+pub mod Views
+pub mod Vectors
+pub mod Members
+pub use Rattle.planus_verify.specs as verify

@@ -1,0 +1,25 @@
+//! Kinds of verified tables.
+
+ghost use Rattle.std.specs.Prelude.{◌≡◌, ℕ, true};
+ghost use Rattle.planus_verify.specs.Schemas.{Shapes, shapes};
+ghost use Rattle.planus_views.specs.Whole.{is_whole};
+
+use planus_verify::Schema;
+
+/// A kind of table with its place in a schema.
+pub trait VerifiedKind {
+    ghost schema: { Shapes };
+
+    ghost index: { ℕ };
+
+    // its lists fit together
+    ghost whole: { is_whole schema ≡ true };
+
+    /// Returns the schema.
+    fn schema() -> Schema<'static>
+        ensures { shapes result ≡ schema };
+
+    /// Returns the index of the table in the schema.
+    fn index() -> usize
+        ensures { result ≡ index };
+}

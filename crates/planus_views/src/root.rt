@@ -1,0 +1,25 @@
+//! Verified roots.
+
+ghost use Rattle.std.specs.Prelude.{ℕ, List, Ok, Err, IfOk, IfErr};
+ghost use Rattle.planus.specs.Roots.{IsRoot};
+ghost use Rattle.planus_verify.specs.Walks.{RootWalks};
+
+use crate::kind::VerifiedKind;
+use crate::view_of::ViewOf;
+use planus_verify::{Fault, Limits, verify};
+
+/// Verifies the root of a whole buffer with all that it leads to, and returns its view.
+pub fn verify_root<'a, V: ViewOf<'a>>(bytes: &'a [u8], limits: Limits) -> Result<V, Fault>
+    ensures root { (name : List ℕ)
+        → IfOk result (λ view. IsRoot V.Kind name V.table bytes.entry.now (Ok view)) }
+    ensures passed { IfOk result (λ view. (left : ℕ) × RootWalks V.Kind.schema V.Kind.index
+        limits.depth limits.tables bytes.entry.now (Ok left)) }
+    ensures fault { IfErr result (λ found. RootWalks V.Kind.schema V.Kind.index limits.depth
+        limits.tables bytes.entry.now (Err found)) }
+{
+    let schema = V::Kind::schema();
+    match verify(&schema, V::Kind::index(), bytes, limits) {
+        Ok(table) => Ok(V::of_verified(table)),
+        Err(fault) => Err(fault),
+    }
+}

@@ -1,0 +1,90 @@
+//! Printed unions.
+
+ghost use Rattle.std.specs.Prelude.{◌≡◌, ℕ, List, Result as std_result, Ok, Some};
+ghost use Rattle.planus.specs.Views.{reads_as};
+ghost use Rattle.planus_read.specs.declared.errors.ErrorKind.{ErrorKind};
+ghost use Rattle.planus_read.specs.Slices.{slice_bytes, slice_start};
+ghost use Rattle.planus_verify.specs.Schemas.{Shapes, variant_in};
+ghost use Rattle.planus_views.specs.Fields.{IsMember};
+
+use crate::view_of::ViewOf;
+use planus::SliceWithStartOffset;
+use planus::table_reader::Table;
+
+/// A kind of union with its place in a schema.
+pub trait UnionKind {
+    ghost schema: { Shapes };
+
+    ghost union: { ℕ };
+}
+
+/// A union of a verified table: a tag, and where its reference is encoded.
+#[derive(Clone, Copy)]
+pub struct Member<'a> {
+    tag: u8,
+    buffer: SliceWithStartOffset<'a>,
+    offset: usize,
+}
+
+impl<'a> Member<'a> {
+    ghost use Rattle.planus_views.specs.Members.{member_tag, member_bytes, member_start};
+    ghost use Rattle.planus_views.specs.Members.{member_offset};
+
+    /// Returns the union's tag.
+    #[inline(always)]
+    pub fn tag(&self) -> u8
+        ensures { result ≡ member_tag self.now }
+    {
+        self.tag
+    }
+
+    /// Returns the view of the table that the tag names in the schema.
+    #[inline(always)]
+    pub fn table<O: UnionKind, V: ViewOf<'a>>(&self, tag: u8) -> V
+        requires same { V.Kind.schema ≡ O.schema }
+        requires tag { member_tag self.now ≡ tag }
+        requires variant { variant_in O.schema.variants O.union tag ≡ Some V.Kind.index }
+        requires verified { IsMember O.schema O.union (member_tag self.now) (member_start self.now)
+            (member_bytes self.now) (member_offset self.now) }
+        ensures { reads_as V.table (member_bytes self.now) (member_start self.now)
+            (member_offset self.now) (Ok result) }
+    {
+        let table = Table::from_buffer_unchecked(self.buffer, self.offset);
+        V::of_verified(table)
+    }
+
+    /// Creates the member of this tag, whose reference is at the offset in bytes.
+    #[inline(always)]
+    pub fn new(tag: u8, buffer: SliceWithStartOffset<'a>, offset: usize) -> Member<'a>
+        ensures tag { member_tag result ≡ tag }
+        ensures bytes { member_bytes result ≡ slice_bytes buffer.entry }
+        ensures begin { member_start result ≡ slice_start buffer.entry }
+        ensures offset { member_offset result ≡ offset }
+    {
+        Member {
+            tag,
+            buffer,
+            offset,
+        }
+    }
+}
+
+/// A printed enum of a union's variants, with one for tags that its schema doesn't have.
+pub trait UnionOf<'a>: Sized {
+    type Kind: UnionKind;
+
+    ghost reads: { List ℕ → ℕ → ℕ → ℕ → std_result Self ErrorKind → Type 0 };
+
+    // what the checked reader returns
+    ghost checked: { Self → std_result Self ErrorKind };
+
+    ghost use Rattle.planus_views.specs.Members.{member_tag, member_bytes, member_start};
+    ghost use Rattle.planus_views.specs.Members.{member_offset};
+
+    /// Returns the union of a verified member.
+    fn of_member(member: Member<'a>) -> Self
+        requires { IsMember Self.Kind.schema Self.Kind.union (member_tag member)
+            (member_start member) (member_bytes member) (member_offset member) }
+        ensures { reads (member_bytes member.entry) (member_start member.entry)
+            (member_tag member.entry) (member_offset member.entry) (checked result) };
+}

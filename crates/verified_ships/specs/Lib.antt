@@ -1,0 +1,3 @@
+pub mod Schema
+pub mod Owner
+pub mod Kind

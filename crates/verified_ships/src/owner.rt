@@ -1,0 +1,44 @@
+//! Unions `Owner`.
+
+ghost use Rattle.planus.specs.Printed.{ReadsVariants};
+ghost use Rattle.verified_ships.specs.Owner.{owner_variants, checked_owner};
+
+use crate::company::CompanyView;
+use crate::person::PersonView;
+use planus_views::{Member, UnionKind, UnionOf};
+
+/// The kind of one of some tables.
+pub struct Owner;
+
+impl UnionKind for Owner {
+    ghost use Rattle.verified_ships.specs.Schema.{ships_schema};
+
+    ghost schema = { ships_schema };
+
+    ghost union = { 0 };
+}
+
+/// A verified one in a buffer.
+#[derive(Clone, Copy)]
+pub enum OwnerView<'a> {
+    Person(PersonView<'a>),
+    Firm(CompanyView<'a>),
+    /// A tag that the schema doesn't have.
+    Unknown(u8),
+}
+
+impl<'a> UnionOf<'a> for OwnerView<'a> {
+    type Kind = Owner;
+
+    ghost reads = { ReadsVariants owner_variants };
+
+    ghost checked = { checked_owner };
+
+    fn of_member(member: Member<'a>) -> OwnerView<'a> {
+        match member.tag() {
+            1 => OwnerView::Person(member.table::<Owner, PersonView<'a>>(1)),
+            2 => OwnerView::Firm(member.table::<Owner, CompanyView<'a>>(2)),
+            tag => OwnerView::Unknown(tag),
+        }
+    }
+}

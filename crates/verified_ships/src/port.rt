@@ -1,0 +1,92 @@
+//! Tables `Port`.
+
+ghost use Rattle.planus.specs.Printed.{IsUnionRequired, ReadsVariants};
+ghost use Rattle.planus_views.specs.Views.{view_table};
+ghost use Rattle.planus.specs.Printed.{IsTableVectorRequired, IsTextVectorRequired};
+ghost use Rattle.planus.specs.Printed.{IsPlainVectorRequired, IsBytesRequired};
+ghost use Rattle.planus_views.specs.Members.{ReturnsAs};
+ghost use Rattle.planus_views.specs.Vectors.{Returns};
+
+use crate::owner::OwnerView;
+use crate::schema::schema;
+use crate::ship::Ship;
+use planus::Vector;
+use planus::table_reader::Table;
+use planus_views::{Schema, Tables, Texts, VerifiedKind, View, ViewOf};
+
+/// The kind of `Port`.
+pub struct Port;
+
+impl VerifiedKind for Port {
+    ghost use Rattle.std.proofs.Common.{refl};
+    ghost use Rattle.verified_ships.specs.Schema.{ships_schema};
+
+    ghost schema = { ships_schema };
+
+    ghost index = { 3 };
+
+    ghost whole = { refl };
+
+    fn schema() -> Schema<'static> {
+        schema()
+    }
+
+    fn index() -> usize {
+        3
+    }
+}
+
+/// A verified one in a buffer.
+#[derive(Clone, Copy)]
+pub struct PortView<'a>(View<'a, Port>);
+
+impl<'a> ViewOf<'a> for PortView<'a> {
+    type Kind = Port;
+
+    ghost table = { λ view. view_table view.0 };
+
+    fn of_verified(read: Table<'a>) -> PortView<'a> {
+        PortView(View::new(read))
+    }
+}
+
+impl<'a> PortView<'a> {
+    ghost use Rattle.verified_ships.specs.Owner.{owner_variants, checked_owner};
+    ghost use Rattle.verified_ships.specs.declared.ship.Ship.{Ship};
+
+    /// Returns `owner`.
+    pub fn owner(&self) -> OwnerView<'a>
+        ensures { ReturnsAs (IsUnionRequired (ReadsVariants owner_variants)
+            (view_table self.now.0) 0) (view_table self.now.0) (checked_owner result) }
+    {
+        self.0.union_required(0)
+    }
+
+    /// Returns `ships`.
+    pub fn ships(&self) -> Tables<'a, Ship>
+        ensures { Returns (IsTableVectorRequired Ship (view_table self.now.0) 2) result.vector }
+    {
+        self.0.table_vector_required(2)
+    }
+
+    /// Returns `berths`.
+    pub fn berths(&self) -> Texts<'a>
+        ensures { Returns (IsTextVectorRequired (view_table self.now.0) 3) result.vector }
+    {
+        self.0.text_vector_required(3)
+    }
+
+    /// Returns `soundings`.
+    pub fn soundings(&self) -> Vector<'a, u16>
+        ensures { Returns (IsPlainVectorRequired (view_table self.now.0) 6) result }
+    {
+        self.0.plain_vector_required(6)
+    }
+
+    /// Returns `chart`.
+    pub fn chart(&self) -> &'a [u8]
+        ensures { Returns (IsBytesRequired (view_table self.now.0) 7) result }
+    {
+        self.0.bytes_required(7)
+    }
+}
