@@ -120,5 +120,6 @@ pub fn schema(alloc: Global, root: usize) -> Result<Schema, AllocError>
         enums: Vec::new(alloc),
         structs: Vec::new(alloc),
         root,
+        tags_need_values: false,
     })
 }

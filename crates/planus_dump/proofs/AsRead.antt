@@ -1,10 +1,10 @@
 -- A dump prints what readers return.
 use Rattle.std.proofs.Common.{◌≡◌, ◌≢◌, ℕ, zero, suc, ◌+◌, ◌*◌, ◌<◌, ◌≤◌, List, [], ◌∷◌, length, refl, sym, ap, ◌∙◌, subst, arith, Bool, true, false, Option, Some, None, Result, Ok, Err, inl, inr}
-use Rattle.std.specs.Prelude.{nat_lt, nat_le, ◌==◌, ◌⊎◌, not}
+use Rattle.std.specs.Prelude.{nat_lt, nat_le, ◌==◌, ◌⊎◌, not, ◌||◌, if◌then◌else◌}
 use Rattle.std.specs.Option.{option_map}
 use Rattle.std.specs.Fmt.{decimal, signed_decimal}
 use Rattle.std.specs.Int.{Width, w8, byte_len, cast_signed}
-use Rattle.std.proofs.lemmas.Bool.{leb-true, ltb-true, lt-ltb, eq-eqb}
+use Rattle.std.proofs.lemmas.Bool.{leb-true, ltb-true, lt-ltb, eq-eqb, eqb-true, eqb-false}
 use Rattle.std.proofs.lemmas.Bool.Decides.{nat_tests}
 use Rattle.planus_read.specs.declared.errors.ErrorKind.{ErrorKind}
 use Rattle.planus_read.specs.declared.errors.ErrorKind.TheVariants.{InvalidOffset, InvalidVtableLength}
@@ -16,11 +16,11 @@ use Rattle.planus_read.specs.Tables.{table_object, table_slots, slot_of, tag_of,
 use Rattle.planus_read.proofs.Reading.{num_inside, num_value, num_there, text_there, text_holds, byte_list_there, byte_list_holds, vector_there, vector_holds, union_vector_there, union_vector_holds, table_there, table_holds}
 use Rattle.planus_dump.specs.Lines.{quoted, bytes_text, truth_text}
 use Rattle.planus_dump.specs.Tests.{Test, answered, number_test, text_tests, byte_list_tests, vector_tests, union_vector_tests, table_tests, content_at, fault_text}
-use Rattle.planus_dump.specs.Answers.{unsigned_at, signed_at, leaf_at, table_at, union_at, unions_at, some_of, tagged_union, SeenUnion}
+use Rattle.planus_dump.specs.Answers.{lone_tag, some_tag, unsigned_at, signed_at, leaf_at, table_at, union_at, unions_at, some_of, tagged_union, SeenUnion}
 use Rattle.planus_dump.specs.ReadingViews.{answer_seen, table_seen}
-use Rattle.planus_dump.specs.AsRead.{SaysAsRead, items_in, unions_in, layout_in, ReadingsAreSaid, UnionsAreSaid, NoUnionVector, UnionVectorsAreSaid}
+use Rattle.planus_dump.specs.AsRead.{SaysAsRead, items_in, unions_in, layout_in, ReadingsAreSaid, IsLone, UnionsAreSaid, NoUnionVector, UnionVectorsAreSaid}
 use Rattle.planus_dump.specs.declared.values.Leaf.TheVariants.{Bool as LeafBool}
-use Rattle.planus_dump.proofs.Matching.{Matches, all_pass, first_fails, passed_all, le_match, le_false}
+use Rattle.planus_dump.proofs.Matching.{Matches, all_pass, first_fails, passed_all, le_match, le_false, eq_false}
 use Rattle.planus_dump.proofs.Answering.{text_matches, table_matches, union_vector_matches, union_at_both, union_absent, union_there, unions_both, half, whole}
 use Rattle.planus_dump.proofs.Leaves.{byte_list_matches, vector_matches}
 
@@ -236,6 +236,39 @@ module _ (table : Table) (i : ℕ) where
     ]
   ]
 
+  lone_back : (tag : ℕ) → lone_tag (table_seen table) i ≡ Some tag → IsLone table i tag
+  lone_back tag e = by_slots (slot_of table i == 0) refl (slot_of table (i + 1) == 0) refl e
+    where
+      by_zero : (t : ℕ) → tag_of table i ≡ Some t → slot_of table i ≢ 0 → slot_of table (i + 1) ≡ 0 → (none : Bool) → (t == 0) ≡ none
+          → (if none then None else Some t) ≡ Some tag → IsLone table i tag
+      by_zero t byte slot next true zero_is e = cc
+      by_zero t byte slot next false other e =
+          let same : t ≡ tag = cc in
+          record {
+            tag_slot = slot;
+            tag_byte = byte ∙ ap (λ n. Some n) same;
+            tag_present = subst (λ n. n ≢ 0) same (eqb-false t 0 other);
+            no_value = next;
+          }
+
+      by_byte : (o : Option ℕ) → tag_of table i ≡ o → slot_of table i ≢ 0 → slot_of table (i + 1) ≡ 0 → some_tag o ≡ Some tag → IsLone table i tag
+      by_byte None byte slot next e = cc
+      by_byte (Some t) byte slot next e = by_zero t byte slot next (t == 0) refl e
+
+      by_slots : (none : Bool) → (slot_of table i == 0) ≡ none → (alone : Bool) → (slot_of table (i + 1) == 0) ≡ alone
+          → (if none || not alone then None else some_tag (tag_of table i)) ≡ Some tag → IsLone table i tag
+      by_slots true first alone second e = cc
+      by_slots false first false second e = cc
+      by_slots false first true second e = by_byte (tag_of table i) refl (eqb-false (slot_of table i) 0 first) (eqb-true (slot_of table (i + 1)) 0 second) e
+
+  lone_is : (tag : ℕ) → IsLone table i tag → lone_tag (table_seen table) i ≡ Some tag
+  lone_is tag h =
+      let first : (slot_of table i == 0) ≡ false = eq_false (slot_of table i) 0 h.tag_slot in
+      let second : (slot_of table (i + 1) == 0) ≡ true = eq-eqb (slot_of table (i + 1)) 0 h.no_value in
+      let some : (tag == 0) ≡ false = eq_false tag 0 h.tag_present in
+      let byte : some_tag (tag_of table i) ≡ Some tag = ap some_tag h.tag_byte ∙ rw some refl in
+      rw (first, second) byte
+
   pub unions_are_said : UnionsAreSaid table i
   unions_are_said = record {
     absent = (absent_back, union_absent table i);
@@ -244,6 +277,7 @@ module _ (table : Table) (i : ℕ) where
       λ h. union_there table i union.tag h.0 ∙ ap (λ n. Ok (Some (let u : SeenUnion = record { tag = union.tag; offset = n } in u))) (sym h.1),
     );
     broken = λ text. (broken_back text, λ h. union_broken h.0 h.1 ∙ ap Err (sym h.2));
+    lone = λ tag. (lone_back tag, lone_is tag);
   }
 
   no_vector : NoUnionVector table i → unions_at (table_seen table) i ≡ Ok None

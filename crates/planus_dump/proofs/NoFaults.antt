@@ -28,8 +28,8 @@ use Rattle.planus.specs.FinishHolds.{ValueHolds}
 use Rattle.planus.proofs.Lists.{made_of}
 use Rattle.planus_dump.specs.Lines.{item_path, field_path}
 use Rattle.planus_dump.specs.Tests.{table_tests}
-use Rattle.planus_dump.specs.Answers.{Seen, SeenItems, SeenUnion, SeenUnions, table_at, union_at, unions_at, tagged_union, union_vector_by, union_vector_at, some_of}
-use Rattle.planus_dump.specs.Events.{Event, field_label, absent_events, TableEvents, stride_of, variant_of, item_events, items_events, list_events, place_events, variant_events, union_events, union_field_events, union_items_events, unions_events, present, kind_events, fields_events, table_events, shape_events, events, leaf_events}
+use Rattle.planus_dump.specs.Answers.{lone_tag, Seen, SeenItems, SeenUnion, SeenUnions, table_at, union_at, unions_at, tagged_union, union_vector_by, union_vector_at, some_of}
+use Rattle.planus_dump.specs.Events.{Event, field_label, absent_events, no_union_events, wrong_tag, TableEvents, stride_of, variant_of, item_events, items_events, list_events, place_events, variant_events, union_events, union_field_events, union_items_events, unions_events, present, kind_events, fields_events, table_events, shape_events, events, leaf_events}
 use Rattle.planus_dump.specs.FaultLines.{HasNoSpace, HaveNoFault, IsNoFault}
 use Rattle.planus_dump.specs.Describes.{plain_size, plain_field_size, IsText, IsByteList, held_at, IsItem, IsListOf, IsReferred, IsField, IsVariant, IsTagged, IsUnion, IsVectorOfUnions, IsUnionVector, HasKind, IsTableOf, Describes}
 use Rattle.planus_dump.specs.declared.schemas.Schema.{Schema}
@@ -50,6 +50,20 @@ use Rattle.planus_dump.proofs.Leaves.{plain_item_event, plain_field_event, plain
 absent_is : (required : Bool) (path : List ℕ) → required ≡ false → HaveNoFault (absent_events required path)
 absent_is true path e = cc
 absent_is false path e = tt
+
+no_wrong_tag : (schema : Schema) (seen : Seen) (i : ℕ) (required : Bool) (path : List ℕ) → Slot seen.slots i ≡ 0 → HaveNoFault (absent_events required path)
+    → HaveNoFault (no_union_events required path (wrong_tag schema seen i))
+no_wrong_tag schema seen i required path slot h = by_schema schema.tags_need_values
+  where
+    test : (Slot seen.slots i == 0) ≡ true
+    test = eq-eqb (Slot seen.slots i) 0 slot
+
+    none : lone_tag seen i ≡ None
+    none = rw test refl
+
+    by_schema : (need : Bool) → HaveNoFault (no_union_events required path (if need then lone_tag seen i else None))
+    by_schema true = subst (λ (o : Option ℕ). HaveNoFault (no_union_events required path o)) (sym none) h
+    by_schema false = h
 
 items_no_fault : (E : TableEvents) (item : Item) (S path : List ℕ) (n i : ℕ) → ((j : ℕ) → i ≤ j → j < i + n → HaveNoFault (item_events E item S (j * stride_of item) (item_path path j)))
     → HaveNoFault (items_events E item S path n i)
@@ -315,9 +329,9 @@ module _ (B : List ℕ) (k : ℕ) (entries : List (ℕ × Field)) (seen : Seen) 
           let second : (Slot seen.slots (i + 1) == 0) ≡ true = eq-eqb (Slot seen.slots (i + 1)) 0 next_zero in
           rw (first, second) refl
 
-union_field_by : (E : TableEvents) (schema : Schema) (required : Bool) (index : ℕ) (object path : List ℕ) (r : Result (Option SeenUnion) (List ℕ)) (o : Option SeenUnion) → r ≡ Ok o
-    → HaveNoFault (union_field_events E schema required index object path (Ok o)) → HaveNoFault (union_field_events E schema required index object path r)
-union_field_by E schema required index object path r o e h = subst (λ (a : Result (Option SeenUnion) (List ℕ)). HaveNoFault (union_field_events E schema required index object path a)) (sym e) h
+union_field_by : (E : TableEvents) (schema : Schema) (required : Bool) (index : ℕ) (object path : List ℕ) (wrong : Option ℕ) (r : Result (Option SeenUnion) (List ℕ)) (o : Option SeenUnion) → r ≡ Ok o
+    → HaveNoFault (union_field_events E schema required index object path wrong (Ok o)) → HaveNoFault (union_field_events E schema required index object path wrong r)
+union_field_by E schema required index object path wrong r o e h = subst (λ (a : Result (Option SeenUnion) (List ℕ)). HaveNoFault (union_field_events E schema required index object path wrong a)) (sym e) h
 
 unions_by : (E : TableEvents) (schema : Schema) (required : Bool) (index : ℕ) (path : List ℕ) (r : Result (Option SeenUnions) (List ℕ)) (o : Option SeenUnions) → r ≡ Ok o
     → HaveNoFault (unions_events E schema required index path (Ok o)) → HaveNoFault (unions_events E schema required index path r)
@@ -394,7 +408,8 @@ module _ (steps : List Step) (given : Finish) (values : AllByRecursion (ValueHol
   union_no_fault : (index : ℕ) (o p : Option FieldStep) → IsUnion steps IsTable required (slice_get schema.unions.items index) o p → SameSlot given.places o (field_at entries i)
       → SameSlot given.places p (field_at entries (i + 1)) → HaveNoFault (kind_events E schema required (Union index) i seen path)
   union_no_fault index None None is same next =
-      union_field_by E schema required index seen.object path (union_at seen i) None (union_none given.bytes k entries seen sees i same next) (absent_is required path is)
+      union_field_by E schema required index seen.object path (wrong_tag schema seen i) (union_at seen i) None (union_none given.bytes k entries seen sees i same next)
+      (no_wrong_tag schema seen i required path (zero_slot given.bytes k entries seen sees i same next) (absent_is required path is))
   union_no_fault index (Some (number_field width tag)) (Some (ref_field n)) is (field, same, e) (referred, next, r) =
       let one : IsNumber width tag field = field_number given.places width tag field e in
       let made = made_of value.reference (value_at given.places n) referred r in
@@ -414,7 +429,7 @@ module _ (steps : List Step) (given : Finish) (values : AllByRecursion (ValueHol
           → HaveNoFault (kind_events E schema required (Union index) i seen path)
       by_tag n tag d is e leads (inl (zero_is, none)) = absurd (zero_tagged index tag n zero_is is)
       by_tag n tag d is e leads (inr some) =
-          union_field_by E schema required index seen.object path (union_at seen i) (Some (record { tag = tag; offset = Slot seen.slots (i + 1) })) some
+          union_field_by E schema required index seen.object path (wrong_tag schema seen i) (union_at seen i) (Some (record { tag = tag; offset = Slot seen.slots (i + 1) })) some
           (subst (λ bytes. HaveNoFault (union_events E (slice_get schema.unions.items index) tag bytes (Slot seen.slots (i + 1)) path)) (sym sees.object)
           (tagged_no_fault steps given values E IsTable tables (slice_get schema.unions.items index) tag n d k (Slot seen.slots (i + 1)) path is e
           (references_lead given.bytes (k + Slot seen.slots (i + 1)) d leads) h))

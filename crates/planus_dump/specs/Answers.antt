@@ -91,6 +91,17 @@ tagged_union table i (Some tag) =
     if tag == 0 || Slot table.slots i == 0 || Slot table.slots (i + 1) == 0 then Ok None
     else Ok (Some (record { tag = tag; offset = Slot table.slots (i + 1) }))
 
+-- a tag, if it is there and isn't 0
+abbrev pub some_tag : Option ℕ → Option ℕ
+some_tag None = None
+some_tag (Some tag) = if tag == 0 then None else Some tag
+
+-- The tag of a union without a value: the slot of the tag isn't 0, that of the value is.
+abbrev pub lone_tag : Seen → ℕ → Option ℕ
+lone_tag table i =
+    if Slot table.slots i == 0 || not (Slot table.slots (i + 1) == 0) then None
+    else some_tag (Num table.object (Slot table.slots i) w8)
+
 -- none where the vtable ends before both slots, an error between them
 abbrev pub union_at : Seen → ℕ → Result (Option SeenUnion) (List ℕ)
 union_at table i =

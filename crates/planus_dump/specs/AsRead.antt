@@ -1,5 +1,5 @@
 -- The tests of a dump are the clauses of `planus_read`.
-use Rattle.std.specs.Prelude.{◌≡◌, ◌↔◌, ℕ, ℤ, ◌+◌, ◌*◌, ◌<◌, ◌≤◌, ◌⊎◌, List, [], ◌∷◌, ◌++◌, map}
+use Rattle.std.specs.Prelude.{◌≡◌, ◌≢◌, ◌↔◌, ℕ, ℤ, ◌+◌, ◌*◌, ◌<◌, ◌≤◌, ◌⊎◌, List, [], ◌∷◌, ◌++◌, map}
 use Rattle.std.specs.Prelude.{length, drop, take, Option, Some, None, Result, Ok, Err, false}
 use Rattle.std.specs.Prelude.{nat_eq, from_bits, FitsSigned}
 use Rattle.std.specs.Fmt.{decimal, signed_decimal}
@@ -20,14 +20,14 @@ use Rattle.planus_read.specs.Plain.{IsLayout, NumberFits, plain_reading}
 use Rattle.planus_read.specs.Shapes.{f32_shape, f64_shape}
 use Rattle.planus_read.specs.Enums.{variant_in, Numbered, unsigned_enum, signed_enum}
 use Rattle.planus_read.specs.lemmas.NumberLaws.{AreBytes}
-use Rattle.planus_read.specs.Tables.{table_object, table_slots, slot_of, BothSlots, HalfVector}
+use Rattle.planus_read.specs.Tables.{table_object, table_slots, slot_of, tag_of, BothSlots, HalfVector}
 use Rattle.planus_read.specs.Tables.{UnionAbsent, UnionThere, UnionBroken, UnionVectorSlots}
 use Rattle.planus_dump.specs.Lines.{quoted, bytes_text, truth_text, names_text, field_path}
 use Rattle.planus_dump.specs.Lines.{struct_line, value_line}
 use Rattle.planus_dump.specs.Tests.{fault_text}
 use Rattle.planus_dump.specs.Answers.{bits_at, unsigned_at, signed_at, leaf_at, vector_at}
 use Rattle.planus_dump.specs.Answers.{union_vector_at}
-use Rattle.planus_dump.specs.Answers.{table_at, union_at, unions_at, Seen, SeenItems, SeenUnion}
+use Rattle.planus_dump.specs.Answers.{table_at, union_at, unions_at, Seen, SeenItems, SeenUnion, lone_tag}
 use Rattle.planus_dump.specs.Answers.{SeenUnions, some_of}
 use Rattle.planus_dump.specs.ReadingViews.{answer_seen, table_seen}
 use Rattle.planus_dump.specs.Events.{Event, line, TableEvents, fault_event, fixed_events}
@@ -191,13 +191,21 @@ pub record BuffersAreSaid (S : List ℕ) (f : ℕ) : Type 0 where
 
 -- ---- unions
 
--- It has the accessor's result for a union.
+-- Slot i has a tag above 0, and the next slot is 0.
+pub record IsLone (table : Table) (i tag : ℕ) : Type 0 where
+  pub tag_slot : slot_of table i ≢ 0
+  pub tag_byte : tag_of table i ≡ Some tag
+  pub tag_present : tag ≢ 0
+  pub no_value : slot_of table (i + 1) ≡ 0
+
+-- It has the accessor's result for a union, and the tag of one without a value.
 pub record UnionsAreSaid (table : Table) (i : ℕ) : Type 0 where
   pub absent : (union_at (table_seen table) i ≡ Ok None) ↔ UnionAbsent table i
   pub there : (union : SeenUnion) → (union_at (table_seen table) i ≡ Ok (Some union))
       ↔ (UnionThere table i union.tag × (union.offset ≡ slot_of table (i + 1)))
   pub broken : (text : List ℕ) → (union_at (table_seen table) i ≡ Err text)
       ↔ ((e : ErrorKind) × UnionBroken table i e × (text ≡ fault_text e))
+  pub lone : (tag : ℕ) → (lone_tag (table_seen table) i ≡ Some tag) ↔ IsLone table i tag
 
 -- both slots aren't in the vtable, or both hold 0
 abbrev pub NoUnionVector : Table → ℕ → Type 0

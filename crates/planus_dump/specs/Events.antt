@@ -13,10 +13,11 @@ use Rattle.planus_read.specs.Reading.{number}
 use Rattle.planus_read.specs.Tables.{Slot}
 use Rattle.planus_dump.specs.Lines.{field_path, item_path, value_line, fault_line, table_line}
 use Rattle.planus_dump.specs.Lines.{list_line, union_line, unions_line, struct_line, names_text}
-use Rattle.planus_dump.specs.Lines.{bytes_text, unknown_enum_text}
+use Rattle.planus_dump.specs.Lines.{bytes_text, unknown_enum_text, lone_tag_text}
 use Rattle.planus_dump.specs.Tests.{fault_text, answered, byte_list_tests, content_at}
 use Rattle.planus_dump.specs.Answers.{leaf_at, bits_at, Seen, table_at, SeenItems, vector_at}
 use Rattle.planus_dump.specs.Answers.{SeenUnion, SeenUnions, union_at, unions_at}
+use Rattle.planus_dump.specs.Answers.{lone_tag}
 use Rattle.planus_dump.specs.declared.line.Bits.{Bits}
 use Rattle.planus_dump.specs.declared.line.Bits.TheVariants as bits
 use Rattle.planus_dump.specs.declared.schemas.EnumSchema.{EnumSchema}
@@ -65,6 +66,15 @@ fault_event path fault = line (fault_line path fault)
 abbrev pub absent_events : Truth → List ℕ → List Event
 absent_events true path = fault_event path (fault_text MissingRequired) ∷ []
 absent_events false path = []
+
+-- the tag of a union without a value, where the schema takes that for wrong
+abbrev pub wrong_tag : Schema → Seen → ℕ → Option ℕ
+wrong_tag schema table i = if schema.tags_need_values then lone_tag table i else None
+
+-- the line for an absent union with a wrong tag, or as for any absent field
+abbrev pub no_union_events : Truth → List ℕ → Option ℕ → List Event
+no_union_events required path (Some tag) = fault_event path (lone_tag_text tag) ∷ []
+no_union_events required path None = absent_events required path
 
 -- a scalar, or its error
 abbrev pub answer_event : List ℕ → Result (List ℕ) (List ℕ) → Event
@@ -287,12 +297,14 @@ module _ (E : TableEvents) where
       variant_events tag S f path (variant_of variants.items tag)
 
   module _ (schema : Schema) where
-    abbrev pub union_field_events :
-        Truth → ℕ → List ℕ → List ℕ → Result (Option SeenUnion) (List ℕ) → List Event
-    union_field_events required index object path (Ok None) = absent_events required path
-    union_field_events required index object path (Ok (Some union)) =
+    -- `wrong`: the tag of a union without a value
+    abbrev pub union_field_events : Truth → ℕ → List ℕ → List ℕ → Option ℕ
+        → Result (Option SeenUnion) (List ℕ) → List Event
+    union_field_events required index object path wrong (Ok None) =
+        no_union_events required path wrong
+    union_field_events required index object path wrong (Ok (Some union)) =
         union_events (slice_get schema.unions.items index) union.tag object union.offset path
-    union_field_events required index object path (Err fault) = fault_event path fault ∷ []
+    union_field_events required index object path wrong (Err fault) = fault_event path fault ∷ []
 
     abbrev pub union_items_events : ℕ → SeenUnions → List ℕ → ℕ → ℕ → List Event
     union_items_events index items path zero i = []
@@ -317,7 +329,8 @@ module _ (E : TableEvents) where
     -- a field of this kind in this slot
     abbrev pub kind_events : Truth → Kind → ℕ → Seen → List ℕ → List Event
     kind_events required (Union index) i table path =
-        union_field_events required index table.object path (union_at table i)
+        union_field_events required index table.object path (wrong_tag schema table i)
+        (union_at table i)
     kind_events required (UnionVector index) i table path =
         unions_events required index path (unions_at table i)
     kind_events required (FixedKind value) i table path =

@@ -98,3 +98,7 @@ names_text (name ∷ names) = codes " (" ++ (name ++ (spaced names ++ codes ")")
 -- the error for a number, as it is printed, that no value of its enum has
 abbrev pub unknown_enum_text : List ℕ → List ℕ
 unknown_enum_text number = codes "Unknown enum (tag = " ++ number ++ codes ")"
+
+-- the error for a union that has this tag and no value
+abbrev pub lone_tag_text : ℕ → List ℕ
+lone_tag_text tag = codes "Union without a value (tag = " ++ decimal tag ++ codes ")"

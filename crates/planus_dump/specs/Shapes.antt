@@ -1,5 +1,5 @@
 -- Schemas without their location in memory.
-use Rattle.std.specs.Prelude.{◌≡◌, ℕ, List, [], map, Bool, false, Vec}
+use Rattle.std.specs.Prelude.{◌≡◌, ℕ, List, [], map, Bool, true, false, Vec}
 use Rattle.std.specs.declared.alloc.Global.{Global}
 use Rattle.std.specs.String.{string_bytes}
 use Rattle.planus_dump.specs.declared.schemas.Schema.{Schema}
@@ -52,7 +52,8 @@ variant_shape variant = record {
 abbrev pub union_shape : Vec VariantSchema Global → List VariantShape
 union_shape variants = map variant_shape variants.items
 
--- the schema has these tables and unions, no enum and no struct, and this root
+-- the schema has these tables and unions, no enum and no struct, and this root; a union's tag may
+-- have no value
 pub record HasShape
     (schema : Schema) (tables : List TableShape) (unions : List (List VariantShape)) (root : ℕ)
     : Type 0 where
@@ -61,6 +62,7 @@ pub record HasShape
   pub no_enums : schema.enums.items ≡ []
   pub no_structs : schema.structs.items ≡ []
   pub root_is : schema.root ≡ root
+  pub tags_alone : schema.tags_need_values ≡ false
 
 abbrev pub field_of : ℕ → List ℕ → Kind → FieldShape
 field_of slot name kind = record {
@@ -107,6 +109,7 @@ struct_shape shape = record {
   fields = map struct_field_shape shape.fields.items;
 }
 
+-- the schema has these parts and this root; a union's tag without a value is wrong
 pub record HasShapes
     (schema : Schema) (tables : List TableShape) (unions : List (List VariantShape))
     (enums : List EnumShape) (structs : List StructShape) (root : ℕ) : Type 0 where
@@ -115,3 +118,4 @@ pub record HasShapes
   pub enums_are : map enum_shape schema.enums.items ≡ enums
   pub structs_are : map struct_shape schema.structs.items ≡ structs
   pub root_is : schema.root ≡ root
+  pub tags_need_values : schema.tags_need_values ≡ true

@@ -5,7 +5,7 @@ ghost use Rattle.planus_dump.specs.Events.{line, deep, float};
 ghost use Rattle.planus_dump.specs.Lines.{value_text};
 ghost use Rattle.planus_dump.specs.Lines.{value_line, fault_line, table_line, list_line};
 ghost use Rattle.planus_dump.specs.Lines.{union_line, unions_line, struct_line};
-ghost use Rattle.planus_dump.specs.Lines.{unknown_enum_text};
+ghost use Rattle.planus_dump.specs.Lines.{unknown_enum_text, lone_tag_text};
 ghost use Rattle.planus_dump.specs.Tests.{fault_text};
 ghost use Rattle.planus_dump.specs.inner.Shown.{shown, event_of, begin, by_room, step, IsStopped};
 ghost use Rattle.planus_dump.specs.inner.Shown.{MayMake};
@@ -247,6 +247,14 @@ impl LineSink {
         push_value(self.alloc, &mut text, value)?;
         text.push_str(")")?;
         self.put(text)
+    }
+
+    /// `tag` is that of a union without a value.
+    pub fn put_lone_tag(&mut self, path: &str, tag: u8) -> Result<(), AllocError>
+        ensures { OnOk result (shown self.new
+            ≡ step (shown self.old) (line (fault_line path.now (lone_tag_text tag)))) }
+    {
+        self.put(format!(in self.alloc; "{path} ! Union without a value (tag = {tag})")?)
     }
 
     pub fn put_fault(&mut self, path: &str, kind: ErrorKind) -> Result<(), AllocError>

@@ -1,10 +1,12 @@
 //! What is at a place, or in the slots of a table.
 ghost use Rattle.std.specs.Prelude.{◌≡◌, List, ℕ};
-ghost use Rattle.std.specs.Int.{w32, w64};
+ghost use Rattle.std.specs.Int.{w8, w32, w64};
+ghost use Rattle.planus_read.specs.Bytes.{Num};
 ghost use Rattle.planus_read.specs.Places.{place_bytes, place_offset};
 ghost use Rattle.planus_read.specs.Tables.{table_object};
 ghost use Rattle.planus_dump.specs.Lines.{value_text};
 ghost use Rattle.planus_dump.specs.Answers.{leaf_at, bits_at, table_at, union_at, vector_at};
+ghost use Rattle.planus_dump.specs.Answers.{some_tag, lone_tag as lone_tag_lem};
 ghost use Rattle.planus_dump.specs.Events.{TableEvents, leaf_events, number_width};
 ghost use Rattle.planus_dump.specs.ReadingViews.{answer_seen, table_seen};
 ghost use Rattle.planus_dump.specs.ReadingViews.{SeesUnion, SeesPlace, IsFound, found_events};
@@ -186,4 +188,24 @@ pub fn read_union<'buf>(
         Ok(tagged) => Ok(tagged),
         Err(error) => Err(error.error_kind),
     }
+}
+
+fn tag_at(place: Place<'_>) -> Option<u8>
+    ensures { result ≡ some_tag (Num (place_bytes place.entry) (place_offset place.entry) w8) }
+{
+    match place.read::<u8>() {
+        Ok(tag) if tag != 0 => Some(tag),
+        _ => None,
+    }
+}
+
+/// The tag of a union without a value.
+pub fn lone_tag(table: Table<'_>, slot: usize) -> Option<u8>
+    ensures { result ≡ lone_tag_lem (table_seen table.entry) slot }
+{
+    let offset = table.slot_offset(slot);
+    if offset == 0 || table.slot_offset(slot + 1) != 0 {
+        return None;
+    }
+    tag_at(Place::new(table.object(), offset))
 }

@@ -14,6 +14,8 @@ pub struct Schema {
     pub structs: Vec<StructSchema>,
     /// The index of the root's table.
     pub root: usize,
+    /// Whether a union's tag without a value is wrong. Readers take such a union for absent.
+    pub tags_need_values: bool,
 }
 
 /// A table.

@@ -5,7 +5,7 @@ ghost use Rattle.planus_read.specs.Places.{place_bytes, place_offset, tagged_tag
 ghost use Rattle.planus_dump.specs.Lines.{field_path as field_path_lem};
 ghost use Rattle.planus_dump.specs.Answers.{table_at, vector_at};
 ghost use Rattle.planus_dump.specs.Events.{events, kind_events, place_events, variant_of};
-ghost use Rattle.planus_dump.specs.Events.{absent_events};
+ghost use Rattle.planus_dump.specs.Events.{absent_events, no_union_events, wrong_tag as wrong_tag_lem};
 ghost use Rattle.planus_dump.specs.Events.{field_label, buffer_events, stride_of as stride_lem};
 ghost use Rattle.planus_dump.specs.Events.{union_events, unions_events, list_events, table_events};
 ghost use Rattle.planus_dump.specs.ReadingViews.{table_seen, found_events, unions_seen};
@@ -16,7 +16,7 @@ ghost use Rattle.std.specs.Option.{option_map};
 use crate::fixed::{dump_value, dump_values};
 use crate::line_sink::LineSink;
 use crate::readings::{
-    Found, field_place, item_found, leaf_found, read_table, read_union, read_values,
+    Found, field_place, item_found, leaf_found, lone_tag, read_table, read_union, read_values,
 };
 use crate::schemas::{FieldSchema, Item, Kind, Schema, TableSchema, VariantSchema};
 use crate::unions::{Unions, read_unions};
@@ -127,6 +127,33 @@ fn dump_absent(out: &mut LineSink, path: &str, required: bool) -> Result<(), All
     }
 }
 
+fn wrong_tag(schema: &Schema, table: Table<'_>, slot: usize) -> Option<u8>
+    ensures { result ≡ wrong_tag_lem schema.now (table_seen table.entry) slot }
+{
+    if schema.tags_need_values {
+        lone_tag(table, slot)
+    } else {
+        None
+    }
+}
+
+fn dump_no_union(
+    schema: &Schema,
+    out: &mut LineSink,
+    path: &str,
+    table: Table<'_>,
+    field: &FieldSchema,
+) -> Result<(), AllocError>
+    ensures { OnOk result (shown out.new ≡ feed (shown out.old)
+        (no_union_events field.now.required path.now
+        (wrong_tag_lem schema.now (table_seen table.entry) field.now.slot))) }
+{
+    match wrong_tag(schema, table, field.slot) {
+        Some(tag) => out.put_lone_tag(path, tag),
+        None => dump_absent(out, path, field.required),
+    }
+}
+
 #[cycle(walk)]
 fn dump_kind(
     schema: &Schema,
@@ -142,7 +169,7 @@ fn dump_kind(
 {
     match field.kind {
         Kind::Union(index) => match read_union(table, field.slot) {
-            Ok(None) => dump_absent(out, path, field.required),
+            Ok(None) => dump_no_union(schema, out, path, table, field),
             Ok(Some(tagged)) => dump_union(schema, out, left, path, index, tagged),
             Err(kind) => out.put_fault(path, kind),
         },

@@ -33,6 +33,7 @@ pub fn dump_schema(
         enums: Vec::new(alloc),
         structs: Vec::new(alloc),
         root,
+        tags_need_values: true,
     };
     for declared in &schema.declarations {
         shown.tables.push(table_schema(alloc, declared)?)?;

@@ -84,6 +84,7 @@ pub fn schema_of(alloc: Global, (tables, unions): SchemaParts<'_>) -> Result<Sch
         enums: Vec::new(alloc),
         structs: Vec::new(alloc),
         root: tables.len().saturating_sub(1),
+        tags_need_values: false,
     })
 }
 

@@ -88,6 +88,7 @@ fn nodes(alloc: Global) -> Result<Schema, AllocError> {
         enums: Vec::new(alloc),
         structs: Vec::new(alloc),
         root: 0,
+        tags_need_values: false,
     })
 }
 
