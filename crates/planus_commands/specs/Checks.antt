@@ -7,6 +7,7 @@ use Rattle.std.specs.Int.{is_in_range}
 use Rattle.std.specs.String.{string_bytes}
 use Rattle.std.specs.Io.KnownBytes.{Appends, Keeps}
 use Rattle.std.specs.Global.{Vec}
+use Rattle.planus_dump.specs.Writing.{WritesBeginning}
 use Rattle.planus_syntax.specs.Values.{Name, DeclarationV, schema_of}
 use Rattle.planus_syntax.specs.declared.value.Declaration.{Declaration}
 use Rattle.planus_schema.specs.Faults.{AreInOrder, faults_found}
@@ -92,11 +93,14 @@ ResolvesFiles files declarations None before after = (faults : List Fault)
     × ((out : List ℕ) × AreReports (names_of_files (schemas_of declarations)) files faults out
     × Appends before after out)
 
--- Memory was refused before anything was written, or writing a report failed.
-abbrev pub FailsResolving : List (Vec Declaration) → RunError → Option (List ℕ)
+-- Memory was refused before anything was written; or writing failed, and a beginning of the reports
+-- was written.
+abbrev pub FailsResolving : List File → List (Vec Declaration) → RunError → Option (List ℕ)
     → Option (List ℕ) → Type 0
-FailsResolving declarations OutOfMemory before after = Keeps before after
-FailsResolving declarations Read before after = ⊥
-FailsResolving declarations BadSchema before after = ⊥
-FailsResolving declarations Write before after =
-    (faults : List Fault) × AreTold declarations faults
+FailsResolving files declarations OutOfMemory before after = Keeps before after
+FailsResolving files declarations Read before after = ⊥
+FailsResolving files declarations BadSchema before after = ⊥
+FailsResolving files declarations Write before after = (faults : List Fault)
+    × AreTold declarations faults
+    × ((out : List ℕ) × AreReports (names_of_files (schemas_of declarations)) files faults out
+    × WritesBeginning out before after)

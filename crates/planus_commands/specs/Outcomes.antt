@@ -1,7 +1,8 @@
 -- What becomes of the text of a schema.
 use Rattle.std.specs.Prelude.{◌≡◌, ℕ, Bool, true, false, not, List, [], ◌∷◌, ◌++◌, codes, count_by}
-use Rattle.std.specs.Prelude.{Option, ◌-◌, length, Ok}
+use Rattle.std.specs.Prelude.{Option, ◌-◌, length, Ok, ◌⊎◌}
 use Rattle.std.specs.Io.KnownBytes.{Appends, Keeps}
+use Rattle.planus_dump.specs.Writing.{WritesBeginning}
 use Rattle.planus_syntax.specs.declared.text.SchemaError.{SchemaError}
 use Rattle.planus_syntax.specs.declared.text.SchemaError.TheVariants as errors
 use Rattle.planus_syntax.specs.Tokens.{is_blank}
@@ -115,13 +116,23 @@ reason_of Read = codes "planus: a word of the call is no text\n"
 reason_of Write = codes "planus: can't write\n"
 reason_of BadSchema = codes "planus: the schema isn't sound\n"
 
--- Memory was refused before anything was written, or writing failed.
-abbrev pub FailsPrinting : RunError → Option (List ℕ) → Option (List ℕ)
+-- a beginning of the canonical text was written, or only one of the report
+abbrev pub BeginsPrinting : List ℕ → List ℕ → Option (List ℕ) → Option (List ℕ)
     → Option (List ℕ) → Option (List ℕ) → Type 0
-FailsPrinting OutOfMemory before after unsaid said = Keeps before after × Keeps unsaid said
-FailsPrinting Read before after unsaid said = ⊥
-FailsPrinting BadSchema before after unsaid said = ⊥
-FailsPrinting Write before after unsaid said = Unit {0}
+BeginsPrinting name text before after unsaid said =
+    ((out : List ℕ) × Formats text out × WritesBeginning out before after × Keeps unsaid said)
+    ⊎ ((report : List ℕ) × Reports name text report × Keeps before after
+    × WritesBeginning report unsaid said)
+
+-- Memory was refused before anything was written, or writing failed.
+abbrev pub FailsPrinting : List ℕ → List ℕ → RunError → Option (List ℕ) → Option (List ℕ)
+    → Option (List ℕ) → Option (List ℕ) → Type 0
+FailsPrinting name text OutOfMemory before after unsaid said =
+    Keeps before after × Keeps unsaid said
+FailsPrinting name text Read before after unsaid said = ⊥
+FailsPrinting name text BadSchema before after unsaid said = ⊥
+FailsPrinting name text Write before after unsaid said =
+    BeginsPrinting name text before after unsaid said
 
 -- The canonical text was written, or only a report of the first fault.
 abbrev pub Prints : List ℕ → List ℕ → Printed → Option (List ℕ) → Option (List ℕ)

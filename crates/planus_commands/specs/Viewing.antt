@@ -11,6 +11,7 @@ use Rattle.planus_commands.specs.declared.streams.RunError.TheVariants.{OutOfMem
 use Rattle.planus_commands.specs.declared.streams.RunError.TheVariants.{BadSchema}
 use Rattle.planus_dump.specs.FaultLines.{is_fault_line}
 use Rattle.planus_dump.specs.Views.{Viewed}
+use Rattle.planus_dump.specs.Writing.{WritesBeginning}
 use Rattle.planus_dump.specs.declared.schemas.Schema.{Schema}
 use Rattle.planus_dump.specs.declared.views.End.{End}
 use Rattle.planus_dump.specs.declared.views.End.TheVariants.{Whole, TooDeep, TooManyLines}
@@ -50,12 +51,22 @@ pub record WritesView (schema : Schema) (bytes : List ℕ) (most size : ℕ) (cl
   pub clean_is : clean ≡ is_clean view
   pub written : Appends before after (view_text view)
 
+-- a beginning of the first lines of the buffer was written, and nothing else
+pub record BeginsView (schema : Schema) (bytes : List ℕ) (most size : ℕ)
+    (before after : Option (List ℕ)) : Type 0 where
+  pub view : FirstLines
+  pub viewed : Viewed schema bytes most size (Ok view)
+  pub written : WritesBeginning (view_text view) before after
+
 -- Nothing was written, for refused memory or a bad schema; or writing failed.
-abbrev pub FailsViewing : Schema → RunError → Option (List ℕ) → Option (List ℕ) → Type 0
-FailsViewing schema OutOfMemory before after = Keeps before after
-FailsViewing schema Read before after = ⊥
-FailsViewing schema Write before after = Unit {0}
-FailsViewing schema BadSchema before after = (is_good schema ≡ false) × Keeps before after
+abbrev pub FailsViewing : Schema → List ℕ → ℕ → ℕ → RunError → Option (List ℕ) → Option (List ℕ)
+    → Type 0
+FailsViewing schema bytes most size OutOfMemory before after = Keeps before after
+FailsViewing schema bytes most size Read before after = ⊥
+FailsViewing schema bytes most size Write before after =
+    BeginsView schema bytes most size before after
+FailsViewing schema bytes most size BadSchema before after =
+    (is_good schema ≡ false) × Keeps before after
 
 -- a buffer after its size, a number of four bytes, and what follows it
 pub record SplitsSized (bytes buffer rest : List ℕ) : Type 0 where

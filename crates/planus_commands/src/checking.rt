@@ -113,7 +113,7 @@ pub fn resolve_or_report<X: Write>(
     requires { AreSpelled files.now declarations.now }
     ensures resolved { IfOk result (λ found. ResolvesFiles files.now declarations.now found
         (X.contents errors.old) (X.contents errors.new)) }
-    ensures failed { IfErr result (λ error. FailsResolving declarations.now error
+    ensures failed { IfErr result (λ error. FailsResolving files.now declarations.now error
         (X.contents errors.old) (X.contents errors.new)) }
 {
     match resolve(alloc, declarations) {

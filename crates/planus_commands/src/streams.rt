@@ -1,7 +1,8 @@
 //! Reading whole texts, and writing.
 
-ghost use Rattle.std.specs.Prelude.{◌≡◌, ◌+◌, take, IfOk, IfErr, IfSome, OnOk};
+ghost use Rattle.std.specs.Prelude.{◌≡◌, ◌+◌, take, IfOk, IfErr, IfSome, OnOk, OnErr};
 ghost use Rattle.std.specs.Io.KnownBytes.{Appends};
+ghost use Rattle.planus_dump.specs.Writing.{WritesBeginning};
 ghost use Rattle.planus_commands.specs.Outcomes.{greatest_text, line_of, reason_of as reason_lem};
 
 use crate::shown::put_shown;
@@ -51,16 +52,18 @@ pub fn read_all<R: Read>(alloc: Global, reader: &mut R) -> Result<Vec<u8>, RunEr
     }
 }
 
-/// Writes all bytes, and flushes.
+/// Writes all bytes, and flushes. If this fails, what was written is a beginning of them.
 pub fn write_out<W: Write>(writer: &mut W, bytes: &[u8]) -> Result<(), RunError>
     ensures bytes { OnOk result (Appends (W.contents writer.old) (W.contents writer.new)
         bytes.now) }
+    ensures begun { OnErr result (WritesBeginning bytes.now (W.contents writer.old)
+        (W.contents writer.new)) }
     ensures error { IfErr result (λ error. error ≡ RunError.Write) }
 {
-    if writer.write_all(bytes).is_err() || writer.flush().is_err() {
-        return Err(RunError::Write);
+    match planus_dump::write_out(writer, bytes) {
+        Ok(()) => Ok(()),
+        Err(_) => Err(RunError::Write),
     }
-    Ok(())
 }
 
 fn line(alloc: Global, before: &str, name: &str, after: &str) -> Result<Vec<u8>, AllocError>

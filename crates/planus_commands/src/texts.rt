@@ -97,7 +97,7 @@ pub fn format<W: Write, X: Write>(
     ensures printed { IfOk result (λ printed. Prints name.now text.now printed
         (W.contents writer.old) (W.contents writer.new)
         (X.contents errors.old) (X.contents errors.new)) }
-    ensures failed { IfErr result (λ error. FailsPrinting error
+    ensures failed { IfErr result (λ error. FailsPrinting name.now text.now error
         (W.contents writer.old) (W.contents writer.new)
         (X.contents errors.old) (X.contents errors.new)) }
 {

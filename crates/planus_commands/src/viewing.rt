@@ -107,8 +107,8 @@ pub fn view_buffer<W: Write>(
 ) -> Result<bool, RunError>
     ensures shown { IfOk result (λ clean. WritesView schema.now bytes.now limits.lines limits.bytes
         clean (W.contents writer.old) (W.contents writer.new)) }
-    ensures failed { IfErr result (λ error. FailsViewing schema.now error
-        (W.contents writer.old) (W.contents writer.new)) }
+    ensures failed { IfErr result (λ error. FailsViewing schema.now bytes.now limits.lines
+        limits.bytes error (W.contents writer.old) (W.contents writer.new)) }
 {
     let view = match view(alloc, schema, bytes, limits.lines, limits.bytes) {
         Ok(view) => view,

@@ -10,5 +10,6 @@ mod Names
 mod NoFaults
 mod CleanDumps
 mod Ending
+pub mod Begun
 pub mod AsRead
 pub mod AsReadParts

@@ -14,4 +14,5 @@ pub mod Laws
 pub mod Shapes
 pub mod Runs
 pub mod Texts
+pub mod Writing
 pub mod inner

@@ -18,6 +18,7 @@ mod validate;
 mod values;
 mod views;
 mod walk;
+mod writing;
 
 pub use dumps::{DumpError, dump};
 pub use printed::push_hex;
@@ -27,3 +28,4 @@ pub use schemas::{
     TableSchema, VariantSchema,
 };
 pub use views::{End, FirstLines, view};
+pub use writing::{WriteError, write_out};

@@ -6,7 +6,7 @@ use Rattle.std.specs.Io.KnownBytes.{Appends}
 use Rattle.std.proofs.lemmas.List.{length-take-le, take_all}
 use Rattle.std.proofs.lemmas.Bool.Decides.{nat_tests}
 use Rattle.planus_dump.specs.declared.schemas.Schema.{Schema}
-use Rattle.planus_script.specs.Runner.{WritesBeginning}
+use Rattle.planus_dump.specs.Writing.{WritesBeginning}
 use Rattle.planus_script.specs.DumpRuns.{PrintsDump, PrintsBytes, IsFault, WritesDump, BeginsDump, input_bytes}
 
 dumped_whole : (schema : Schema) (bytes : List ℕ) (clean : Bool) (printed : List ℕ) (long : Bool) → nat_lt 1048576 (length bytes) ≡ long → PrintsDump schema (take 1048577 bytes) clean printed → PrintsDump schema bytes clean printed

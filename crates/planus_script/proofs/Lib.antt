@@ -2,7 +2,6 @@ pub mod Splitting
 pub mod Numbers
 pub mod Words
 pub mod Asked
-pub mod Begun
 pub mod ReadOn
 pub mod Printing
 pub mod Named

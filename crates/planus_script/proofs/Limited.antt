@@ -7,7 +7,8 @@ use Rattle.std.proofs.lemmas.List.{length-take-le, take_all}
 use Rattle.std.proofs.lemmas.Bool.Decides.{nat_tests}
 use Rattle.planus_script.specs.Script.{script_of}
 use Rattle.planus_script.specs.Printed.{Printed, PrintedOrOutOfMemory, IsScript, PrintsRead, line_of}
-use Rattle.planus_script.specs.Runner.{WritesPrinted, WritesBeginning, BeginsPrinted}
+use Rattle.planus_dump.specs.Writing.{WritesBeginning}
+use Rattle.planus_script.specs.Runner.{WritesPrinted, BeginsPrinted}
 
 printed_whole : (bytes : List ℕ) (clean : Bool) (printed : List ℕ) (long : Bool) → nat_lt 1048576 (length bytes) ≡ long → Printed (take 1048577 bytes) clean printed → Printed bytes clean printed
 printed_whole bytes clean printed true e h =

@@ -14,7 +14,7 @@ use Rattle.planus_dump.specs.declared.dumps.DumpError.{DumpError}
 use Rattle.planus_dump.specs.declared.dumps.DumpError.TheVariants.{OutOfMemory, BadSchema}
 use Rattle.planus_dump.specs.declared.dumps.DumpError.TheVariants.{TooDeep, TooManyLines}
 use Rattle.planus_script.specs.Printed.{greatest_script, line_of}
-use Rattle.planus_script.specs.Runner.{WritesBeginning}
+use Rattle.planus_dump.specs.Writing.{WritesBeginning}
 use Rattle.planus_script.specs.Script.{byte_of, onto_bytes}
 
 -- the greatest number of lines

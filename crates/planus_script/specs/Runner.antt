@@ -2,6 +2,7 @@
 use Rattle.std.specs.Prelude.{◌≡◌, ℕ, ◌+◌, ◌<◌, ◌≤◌, List, ◌++◌, length, Bool, true, false, Option}
 use Rattle.std.specs.Prelude.{Result, Ok, Err, ⊤}
 use Rattle.std.specs.Io.KnownBytes.{Appends, Consumes, Keeps}
+use Rattle.planus_dump.specs.Writing.{WritesBeginning}
 use Rattle.planus_script.specs.Printed.{greatest_script, PrintedOrOutOfMemory}
 use Rattle.planus_script.specs.declared.run.RunError.{RunError}
 use Rattle.planus_script.specs.declared.run.RunError.TheVariants.{OutOfMemory, Read, Write}
@@ -10,11 +11,6 @@ use Rattle.planus_script.specs.declared.run.RunError.TheVariants.{OutOfMemory, R
 abbrev pub WritesPrinted : List ℕ → Bool → Option (List ℕ) → Option (List ℕ) → Type 0
 WritesPrinted input clean before after = (printed : List ℕ)
     × PrintedOrOutOfMemory input clean printed × Appends before after printed
-
--- a beginning of these bytes was written, and nothing else
-abbrev pub WritesBeginning : List ℕ → Option (List ℕ) → Option (List ℕ) → Type 0
-WritesBeginning bytes before after = (written : List ℕ) × (rest : List ℕ)
-    × (bytes ≡ written ++ rest) × Appends before after written
 
 -- a beginning of what is printed for the input was written, and nothing else
 abbrev pub BeginsPrinted : List ℕ → Option (List ℕ) → Option (List ℕ) → Type 0

@@ -6,7 +6,8 @@ ghost use Rattle.std.specs.Io.KnownBytes.{Appends, Consumes, IsAtEnd, Keeps, Wri
 ghost use Rattle.planus_script.specs.Printed.{greatest_script, PrintedOrOutOfMemory};
 ghost use Rattle.planus_script.specs.inner.Outputs.{is_clean, printed_text};
 ghost use Rattle.planus_script.specs.Runner.{WritesPrinted, LeavesUnwritten, StopsReading};
-ghost use Rattle.planus_script.specs.Runner.{WritesBeginning, BeginsPrinted};
+ghost use Rattle.planus_script.specs.Runner.{BeginsPrinted};
+ghost use Rattle.planus_dump.specs.Writing.{WritesBeginning};
 ghost use Rattle.planus_script.specs.Runner.{status_of};
 
 use crate::output::Output;
@@ -130,39 +131,6 @@ fn output_of(alloc: Global, input: &[u8]) -> std::result::Result<Output, AllocEr
     }
 }
 
-/// Writes some of the bytes, and returns how many: 0 where the write was interrupted.
-fn write_some<W: Write>(writer: &mut W, bytes: &[u8]) -> std::result::Result<usize, RunError>
-    ensures bound { IfOk result (λ count. count ≤ length bytes.now) }
-    ensures bytes { WriteAppends (W.contents writer.old) (W.contents writer.new) result bytes.now }
-    ensures error { IfErr result (λ error. error ≡ RunError.Write) }
-{
-    match writer.write(bytes) {
-        Ok(0) => Err(RunError::Write),
-        Ok(count) => Ok(count),
-        Err(error) if error.kind() == ErrorKind::Interrupted => Ok(0),
-        Err(_) => Err(RunError::Write),
-    }
-}
-
-/// Writes all bytes. There are up to 2^64 - 1 writes, with those that are interrupted.
-fn write_whole<W: Write>(writer: &mut W, bytes: &[u8]) -> std::result::Result<(), RunError>
-    ensures bytes { OnOk result (Appends (W.contents writer.old)
-        (W.contents writer.new) bytes.now) }
-    ensures begun { OnErr result (WritesBeginning bytes.now (W.contents writer.old)
-        (W.contents writer.new)) }
-    ensures error { IfErr result (λ error. error ≡ RunError.Write) }
-{
-    let mut rest = bytes;
-    'writes: for _ in 0..u64::MAX {
-        if rest.is_empty() {
-            return Ok(());
-        }
-        let count = write_some(writer, rest)?;
-        rest = rest.split_at(count).1;
-    }
-    Err(RunError::Write)
-}
-
 /// Writes all bytes, and flushes the writer. If this fails, what was written is a beginning of
 /// them.
 pub fn write_out<W: Write>(writer: &mut W, bytes: &[u8]) -> std::result::Result<(), RunError>
@@ -172,8 +140,7 @@ pub fn write_out<W: Write>(writer: &mut W, bytes: &[u8]) -> std::result::Result<
         (W.contents writer.new)) }
     ensures error { IfErr result (λ error. error ≡ RunError.Write) }
 {
-    write_whole(writer, bytes)?;
-    match writer.flush() {
+    match planus_dump::write_out(writer, bytes) {
         Ok(()) => Ok(()),
         Err(_) => Err(RunError::Write),
     }

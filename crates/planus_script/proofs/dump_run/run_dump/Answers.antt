@@ -3,7 +3,7 @@ use Rattle.std.specs.String.{string_bytes}
 use Rattle.std.proofs.lemmas.Result.{err_from_is_err_and}
 use Rattle.std.specs.Io.KnownBytes.{Appends}
 use Rattle.planus_script.specs.DumpRuns.{PrintsDump}
-use Rattle.planus_script.specs.Runner.{WritesBeginning}
+use Rattle.planus_dump.specs.Writing.{WritesBeginning}
 use Rattle.planus_script.proofs.DumpLimited.{writes_dump, begins_dump}
 use Rattle.planus_script.proofs.dump_run.run_dump.Goals as goal
 

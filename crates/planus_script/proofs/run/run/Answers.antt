@@ -3,7 +3,7 @@ use Rattle.std.specs.String.{string_bytes}
 use Rattle.std.proofs.lemmas.Result.{err_from_is_err_and}
 use Rattle.std.specs.Io.KnownBytes.{Appends}
 use Rattle.planus_script.specs.Printed.{PrintedOrOutOfMemory}
-use Rattle.planus_script.specs.Runner.{WritesBeginning}
+use Rattle.planus_dump.specs.Writing.{WritesBeginning}
 use Rattle.planus_script.proofs.Limited.{writes_printed, begins_printed}
 use Rattle.planus_script.proofs.run.run.Goals as goal
 

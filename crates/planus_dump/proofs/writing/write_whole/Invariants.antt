@@ -1,5 +1,5 @@
-use Rattle.planus_script.proofs.Begun.{Leaves}
-use Rattle.planus_script.proofs.run.write_whole.Given as goal
+use Rattle.planus_dump.proofs.Begun.{Leaves}
+use Rattle.planus_dump.proofs.writing.write_whole.Given as goal
 
 abbrev pub invariant-writes : goal.invariant-writes
 invariant-writes g l = record {

@@ -1,0 +1,8 @@
+-- What was written where writing may fail.
+use Rattle.std.specs.Prelude.{◌≡◌, ℕ, List, ◌++◌, Option}
+use Rattle.std.specs.Io.KnownBytes.{Appends}
+
+-- a beginning of these bytes was written, and nothing else
+abbrev pub WritesBeginning : List ℕ → Option (List ℕ) → Option (List ℕ) → Type 0
+WritesBeginning bytes before after = (written : List ℕ) × (rest : List ℕ)
+    × (bytes ≡ written ++ rest) × Appends before after written
