@@ -8,6 +8,7 @@ use Rattle.std.specs.String.{string_bytes}
 use Rattle.std.specs.Io.KnownBytes.{Appends, Keeps}
 use Rattle.std.specs.Global.{Vec}
 use Rattle.planus_dump.specs.Writing.{WritesBeginning}
+use Rattle.planus_syntax.specs.Strings.{is_quote}
 use Rattle.planus_syntax.specs.Values.{Name, DeclarationV, schema_of}
 use Rattle.planus_syntax.specs.declared.value.Declaration.{Declaration}
 use Rattle.planus_schema.specs.Faults.{AreInOrder, faults_found}
@@ -38,7 +39,7 @@ ends_word b = not (is_in_range 65 90 b || is_in_range 97 122 b || is_in_range 48
 
 abbrev pub unquoted : List ℕ → List ℕ
 unquoted [] = []
-unquoted (b ∷ bs) = if b == 34 then bs else b ∷ bs
+unquoted (b ∷ bs) = if is_quote b then bs else b ∷ bs
 
 -- the name at the front of these bytes
 abbrev pub word_of : List ℕ → List ℕ

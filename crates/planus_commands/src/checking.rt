@@ -36,7 +36,7 @@ fn unquoted(bytes: &[u8]) -> &[u8]
     ensures { result.now ≡ unquoted_lem bytes.now }
 {
     match bytes.split_first() {
-        Some((first, rest)) if *first == b'"' => rest,
+        Some((b'"' | b'\'', rest)) => rest,
         _ => bytes,
     }
 }

@@ -16,7 +16,7 @@ use crate::placed::placed_report;
 use crate::said::{CLEAN, FAILED, FAULTY};
 use crate::streams::{GREATEST_TEXT, RunError, say, write_out};
 use planus_schema::{Schema, file_index};
-use planus_syntax::{Declaration, Item, after_order_mark};
+use planus_syntax::{Declaration, Item, after_order_mark, string_text};
 use std::alloc::{AllocError, Global};
 use std::io::Write;
 
@@ -147,7 +147,8 @@ fn included_or_report<F: Files, X: Write>(
     ensures kept { IfOk result (λ found. IfSome found (λ _.
         Keeps (X.contents errors.old) (X.contents errors.new))) }
 {
-    let path = std::str::from_utf8(path).unwrap_or("");
+    let text = string_text(alloc, path)?;
+    let path = std::str::from_utf8(&text).unwrap_or("");
     let message = match included(files, alloc, folders, file.name.as_str(), path)? {
         Some(name) if left > 0 => return Ok(Some(name)),
         Some(_) => b"more than 64 files include one another".as_slice(),

@@ -10,6 +10,7 @@ use Rattle.std.specs.Prelude.{Option, Some, None, codes, ◌==◌, if◌then◌e
 use Rattle.std.specs.Str.{bytes_eq}
 use Rattle.planus_syntax.specs.Tokens.{is_number, is_float_name}
 use Rattle.planus_syntax.specs.Values.{Name, LiteralV, numeral, named, quote, nothing, EnumerationV, names_of}
+use Rattle.planus_syntax.specs.Strings.{between_quotes, string_text}
 use Rattle.planus_layout.specs.declared.number.Number.{Number}
 use Rattle.planus_layout.specs.declared.scalar.Scalar.{Scalar}
 use Rattle.planus_layout.specs.declared.scalar.Scalar.TheVariants as scalar
@@ -20,7 +21,7 @@ use Rattle.planus_layout.specs.Numbers.{integer_said, is_float, is_bool, fits, z
 use Rattle.planus_schema.specs.Names.{HeadV, item_at, cut_words}
 use Rattle.planus_schema.specs.Enums.{variants_or_none}
 use Rattle.planus_schema.specs.Enums.{is_flags}
-use Rattle.planus_schema.specs.Defaults.{ValueV, absent, integer, float, text, empty, lone_word, is_null, null_or, if_fits, whole_number, number_default, truth, bool_number, named_bool, named_float, float_number, scalar_number, scalar_word, scalar_named_by, scalar_default, enum_quoted, value_named, value_name, value_in, as_integer, enum_named, is_among_values, among_values, flags_named, with_flag, or_flag, as_flags, text_default, vector_default, enum_at, default_in, base_default, zero_in, zero_scalar, zero_default, some_default, default_said, is_scalar_value, is_enum_value, is_text_value, is_vector_value, is_value, is_default}
+use Rattle.planus_schema.specs.Defaults.{ValueV, absent, integer, float, text, empty, lone_word, is_null, null_or, if_fits, whole_number, number_default, truth, bool_number, named_bool, named_float, float_number, scalar_number, scalar_quoted, scalar_word, scalar_named_by, scalar_default, enum_quoted, value_named, value_name, value_in, as_integer, enum_named, is_among_values, among_values, flags_named, with_flag, or_flag, as_flags, text_default, vector_default, enum_at, default_in, base_default, zero_in, zero_scalar, zero_default, some_default, default_said, is_scalar_value, is_enum_value, is_text_value, is_vector_value, is_value, is_default}
 
 record Allowed (p : ValueV → Bool) (o : Option ValueV) : Type 0 where
   each : (v : ValueV) → o ≡ Some v → p v ≡ true
@@ -102,10 +103,13 @@ scalar_named_allowed : (s : Scalar) (o : Option Name) → Allowed (is_scalar_val
 scalar_named_allowed s None = none_allowed (is_scalar_value s)
 scalar_named_allowed s (Some w) = scalar_word_allowed s w
 
+scalar_quoted_allowed : (s : Scalar) (w : List ℕ) → Allowed (is_scalar_value s) (scalar_quoted s w)
+scalar_quoted_allowed s w = chosen (is_scalar_value s) (is_number w) (scalar_number s w) (scalar_word s w) (λ _. scalar_number_allowed s w) (λ _. scalar_word_allowed s w)
+
 scalar_allowed : (s : Scalar) (l : LiteralV) → Allowed (is_scalar_value s) (scalar_default s l)
 scalar_allowed s (numeral w) = scalar_number_allowed s w
 scalar_allowed s (named p) = scalar_named_allowed s (lone_word p)
-scalar_allowed s (quote w) = chosen (is_scalar_value s) (is_number w) (scalar_number s w) (scalar_word s w) (λ _. scalar_number_allowed s w) (λ _. scalar_word_allowed s w)
+scalar_allowed s (quote w) = scalar_quoted_allowed s (between_quotes w)
 scalar_allowed s nothing = none_allowed (is_scalar_value s)
 
 integer_allowed : (o : Option Number) → Allowed is_enum_value (as_integer o)
@@ -140,13 +144,13 @@ enum_allowed : (o : Option EnumerationV) (l : LiteralV) → Allowed is_enum_valu
 enum_allowed None l = none_allowed is_enum_value
 enum_allowed (Some e) (numeral w) = number_allowed e (integer_said w)
 enum_allowed (Some e) (named p) = null_or_allowed is_enum_value (lone_word p) (enum_named e p) refl (value_allowed e (value_name e p))
-enum_allowed (Some e) (quote w) = enum_quoted_allowed e w
+enum_allowed (Some e) (quote w) = enum_quoted_allowed e (between_quotes w)
 enum_allowed (Some e) nothing = none_allowed is_enum_value
 
 text_allowed : (l : LiteralV) → Allowed is_text_value (text_default l)
 text_allowed (numeral w) = none_allowed is_text_value
 text_allowed (named p) = none_allowed is_text_value
-text_allowed (quote w) = one_allowed is_text_value (text w) refl
+text_allowed (quote w) = one_allowed is_text_value (text (string_text w)) refl
 text_allowed nothing = none_allowed is_text_value
 
 vector_allowed : (l : LiteralV) → Allowed is_vector_value (vector_default l)

@@ -10,6 +10,7 @@ use Rattle.planus_syntax.specs.Values.{native_include}
 use Rattle.planus_syntax.specs.Values.{enumeration, union, service, root, identifier, extension}
 use Rattle.planus_syntax.specs.Values.{VariantV, EnumerationV}
 use Rattle.planus_syntax.specs.Tokens.{is_number, is_float_name}
+use Rattle.planus_syntax.specs.Strings.{between_quotes, string_text}
 use Rattle.planus_layout.specs.declared.number.Number.{Number}
 use Rattle.planus_layout.specs.declared.scalar.Scalar.{Scalar}
 use Rattle.planus_layout.specs.declared.scalar.Scalar.TheVariants.{UByte}
@@ -101,7 +102,7 @@ scalar_quoted s w = if is_number w then scalar_number s w else scalar_word s w
 abbrev pub scalar_default : Scalar → LiteralV → Option ValueV
 scalar_default s (numeral w) = scalar_number s w
 scalar_default s (named p) = scalar_named_by s (lone_word p)
-scalar_default s (quote w) = scalar_quoted s w
+scalar_default s (quote w) = scalar_quoted s (between_quotes w)
 scalar_default s nothing = None
 
 abbrev pub this_or : Bool → Bool → Option Number → Option Number → Option Number
@@ -180,13 +181,13 @@ null_or (Some w) o = if is_null w then Some absent else o
 abbrev pub enum_default : EnumerationV → LiteralV → Option ValueV
 enum_default e (numeral w) = number_default e (integer_said w)
 enum_default e (named p) = null_or (lone_word p) (enum_named e p)
-enum_default e (quote w) = enum_quoted e w
+enum_default e (quote w) = enum_quoted e (between_quotes w)
 enum_default e nothing = None
 
 abbrev pub text_default : LiteralV → Option ValueV
 text_default (numeral w) = None
 text_default (named p) = None
-text_default (quote w) = Some (text w)
+text_default (quote w) = Some (text (string_text w))
 text_default nothing = None
 
 abbrev pub vector_default : LiteralV → Option ValueV

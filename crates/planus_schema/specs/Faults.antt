@@ -11,6 +11,7 @@ use Rattle.planus_syntax.specs.Values.{Name, PathV, item_of, schema_of, declarat
 use Rattle.planus_syntax.specs.declared.value.Declaration.{Declaration}
 use Rattle.planus_syntax.specs.declared.value.Item.{Item}
 use Rattle.planus_syntax.specs.declared.value.Item.TheVariants as item
+use Rattle.planus_syntax.specs.Strings.{string_text}
 use Rattle.planus_layout.specs.declared.scalar.Scalar.{Scalar}
 use Rattle.planus_layout.specs.declared.measure.Measure.{Measure}
 use Rattle.planus_layout.specs.Numbers.{scalar_size}
@@ -180,7 +181,7 @@ wrong_statement hs space left (item.Union u) = None
 wrong_statement hs space left (item.Service s) = None
 wrong_statement hs space left (item.RootType p) = wrong_table problem.RootIsNoTable hs as_root space p
 wrong_statement hs space left (item.FileIdentifier w) =
-    when (not (length w.items == 4)) problem.WrongIdentifier left
+    when (not (length (string_text w.items) == 4)) problem.WrongIdentifier left
 wrong_statement hs space left (item.FileExtension w) = None
 
 -- the fault of its attributes and methods, and then of its statement

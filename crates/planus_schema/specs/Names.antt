@@ -10,6 +10,7 @@ use Rattle.planus_syntax.specs.Values.{native_include}
 use Rattle.planus_syntax.specs.Values.{struct}
 use Rattle.planus_syntax.specs.Values.{enumeration, union, service, root, identifier, extension}
 use Rattle.planus_syntax.specs.Values.{DeclarationV, path_of, declaration_of}
+use Rattle.planus_syntax.specs.Values.{label_name, label_of}
 use Rattle.planus_syntax.specs.declared.value.Path.{Path}
 use Rattle.planus_syntax.specs.declared.value.Attribute.{Attribute}
 use Rattle.std.specs.Option.{option_map}
@@ -325,13 +326,13 @@ type_named hs space (vector p) =
 -- the first of this name
 abbrev pub setting : Name → List AttributeV → Option AttributeV
 setting w [] = None
-setting w (a ∷ more) = if bytes_eq a.label.name w then Some a else setting w more
+setting w (a ∷ more) = if bytes_eq (label_name a.label) w then Some a else setting w more
 
 -- the same, with its place
 abbrev pub attribute_named : Name → List Attribute → Option Attribute
 attribute_named w [] = None
 attribute_named w (a ∷ more) =
-    if bytes_eq a.label.name.items w then Some a else attribute_named w more
+    if bytes_eq (label_name (label_of a.label)) w then Some a else attribute_named w more
 
 abbrev pub has : Name → List AttributeV → Bool
 has w attributes = is_set (setting w attributes)

@@ -6,6 +6,7 @@ use Rattle.planus_syntax.specs.Values.{PathV, ItemV, include, namespace, attribu
 use Rattle.planus_syntax.specs.Values.{native_include}
 use Rattle.planus_syntax.specs.Values.{struct, enumeration, union, service, root, identifier}
 use Rattle.planus_syntax.specs.Values.{extension, DeclarationV, names_of}
+use Rattle.planus_syntax.specs.Strings.{string_text}
 use Rattle.planus_layout.specs.declared.schema.Body.{Body}
 use Rattle.planus_layout.specs.declared.schema.Body.TheVariants as body
 use Rattle.planus_layout.specs.declared.schema.Declared.{Declared}
@@ -70,8 +71,8 @@ after hs space s (enumeration e) = s
 after hs space s (union u) = s
 after hs space s (service x) = s
 after hs space s (root p) = record s { root = Some (table_in (base_as hs as_root space p)) }
-after hs space s (identifier w) = record s { identifier = Some w }
-after hs space s (extension w) = record s { extension = Some w }
+after hs space s (identifier w) = record s { identifier = Some (string_text w) }
+after hs space s (extension w) = record s { extension = Some (string_text w) }
 
 -- after `n` declarations
 abbrev pub after_file : List HeadV → ℕ → Option PathV → StatementsV → List DeclarationV

@@ -6,6 +6,7 @@ use Rattle.std.specs.Prelude.{List, Option, Some, None, codes}
 use Rattle.planus_syntax.specs.Values.{LiteralV, numeral, named, quote, nothing, AttributeV}
 use Rattle.planus_syntax.specs.Values.{FieldV, RecordV, names_of}
 use Rattle.planus_syntax.specs.Tokens.{is_number}
+use Rattle.planus_syntax.specs.Strings.{between_quotes}
 use Rattle.planus_layout.specs.declared.schema.Body.{Body}
 use Rattle.planus_layout.specs.declared.schema.FieldType.{FieldType}
 use Rattle.planus_layout.specs.declared.schema.Struct.{Struct}
@@ -57,7 +58,8 @@ abbrev pub number_in : Option LiteralV → Option ℕ
 number_in None = None
 number_in (Some (numeral w)) = natural_of (integer_said w)
 number_in (Some (named p)) = None
-number_in (Some (quote w)) = if is_number w then natural_of (integer_said w) else None
+number_in (Some (quote w)) =
+    let text = between_quotes w in if is_number text then natural_of (integer_said text) else None
 number_in (Some nothing) = None
 
 -- `force_align`, or the greatest alignment of the fields

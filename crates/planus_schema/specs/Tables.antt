@@ -6,6 +6,7 @@ use Rattle.std.specs.List.{list_any, list_all}
 use Rattle.std.specs.Option.{option_map}
 use Rattle.planus_syntax.specs.Values.{Name, LiteralV, numeral, named, quote, nothing, AttributeV}
 use Rattle.planus_syntax.specs.Values.{FieldV, RecordV, names_of}
+use Rattle.planus_syntax.specs.Strings.{between_quotes}
 use Rattle.planus_layout.specs.declared.scalar.Scalar.TheVariants.{UByte}
 use Rattle.planus_layout.specs.declared.schema.Base.{Base}
 use Rattle.planus_layout.specs.declared.schema.Base.TheVariants as base
@@ -102,7 +103,7 @@ abbrev pub nested_name : Option LiteralV → Option Name
 nested_name None = None
 nested_name (Some (numeral w)) = None
 nested_name (Some (named p)) = None
-nested_name (Some (quote w)) = Some w
+nested_name (Some (quote w)) = Some (between_quotes w)
 nested_name (Some nothing) = None
 
 abbrev pub table_found : List HeadV → SpaceV → Option Name → Option Base

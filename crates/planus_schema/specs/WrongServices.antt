@@ -1,7 +1,8 @@
 -- Faults of attributes and services.
-use Rattle.std.specs.Prelude.{not, List, [], ◌∷◌, ◌++◌, Option, None, codes}
+use Rattle.std.specs.Prelude.{Bool, ◌==◌, ◌&&◌, not, List, [], ◌∷◌, ◌++◌, Option, None, codes}
+use Rattle.std.specs.List.{list_any}
 use Rattle.std.specs.Global.{Vec}
-use Rattle.planus_syntax.specs.Values.{Name}
+use Rattle.planus_syntax.specs.Values.{Name, label_name, label_of}
 use Rattle.planus_syntax.specs.declared.value.Attribute.{Attribute}
 use Rattle.planus_syntax.specs.declared.value.Declaration.{Declaration}
 use Rattle.planus_syntax.specs.declared.value.Field.{Field}
@@ -29,7 +30,7 @@ abbrev pub customs_at : Item → List Name
 customs_at (item.Include w) = []
 customs_at (item.NativeInclude w) = []
 customs_at (item.Namespace p) = []
-customs_at (item.Attribute l) = l.name.items ∷ []
+customs_at (item.Attribute l) = label_name (label_of l) ∷ []
 customs_at (item.Table r) = []
 customs_at (item.Struct r) = []
 customs_at (item.Enum e) = []
@@ -51,10 +52,15 @@ customs_of (f ∷ fs) = customs_in f.items ++ customs_of fs
 abbrev pub known_attributes : List (Vec Declaration) → List Name
 known_attributes files = built_in ++ customs_of files
 
+-- a known name, which has no escapes
+abbrev pub is_known : List Name → Name → Bool
+is_known known w = not (list_any (λ b. b == 92) w) && is_in known w
+
 abbrev pub wrong_attributes : List Name → List Attribute → Option Broken
 wrong_attributes known [] = None
 wrong_attributes known (a ∷ more) =
-    first (when (not (is_in known a.label.name.items)) problem.UnknownAttribute a.label.left)
+    first (when (not (is_known known (label_name (label_of a.label)))) problem.UnknownAttribute
+    a.label.left)
     (wrong_attributes known more)
 
 abbrev pub wrong_in_fields : List Name → List Field → Option Broken

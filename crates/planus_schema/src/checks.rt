@@ -6,7 +6,7 @@ ghost use Rattle.planus_syntax.specs.Values.{Name, names_of};
 ghost use Rattle.planus_schema.specs.inner.Index.{IsTaken};
 ghost use Rattle.planus_schema.specs.Wrong.{Tells};
 ghost use Rattle.planus_schema.specs.WrongServices.{built_in as built_in_lem};
-ghost use Rattle.planus_schema.specs.WrongServices.{customs_in};
+ghost use Rattle.planus_schema.specs.WrongServices.{customs_in, is_known as is_known_lem};
 ghost use Rattle.planus_schema.specs.WrongServices.{known_attributes as known_attributes_lem};
 ghost use Rattle.planus_schema.specs.WrongServices.{wrong_attributes};
 ghost use Rattle.planus_schema.specs.WrongServices.{wrong_in_fields};
@@ -19,7 +19,7 @@ use crate::names::take_key;
 use crate::scope::Scope;
 use crate::words::cut_words;
 use planus_layout::is_among;
-use planus_syntax::{Attribute, Declaration, Field, Item, Method};
+use planus_syntax::{Attribute, Declaration, Field, Item, Method, label_name};
 use std::alloc::{AllocError, Global};
 use std::collections::BTreeMap;
 
@@ -46,7 +46,7 @@ fn add_customs(
 {
     'declarations: for declaration in declarations {
         if let Item::Attribute(label) = &declaration.item {
-            let name = or_return!(Vec::from_slice(alloc, &label.name));
+            let name = or_return!(Vec::from_slice(alloc, label_name(label)));
             known.push(name)?;
         }
     }
@@ -66,12 +66,18 @@ pub(crate) fn known_attributes(
     Ok(known)
 }
 
+fn is_known(known: &[Vec<u8>], name: &[u8]) -> bool
+    ensures { result ≡ is_known_lem (names_of known.now) name.now }
+{
+    !name.contains(&b'\\') && is_among(known, name)
+}
+
 fn check_attributes(known: &[Vec<u8>], attributes: &[Attribute]) -> Result<(), Stop>
     ensures { Tells (wrong_attributes (names_of known.now) attributes.now) result }
 {
     'attributes: for attribute in attributes {
         let label = &attribute.label;
-        if !is_among(known, &label.name) {
+        if !is_known(known, label_name(label)) {
             return Err(wrong(Problem::UnknownAttribute, label.left));
         }
     }

@@ -16,6 +16,7 @@ ghost use Rattle.planus_schema.specs.Defaults.{bool_number as bool_number_lem};
 ghost use Rattle.planus_schema.specs.Defaults.{named_bool as named_bool_lem};
 ghost use Rattle.planus_schema.specs.Defaults.{scalar_number as scalar_number_lem};
 ghost use Rattle.planus_schema.specs.Defaults.{scalar_word as scalar_word_lem};
+ghost use Rattle.planus_schema.specs.Defaults.{scalar_quoted as scalar_quoted_lem};
 ghost use Rattle.planus_schema.specs.Defaults.{value_in as value_in_lem};
 ghost use Rattle.planus_schema.specs.Defaults.{enum_quoted as enum_quoted_lem};
 ghost use Rattle.planus_schema.specs.Names.{cut_words as cut_words_lem};
@@ -42,7 +43,10 @@ use crate::words::cut_words;
 use planus_layout::{
     Base, FieldType, Number, Scalar, Value, integer, is_hexadecimal, without_sign,
 };
-use planus_syntax::{Enumeration, Item, Literal, Path, Variant, is_float_name, is_number};
+use planus_syntax::{
+    Enumeration, Item, Literal, Path, Variant, between_quotes, is_float_name, is_number,
+    string_text,
+};
 use std::alloc::{AllocError, Global};
 
 fn lone_word(path: &Path) -> Option<&[u8]>
@@ -135,6 +139,16 @@ fn scalar_word(alloc: Global, scalar: Scalar, word: &[u8]) -> Result<Option<Valu
     }
 }
 
+fn scalar_quoted(alloc: Global, scalar: Scalar, text: &[u8]) -> Result<Option<Value>, AllocError>
+    ensures { IfOk result (λ o. option_map value_of o ≡ scalar_quoted_lem scalar text.now) }
+{
+    if is_number(text) {
+        scalar_number(alloc, scalar, text)
+    } else {
+        scalar_word(alloc, scalar, text)
+    }
+}
+
 fn scalar_default(
     alloc: Global,
     scalar: Scalar,
@@ -149,8 +163,7 @@ fn scalar_default(
             Some(word) => scalar_word(alloc, scalar, word),
             None => Ok(None),
         },
-        Literal::Text(text) if is_number(text) => scalar_number(alloc, scalar, text),
-        Literal::Text(text) => scalar_word(alloc, scalar, text),
+        Literal::Text(string) => scalar_quoted(alloc, scalar, between_quotes(string)),
         Literal::EmptyVector => Ok(None),
     }
 }
@@ -350,7 +363,7 @@ fn enum_default(
     match literal {
         Literal::Number(digits) => Ok(enum_number(declared, digits)),
         Literal::Name(path) => Ok(enum_word(declared, path)),
-        Literal::Text(text) => enum_quoted(alloc, declared, text),
+        Literal::Text(string) => enum_quoted(alloc, declared, between_quotes(string)),
         Literal::EmptyVector => Ok(None),
     }
 }
@@ -378,8 +391,8 @@ pub(crate) fn literal_default(
         (_, Literal::EmptyVector) if kind.vector => Ok(Some(Value::EmptyVector)),
         _ if kind.vector => Ok(None),
         (Base::Scalar(scalar), _) => scalar_default(alloc, scalar, literal),
-        (Base::Text, Literal::Text(bytes)) => {
-            let text = or_return!(Vec::from_slice(alloc, bytes));
+        (Base::Text, Literal::Text(string)) => {
+            let text = or_return!(string_text(alloc, string));
             Ok(Some(Value::Text(text)))
         }
         (Base::Enum(index), _) => match enum_at(heads, index) {

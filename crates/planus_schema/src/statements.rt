@@ -21,7 +21,7 @@ use crate::kind::table_at;
 use crate::lookup::Wanted;
 use crate::scope::Scope;
 use planus_layout::Statements;
-use planus_syntax::{Declaration, Item};
+use planus_syntax::{Declaration, Item, string_text};
 use std::alloc::{AllocError, Global};
 
 fn state(
@@ -43,15 +43,15 @@ fn state(
             let table = or_return!(table_at(scope, Wanted::Root, path, Problem::RootIsNoTable));
             statements.root = Some(table);
         }
-        Item::FileIdentifier(word) => {
-            if word.len() != 4 {
+        Item::FileIdentifier(string) => {
+            let identifier = or_return!(string_text(scope.alloc, string), Stop::OutOfMemory);
+            if identifier.len() != 4 {
                 return Err(wrong(Problem::WrongIdentifier, declaration.left));
             }
-            let identifier = or_return!(Vec::from_slice(scope.alloc, word), Stop::OutOfMemory);
             statements.identifier = Some(identifier);
         }
-        Item::FileExtension(word) => {
-            let extension = or_return!(Vec::from_slice(scope.alloc, word), Stop::OutOfMemory);
+        Item::FileExtension(string) => {
+            let extension = or_return!(string_text(scope.alloc, string), Stop::OutOfMemory);
             statements.extension = Some(extension);
         }
         _ => {}

@@ -30,7 +30,7 @@ use planus_layout::{
     Base, Declared, FieldType, Layout, Measure, Struct, StructField, Value, greater, integer,
     is_alignment, measure_of, next_multiple,
 };
-use planus_syntax::{Attribute, Field, Literal, Record, is_number};
+use planus_syntax::{Attribute, Field, Literal, Record, between_quotes, is_number};
 use std::collections::BTreeMap;
 
 fn is_zero(value: &Option<Value>) -> bool
@@ -179,7 +179,10 @@ pub(crate) fn setting_number(attribute: &Attribute) -> Option<u64>
 {
     match &attribute.value {
         Some(Literal::Number(digits)) => natural(digits),
-        Some(Literal::Text(text)) if is_number(text) => natural(text),
+        Some(Literal::Text(string)) => {
+            let text = between_quotes(string);
+            if is_number(text) { natural(text) } else { None }
+        }
         _ => None,
     }
 }

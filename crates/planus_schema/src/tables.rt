@@ -32,7 +32,7 @@ use crate::names::{copied, take_key};
 use crate::scope::Scope;
 use crate::slots::{check_slots, field_slot, has_ids};
 use planus_layout::{Base, FieldType, Scalar, Table, TableField, is_union, width};
-use planus_syntax::{Attribute, Field, Literal, Record};
+use planus_syntax::{Attribute, Field, Literal, Record, between_quotes};
 use std::alloc::{AllocError, Global};
 use std::collections::BTreeMap;
 
@@ -120,8 +120,9 @@ fn nested_of(scope: &Scope, attributes: &[Attribute]) -> Result<Option<usize>, S
 {
     match setting(attributes, b"nested_flatbuffer") {
         Some(attribute) => match &attribute.value {
-            Some(Literal::Text(text)) => {
-                let table = or_return!(table_named(scope, text, attribute.label.left));
+            Some(Literal::Text(string)) => {
+                let name = between_quotes(string);
+                let table = or_return!(table_named(scope, name, attribute.label.left));
                 Ok(Some(table))
             }
             _ => Err(wrong(Problem::NestedIsNoTable, attribute.label.left)),

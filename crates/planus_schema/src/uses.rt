@@ -15,7 +15,9 @@ use crate::head::{own_name, space_after};
 use crate::kind::plain_base;
 use crate::lookup::Wanted;
 use crate::unions::{target_of, wanted_of};
-use planus_syntax::{Attribute, Declaration, Field, Item, Kind, Literal, Member, Method, Path};
+use planus_syntax::{
+    Attribute, Declaration, Field, Item, Kind, Literal, Member, Method, Path, between_quotes,
+};
 use std::alloc::{AllocError, Global};
 
 /// The file and the namespace of a declaration.
@@ -78,13 +80,13 @@ fn put_nested<'a>(
     let Some(attribute) = setting(attributes, b"nested_flatbuffer") else {
         return Ok(());
     };
-    let Some(Literal::Text(text)) = &attribute.value else {
+    let Some(Literal::Text(string)) = &attribute.value else {
         return Ok(());
     };
     let usage = Use {
         wanted: Wanted::Record,
         spot,
-        first: text,
+        first: between_quotes(string),
         more: &[],
         left: attribute.label.left,
     };

@@ -320,6 +320,10 @@ attribute \"priority\"; table T (original_order) { x: ulong (hash: \"fnv1_64\", 
 => T.s slot 2; T.s of string; T.v slot 3; T.v of [ubyte]; T.x slot 0; T.x of ulong; T.y slot 1; \
     T.y of int
 
+table T {} root_type T; file_identifier '\\x41B\\u0043\\\"'; file_extension \
+    \"\\u00e9\\ud83d\\ude00\\\\'\\/\";
+=> schema root T; schema identifier ABC\"; schema extension é😀\\'/
+
 table T {} root_type T; file_identifier \"ABCD\"; file_identifier \"EFGH\";
 => schema root T; schema identifier EFGH";
 

@@ -1,14 +1,18 @@
 -- The canonical layout is a spelling.
 use Rattle.std.proofs.Common.{◌≡◌, ℕ, List, [], ◌∷◌, ◌++◌, Bool, true, false, cond, refl, sym, ap, ◌∙◌, subst}
-use Rattle.std.specs.Prelude.{not, ◌==◌, ◌||◌, ◌&&◌, codes}
+use Rattle.std.specs.Prelude.{fold, not, ◌==◌, ◌||◌, ◌&&◌, codes}
 use Rattle.std.specs.List.{list_all, AllByRecursion}
 use Rattle.std.specs.Char.{is_ascii_digit}
+use Rattle.std.specs.Str.{is_utf8}
 use Rattle.std.proofs.lemmas.Bool.{eqb-true}
 use Rattle.planus_syntax.specs.declared.layout.Place.{Place}
 use Rattle.planus_syntax.specs.Tokens.{Piece, word, number, text, doc, mark, begins, is_word_byte, is_number_start, is_number_byte, is_line_byte, is_blank, is_mark, is_lawful, bytes_of}
 use Rattle.planus_syntax.specs.Layout.{is_doc, is_mark_of, place_after, outside, is_tight, is_open, is_number_piece, is_glued, is_grouped, new_line, between_declarations, after_mark, spaced, apart, gap_before, laid_out, printed}
+use Rattle.planus_syntax.specs.declared.strings.StringState.TheVariants.{Plain}
+use Rattle.planus_syntax.specs.Strings.{is_quote, is_string, is_closed, string_step}
 use Rattle.planus_syntax.specs.Spelled.{Part, token, blank, goes_on, spelled, tokens_in, AreParts}
 use Rattle.planus_syntax.proofs.Marks.{one_of, never, neither, not_true}
+use Rattle.planus_syntax.proofs.Quotes.{of_quotes}
 
 blanks : List ℕ → List Part → List Part
 blanks [] ps = ps
@@ -114,10 +118,17 @@ word_digit (c ∷ w) rest h =
     let a = both (list_all is_word_byte (c ∷ w)) (not (is_number_start c)) h in
     (neither (is_ascii_digit c) (c == 43 || c == 45) (not_true (is_number_start c) a.1)).0
 
+text_digit : (w rest : List ℕ) → is_lawful (text w) ≡ true → Stops is_ascii_digit (w ++ rest)
+text_digit [] rest h = absurd cc
+text_digit (q ∷ w) rest h =
+    let a = both (is_string (q ∷ w)) (is_utf8 (q ∷ w)) h in
+    let b = both (is_quote q) (is_closed (fold (string_step q) (Plain 0) w)) a.0 in
+    of_quotes (λ x. is_ascii_digit x ≡ false) q b.0 refl refl
+
 no_digit_first : (q : Piece) (rest : List ℕ) → is_lawful q ≡ true → is_number_piece q ≡ false → Stops is_ascii_digit (bytes_of q ++ rest)
 no_digit_first (word w) rest h n = word_digit w rest h
 no_digit_first (number w) rest h n = absurd cc
-no_digit_first (text w) rest h n = refl
+no_digit_first (text w) rest h n = text_digit w rest h
 no_digit_first (doc w) rest h n = refl
 no_digit_first (mark b) rest h n = digit_mark b h
 

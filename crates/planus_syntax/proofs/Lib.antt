@@ -1,5 +1,6 @@
 pub mod Runs
 pub mod Scanning
+pub mod Quotes
 pub mod Marks
 pub mod Spelling
 pub mod Laid

@@ -1,13 +1,11 @@
 -- Where tokens are in a text.
 use Rattle.std.specs.Prelude.{◌==◌, not, None}
 use Rattle.std.specs.List.{list_all}
-use Rattle.std.specs.Str.{is_utf8}
 use Rattle.std.proofs.Common.{true, false, ◌≡◌, ℕ, ◌+◌, ◌-◌, ◌<◌, ◌≤◌, List, [], ◌∷◌, ◌++◌, length, drop, refl, sym, ap, subst, ◌∙◌, append_assoc, arith, Ok, Err}
 use Rattle.std.proofs.lemmas.Bool.{eqb-true}
 use Rattle.std.proofs.lemmas.List.{length-append, append-nil, length-drop, drop-drop}
 use Rattle.planus_syntax.specs.declared.lexer.LexFault.{LexFault}
-use Rattle.planus_syntax.specs.Tokens.{Piece, word, number, doc, mark, bytes_of, begins, is_word_byte, is_number_start, starts_number, is_number_byte, is_number, is_string_byte, is_line_byte, is_blank, is_mark}
-use Rattle.planus_syntax.specs.Tokens as pieces
+use Rattle.planus_syntax.specs.Tokens.{Piece, word, number, doc, mark, bytes_of, begins, is_word_byte, is_number_start, starts_number, is_number_byte, is_number, is_line_byte, is_blank, is_mark}
 use Rattle.planus_syntax.specs.Lexing.{Read, with_front, lex_of}
 use Rattle.planus_syntax.specs.Cutting.{Splits, Leads, Starts, Closes}
 use Rattle.planus_syntax.specs.Spelled.{Part, token, blank, comment, block, part_bytes, goes_on, spelled, tokens_in, AreParts, closes, stays_open}
@@ -29,13 +27,6 @@ number_leads bytes w rest split h d = record {
   whole = split.whole;
   lawful = all_and (starts_number w) (list_all is_number_byte w) (is_number w) (cut_starts bytes w rest split h) split.each d;
   stops = split.stops;
-}
-
-pub string_leads : (bytes w rest after : List ℕ) → Splits is_string_byte bytes w rest → rest ≡ 34 ∷ after → is_utf8 w ≡ true → Leads (34 ∷ bytes) (token (pieces.text w)) after
-string_leads bytes w rest after split e u = record {
-  whole = ap (λ r. 34 ∷ r) (split.whole ∙ ap (λ r. w ++ r) e ∙ sym (append_assoc w (34 ∷ []) after));
-  lawful = all_two (list_all is_string_byte w) (is_utf8 w) split.each u;
-  stops = never after;
 }
 
 pub doc_leads : (bytes rest w after : List ℕ) → bytes ≡ 47 ∷ rest → Splits is_line_byte rest w after → Leads (47 ∷ 47 ∷ bytes) (token (doc w)) after

@@ -2,15 +2,14 @@
 use Rattle.std.proofs.Common.{◌≡◌, ℕ, suc, drop, List, [], ◌∷◌, ◌++◌, length, Bool, true, false, cond, refl, sym, ap, ◌∙◌, subst, append_assoc, Result, Ok, Err}
 use Rattle.std.specs.Prelude.{not, ◌==◌, ◌||◌, ◌&&◌}
 use Rattle.std.specs.List.{list_all}
-use Rattle.std.specs.Str.{is_utf8}
 use Rattle.std.specs.Char.{is_ascii_digit, is_ascii_alphabetic}
 use Rattle.std.proofs.lemmas.List.{append-nil}
 use Rattle.std.proofs.lemmas.Bool.{eqb-true}
 use Rattle.planus_syntax.specs.declared.lexer.LexFault.{LexFault}
-use Rattle.planus_syntax.specs.declared.lexer.LexFault.TheVariants.{BadNumber, OpenComment, Strange, NotUtf8}
-use Rattle.planus_syntax.specs.Tokens.{Piece, word, number, text, doc, mark, begins, is_word_byte, is_number_start, starts_number, is_number_byte, is_number, is_string_byte, is_line_byte}
-use Rattle.planus_syntax.specs.Lexing.{State, between, run, figures, point, quoted, slash, slashes, comment, documented, block, starred, Step, Read, number_piece, text_piece, string_fault, opened, in_front, closed, step, with_front, going, lex_from, lex_of}
-use Rattle.planus_syntax.specs.Cutting.{Splits, string_stop}
+use Rattle.planus_syntax.specs.declared.lexer.LexFault.TheVariants.{BadNumber, OpenComment, Strange}
+use Rattle.planus_syntax.specs.Tokens.{Piece, word, number, doc, mark, begins, is_word_byte, is_number_start, starts_number, is_number_byte, is_number, is_line_byte}
+use Rattle.planus_syntax.specs.Lexing.{State, between, run, figures, point, slash, slashes, comment, documented, block, starred, Step, Read, number_piece, opened, in_front, closed, step, with_front, going, lex_from, lex_of}
+use Rattle.planus_syntax.specs.Cutting.{Splits}
 use Rattle.planus_syntax.specs.Spelled.{closes}
 
 pub both : (a b : Bool) → (a && b) ≡ true → (a ≡ true) × (b ≡ true)
@@ -152,29 +151,6 @@ differ_bool : (a : Bool) → a ≡ true → a ≡ false → ⊥
 differ_bool true h k = cc
 differ_bool false h k = cc
 
-string_step : (acc : List ℕ) (c : ℕ) (u v : Bool) → (c == 34) ≡ u → is_string_byte c ≡ v → (c == 34) ≡ false → is_string_byte c ≡ true → step (quoted acc) c ≡ Ok ([], quoted (acc ++ c ∷ []))
-string_step acc c u v e f a h =
-    ap (λ q. cond q (closed (text_piece acc) (Ok ([], between))) (cond (is_string_byte c) (Ok ([], quoted (acc ++ c ∷ []))) (Err (string_fault c)))) a
-    ∙ ap (λ q. cond q (Ok ([], quoted (acc ++ c ∷ []))) (Err (string_fault c))) h
-
-no_quote_at : (c : ℕ) (v : Bool) → (c == 34) ≡ v → is_string_byte c ≡ true → (c == 34) ≡ false
-no_quote_at c true e h =
-    let f : is_string_byte c ≡ false = subst (λ x. is_string_byte x ≡ false) (sym (eqb-true c 34 e)) refl in
-    absurd (differ_bool (is_string_byte c) h f)
-no_quote_at c false e h = e
-
-no_quote : (c : ℕ) → is_string_byte c ≡ true → (c == 34) ≡ false
-no_quote c h = no_quote_at c (c == 34) refl h
-
-pub quoted_on : (w acc rest : List ℕ) → list_all is_string_byte w ≡ true → lex_from (quoted acc) (w ++ rest) ≡ lex_from (quoted (acc ++ w)) rest
-quoted_on [] acc rest h = rw append-nil refl
-quoted_on (c ∷ w) acc rest h =
-    let holds = both (is_string_byte c) (list_all is_string_byte w) h in
-    let a : (c == 34) ≡ false = no_quote c holds.0 in
-    let one : step (quoted acc) c ≡ Ok ([], quoted (acc ++ c ∷ [])) = string_step acc c (c == 34) (is_string_byte c) refl refl a holds.0 in
-    ap (λ x. going (suc (length (w ++ rest))) x (λ next. lex_from next (w ++ rest))) one
-    ∙ no_front (lex_from (quoted (acc ++ c ∷ [])) (w ++ rest)) ∙ quoted_on w (acc ++ c ∷ []) rest holds.1 ∙ ap (λ x. lex_from (quoted x) rest) (append_assoc acc (c ∷ []) w)
-
 pub documented_on : (w acc rest : List ℕ) → list_all is_line_byte w ≡ true → lex_from (documented acc) (w ++ rest) ≡ lex_from (documented (acc ++ w)) rest
 documented_on [] acc rest h = rw append-nil refl
 documented_on (c ∷ w) acc rest h =
@@ -221,37 +197,6 @@ slashes_end (c ∷ w) rest h s n =
 
 pub a_comment : (bytes w rest : List ℕ) → Splits is_line_byte bytes w rest → begins (λ b. b == 47) bytes ≡ false → lex_from slashes bytes ≡ lex_of rest
 a_comment bytes w rest split n = ap (lex_from slashes) split.whole ∙ slashes_end w rest split.each split.stops (sym (ap (begins (λ b. b == 47)) split.whole) ∙ n)
-
--- what is read from a string's closing quote on
-abbrev after_text : Result Piece LexFault → List ℕ → Read
-after_text (Ok p) rest = with_front (p ∷ []) (lex_of rest)
-after_text (Err f) rest = Err (f, length (34 ∷ rest))
-
-text_ends : (r : Result Piece LexFault) (rest : List ℕ) → going (length (34 ∷ rest)) (closed r (Ok ([], between))) (λ next. lex_from next rest) ≡ after_text r rest
-text_ends (Ok p) rest = refl
-text_ends (Err f) rest = refl
-
-quoted_ends : (w rest : List ℕ) → lex_from (quoted w) (34 ∷ rest) ≡ after_text (text_piece w) rest
-quoted_ends w rest = text_ends (text_piece w) rest
-
-pub text_read : (bytes w rest : List ℕ) → Splits is_string_byte bytes w (34 ∷ rest) → lex_from (quoted []) bytes ≡ after_text (text_piece w) rest
-text_read bytes w rest split = ap (lex_from (quoted [])) split.whole ∙ quoted_on w [] (34 ∷ rest) split.each ∙ quoted_ends w rest
-
-pub a_string : (bytes w rest : List ℕ) → Splits is_string_byte bytes w (34 ∷ rest) → is_utf8 w ≡ true → lex_from (quoted []) bytes ≡ with_front (text w ∷ []) (lex_of rest)
-a_string bytes w rest split u = text_read bytes w rest split ∙ ap (λ b. after_text (cond b (Ok (text w)) (Err NotUtf8)) rest) u
-
-pub bad_string : (bytes w rest : List ℕ) → Splits is_string_byte bytes w (34 ∷ rest) → is_utf8 w ≡ false → lex_from (quoted []) bytes ≡ Err (NotUtf8, length (34 ∷ rest))
-bad_string bytes w rest split u = text_read bytes w rest split ∙ ap (λ b. after_text (cond b (Ok (text w)) (Err NotUtf8)) rest) u
-
-quote_open : (w rest : List ℕ) → begins is_string_byte rest ≡ false → begins (λ b. b == 34) rest ≡ false → lex_from (quoted w) rest ≡ Err (string_stop rest, length rest)
-quote_open w [] s n = refl
-quote_open w (b ∷ bs) s n =
-    ap (λ x. going (suc (length bs)) x (λ next. lex_from next bs))
-    (ap (λ q. cond q (closed (text_piece w) (Ok ([], between))) (cond (is_string_byte b) (Ok ([], quoted (w ++ b ∷ []))) (Err (string_fault b)))) n
-    ∙ ap (λ q. cond q (Ok ([], quoted (w ++ b ∷ []))) (Err (string_fault b))) s)
-
-pub no_string : (bytes w rest : List ℕ) → Splits is_string_byte bytes w rest → begins (λ b. b == 34) rest ≡ false → lex_from (quoted []) bytes ≡ Err (string_stop rest, length rest)
-no_string bytes w rest split n = ap (lex_from (quoted [])) split.whole ∙ quoted_on w [] rest split.each ∙ quote_open w rest split.stops n
 
 number_is : (w : List ℕ) → is_number w ≡ true → number_piece w ≡ Ok (number w)
 number_is w d = ap (λ b. cond b (Ok (number w)) (Err BadNumber)) d

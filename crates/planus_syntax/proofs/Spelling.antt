@@ -1,6 +1,6 @@
 -- However tokens are spelled, they are read.
-use Rattle.std.proofs.Common.{◌≡◌, ℕ, zero, suc, ◌<◌, ◌≤◌, List, [], ◌∷◌, ◌++◌, length, take, drop, arith, Bool, true, false, refl, sym, ap, ◌∙◌, subst, append_assoc, Ok, Err}
-use Rattle.std.specs.Prelude.{not, ◌==◌, ◌||◌, ◌&&◌}
+use Rattle.std.proofs.Common.{◌≡◌, ℕ, zero, suc, ◌<◌, ◌≤◌, List, [], ◌∷◌, ◌++◌, length, take, drop, arith, Bool, true, false, refl, sym, ap, ◌∙◌, subst, append_assoc, Result, Ok, Err}
+use Rattle.std.specs.Prelude.{fold, not, ◌==◌, ◌||◌, ◌&&◌}
 use Rattle.std.specs.List.{list_all}
 use Rattle.std.specs.Str.{is_utf8}
 use Rattle.std.specs.Char.{is_ascii_digit}
@@ -9,12 +9,15 @@ use Rattle.std.proofs.lemmas.List.{length-append}
 use Rattle.planus_syntax.specs.declared.lexer.LexFault.{LexFault}
 use Rattle.planus_syntax.specs.declared.lexer.LexFault.TheVariants.{Strange}
 use Rattle.planus_syntax.proofs.Runs.{end, splits}
-use Rattle.planus_syntax.specs.Tokens.{Piece, word, number, text, doc, mark, begins, is_word_byte, is_number_start, starts_number, is_number_byte, is_number, is_string_byte, is_line_byte, is_blank, is_mark, is_some, is_lawful, bytes_of}
-use Rattle.planus_syntax.specs.Lexing.{State, between, run, quoted, slash, slashes, Read, opened, going, with_front, lex_from, lex_of}
+use Rattle.planus_syntax.specs.Tokens.{Piece, word, number, text, doc, mark, begins, is_word_byte, is_number_start, starts_number, is_number_byte, is_number, is_line_byte, is_blank, is_mark, is_some, is_lawful, bytes_of}
+use Rattle.planus_syntax.specs.Lexing.{State, between, run, slash, slashes, Read, opened, going, with_front, lex_from, lex_of}
 use Rattle.planus_syntax.specs.Lexing as machine
-use Rattle.planus_syntax.specs.Cutting.{Splits}
+use Rattle.planus_syntax.specs.declared.strings.StringState.TheVariants.{Plain}
+use Rattle.planus_syntax.specs.Strings.{is_quote, is_string, is_closed, string_step}
+use Rattle.planus_syntax.specs.Cutting.{Splits, string_end}
+use Rattle.planus_syntax.proofs.Quotes.{Quoted, string_found, string_lawful, a_string, bad_string, no_string}
 use Rattle.planus_syntax.specs.Spelled.{Part, token, blank, comment, block, part_bytes, is_part, goes_on, spelled, tokens_in, AreParts, closes, stays_open}
-use Rattle.planus_syntax.proofs.Scanning.{both, no_front, digit_goes, a_word, a_number, started, a_string, bad_string, third_slash, two_slashes, slash_slash, slash_star, block_closes, block_goes, no_number, no_string, one_slash}
+use Rattle.planus_syntax.proofs.Scanning.{both, no_front, digit_goes, a_word, a_number, started, third_slash, two_slashes, slash_slash, slash_star, block_closes, block_goes, no_number, one_slash}
 use Rattle.planus_syntax.proofs.Marks.{a_mark, point_stops, neither, word_front, front_says, not_true, never}
 
 pub blank_at : (P : ℕ → Type 0) (b : ℕ) (u v w x : Bool) → (b == 32) ≡ u → (b == 10) ≡ v → (b == 9) ≡ w → (b == 13) ≡ x → (u || (v || (w || x))) ≡ true → P 32 → P 10 → P 9 → P 13 → P b
@@ -58,11 +61,11 @@ one_part (number w) rest h s =
     let a = both (starts_number w) (list_all is_number_byte w && is_number w) h in
     let b = both (list_all is_number_byte w) (is_number w) a.1 in
     a_number (w ++ rest) w rest (record { whole = refl; each = b.0; stops = s }) (starts_on w rest a.0) b.1
-one_part (text w) rest h s =
-    let e : (w ++ 34 ∷ []) ++ rest ≡ w ++ 34 ∷ rest = append_assoc w (34 ∷ []) rest in
-    let a = both (list_all is_string_byte w) (is_utf8 w) h in
-    no_front (lex_from (quoted []) ((w ++ 34 ∷ []) ++ rest))
-    ∙ a_string ((w ++ 34 ∷ []) ++ rest) w rest (record { whole = e; each = a.0; stops = refl }) a.1
+one_part (text []) rest h s = absurd cc
+one_part (text (q ∷ w)) rest h s =
+    let a = both (is_string (q ∷ w)) (is_utf8 (q ∷ w)) h in
+    let b = both (is_quote q) (is_closed (fold (string_step q) (Plain 0) w)) a.0 in
+    a_string q (w ++ rest) rest (record { front = w; whole = refl; ends = b.1 }) b.0 a.1
 one_part (doc w) rest h s =
     slash_slash (47 ∷ (w ++ rest))
     ∙ third_slash (47 ∷ (w ++ rest)) (w ++ rest) w rest refl (record { whole = refl; each = h; stops = s })
@@ -178,19 +181,18 @@ front_is : (m : ℕ) (bs : List ℕ) → begins (λ b. b == m) bs ≡ true → (
 front_is m [] h = absurd cc
 front_is m (b ∷ bs) h = (bs, ap (λ x. x ∷ bs) (eqb-true b m h))
 
-closed_found : (n : ℕ) (bs w rest : List ℕ) (ps : List Piece) (u : Bool) → is_utf8 w ≡ u → Splits is_string_byte bs w (34 ∷ rest) → length bs ≤ n → lex_of (34 ∷ bs) ≡ Ok ps → Below n → Found (34 ∷ bs) ps
-closed_found n bs w rest ps true u split le o below =
-    let whole : 34 ∷ bs ≡ (34 ∷ (w ++ 34 ∷ [])) ++ rest = ap (λ r. 34 ∷ r) (split.whole ∙ sym (append_assoc w (34 ∷ []) rest)) in
-    token_found (text w) (34 ∷ bs) rest ps (all_two (list_all is_string_byte w) (is_utf8 w) split.each u) (never rest) whole (no_front (lex_from (quoted []) bs) ∙ a_string bs w rest split u) o
-    (λ qs q. below rest qs (omega (arith, ap length split.whole, length-append w (34 ∷ rest))) q)
-closed_found n bs w rest ps false u split le o below =
-    absurd (err_not_ok (34 ∷ bs) _ ps (no_front (lex_from (quoted []) bs) ∙ bad_string bs w rest split u) o)
+closed_found : (n q : ℕ) (bs rest : List ℕ) (ps : List Piece) (s : Quoted q (Plain 0) bs rest) (u : Bool) → is_utf8 (q ∷ s.front) ≡ u → is_quote q ≡ true → length bs ≤ n → lex_of (q ∷ bs) ≡ Ok ps → Below n → Found (q ∷ bs) ps
+closed_found n q bs rest ps s true u h le o below =
+    token_found (text (q ∷ s.front)) (q ∷ bs) rest ps (string_lawful q bs rest s h u) (never rest) (ap (λ r. q ∷ r) s.whole) (a_string q bs rest s h u) o
+    (λ qs r. below rest qs (omega (arith, ap length s.whole, length-append s.front rest)) r)
+closed_found n q bs rest ps s false u h le o below =
+    absurd (err_not_ok (q ∷ bs) _ ps (bad_string q bs rest s h u) o)
 
-string_found : (n : ℕ) (bs w rest : List ℕ) (ps : List Piece) (v : Bool) → begins (λ b. b == 34) rest ≡ v → Splits is_string_byte bs w rest → length bs ≤ n → lex_of (34 ∷ bs) ≡ Ok ps → Below n → Found (34 ∷ bs) ps
-string_found n bs w rest ps true e split le o below =
-    let f = front_is 34 rest e in
-    closed_found n bs w f.0 ps (is_utf8 w) refl (subst (λ r. Splits is_string_byte bs w r) f.1 split) le o below
-string_found n bs w rest ps false e split le o below = absurd (err_not_ok (34 ∷ bs) _ ps (no_front (lex_from (quoted []) bs) ∙ no_string bs w rest split e) o)
+text_found : (n q : ℕ) (bs : List ℕ) (ps : List Piece) (r : Result (List ℕ) (LexFault × ℕ)) → string_end q (Plain 0) bs ≡ r → is_quote q ≡ true → length bs ≤ n → lex_of (q ∷ bs) ≡ Ok ps → Below n → Found (q ∷ bs) ps
+text_found n q bs ps (Ok rest) e h le o below =
+    let s = string_found q (Plain 0) bs rest e in
+    closed_found n q bs rest ps s (is_utf8 (q ∷ s.front)) refl h le o below
+text_found n q bs ps (Err f) e h le o below = absurd (err_not_ok (q ∷ bs) f ps (no_string q bs f h e) o)
 
 pub not_begins : (w after : List ℕ) → begins (λ b. b == 47) (w ++ after) ≡ false → not (begins (λ b. b == 47) w) ≡ true
 not_begins [] after h = refl
@@ -266,7 +268,7 @@ no_point_at b false e h = e
 pub no_point : (b : ℕ) → is_mark b ≡ false → (b == 46) ≡ false
 no_point b h = no_point_at b (b == 46) refl h
 
-class_found : (n b : ℕ) (bs : List ℕ) (ps : List Piece) (u v w x y z : Bool) → starts_number (b ∷ bs) ≡ u → is_word_byte b ≡ v → is_blank b ≡ w → is_mark b ≡ x → (b == 34) ≡ y → (b == 47) ≡ z → length bs ≤ n → lex_of (b ∷ bs) ≡ Ok ps → Below n → Found (b ∷ bs) ps
+class_found : (n b : ℕ) (bs : List ℕ) (ps : List Piece) (u v w x y z : Bool) → starts_number (b ∷ bs) ≡ u → is_word_byte b ≡ v → is_blank b ≡ w → is_mark b ≡ x → is_quote b ≡ y → (b == 47) ≡ z → length bs ≤ n → lex_of (b ∷ bs) ≡ Ok ps → Below n → Found (b ∷ bs) ps
 class_found n b bs ps true v w x y z eu ev ew ex ey ez le o below =
     number_found n (b ∷ bs) _ _ ps _ refl (splits is_number_byte (b ∷ bs)) eu (omega arith) o below
 class_found n b bs ps false true w x y z eu ev ew ex ey ez le o below =
@@ -276,7 +278,7 @@ class_found n b bs ps false false true x y z eu ev ew ex ey ez le o below =
 class_found n b bs ps false false false true y z eu ev ew ex ey ez le o below =
     token_found (mark b) (b ∷ bs) bs ps ex (point_stops b bs eu) refl (a_mark b bs ex (point_stops b bs eu)) o (λ qs q. below bs qs le q)
 class_found n b bs ps false false false false true z eu ev ew ex ey ez le o below =
-    subst (λ c. Found (c ∷ bs) ps) (sym (eqb-true b 34 ey)) (string_found n bs _ _ ps _ refl (splits is_string_byte bs) le (sym (ap (λ c. lex_of (c ∷ bs)) (eqb-true b 34 ey)) ∙ o) below)
+    text_found n b bs ps (string_end b (Plain 0) bs) refl ey le o below
 class_found n b bs ps false false false false false true eu ev ew ex ey ez le o below =
     subst (λ c. Found (c ∷ bs) ps) (sym (eqb-true b 47 ez)) (slash_found n bs ps _ _ refl refl le (sym (ap (λ c. lex_of (c ∷ bs)) (eqb-true b 47 ez)) ∙ o) below)
 class_found n b bs ps false false false false false false eu ev ew ex ey ez le o below =
@@ -289,7 +291,7 @@ found_below : (n : ℕ) → Below n
 found_below zero [] ps le o = ([], tt, refl, nil_is ps o)
 found_below zero (b ∷ bs) ps le o = absurd (omega arith)
 found_below (suc n) [] ps le o = ([], tt, refl, nil_is ps o)
-found_below (suc n) (b ∷ bs) ps le o = class_found n b bs ps (starts_number (b ∷ bs)) (is_word_byte b) (is_blank b) (is_mark b) (b == 34) (b == 47) refl refl refl refl refl refl (omega arith) o (found_below n)
+found_below (suc n) (b ∷ bs) ps le o = class_found n b bs ps (starts_number (b ∷ bs)) (is_word_byte b) (is_blank b) (is_mark b) (is_quote b) (b == 47) refl refl refl refl refl refl (omega arith) o (found_below n)
 
 pub spelling_found : (bytes : List ℕ) (ps : List Piece) → lex_of bytes ≡ Ok ps → Found bytes ps
 spelling_found bytes ps o = found_below (length bytes) bytes ps (omega arith) o

@@ -1,13 +1,18 @@
 -- A text is spelled by one list of parts, and so has a token at one place.
-use Rattle.std.proofs.Common.{◌≡◌, ℕ, drop, List, [], ◌∷◌, ◌++◌, length, Bool, true, false, cond, refl, sym, ap, subst, ◌∙◌, append_assoc, arith}
-use Rattle.std.specs.Prelude.{◌==◌, ◌&&◌, not, codes, if◌then◌else◌}
+use Rattle.std.proofs.Common.{◌≡◌, ℕ, ◌-◌, take, drop, Result, Ok, Err, List, [], ◌∷◌, ◌++◌, length, Bool, true, false, cond, refl, sym, ap, subst, ◌∙◌, append_assoc, arith}
+use Rattle.std.specs.Prelude.{fold, ◌==◌, ◌&&◌, not, codes, if◌then◌else◌}
 use Rattle.std.specs.List.{list_all}
 use Rattle.std.specs.Str.{is_utf8}
 use Rattle.std.specs.Char.{is_ascii_digit}
 use Rattle.std.proofs.lemmas.Bool.{eqb-true}
-use Rattle.planus_syntax.specs.Tokens.{Piece, word, number, text, doc, mark, begins, is_word_byte, is_number_start, starts_number, is_number_byte, is_number, is_string_byte, is_line_byte, is_blank, is_mark}
+use Rattle.planus_syntax.specs.Tokens.{Piece, word, number, text, doc, mark, begins, is_word_byte, is_number_start, starts_number, is_number_byte, is_number, is_line_byte, is_blank, is_mark}
 use Rattle.planus_syntax.specs.Spelled.{Part, token, blank, comment, block, part_bytes, is_part, goes_on, spelled, tokens_in, AreParts, closes, stays_open}
 use Rattle.planus_syntax.specs.Placing.{TokenFirst, StandsAt}
+use Rattle.planus_syntax.specs.declared.lexer.LexFault.{LexFault}
+use Rattle.planus_syntax.specs.declared.strings.StringState.TheVariants.{Plain}
+use Rattle.planus_syntax.specs.Strings.{is_quote, is_string, is_closed, string_step}
+use Rattle.planus_syntax.specs.Cutting.{string_end}
+use Rattle.planus_syntax.proofs.Quotes.{of_quotes, string_ends, cut_front}
 use Rattle.planus_syntax.proofs.Scanning.{both}
 use Rattle.planus_syntax.proofs.Marks.{one_of, not_true, no_digit}
 use Rattle.planus_syntax.proofs.Spelling.{blank_at, no_third, starts_on, closes_on}
@@ -36,6 +41,10 @@ after_slash bs =
     else cut comment (span is_line_byte (drop 1 bs)))
     else cut block (block_span (drop 1 bs))
 
+abbrev text_cut : ℕ → List ℕ → Result (List ℕ) (LexFault × ℕ) → Cut
+text_cut q bs (Ok rest) = (token (text (q ∷ take (length bs - length rest) bs)), rest)
+text_cut q bs (Err e) = (blank 0, [])
+
 abbrev first_part : List ℕ → Cut
 first_part [] = (blank 0, [])
 first_part (b ∷ bs) =
@@ -43,7 +52,7 @@ first_part (b ∷ bs) =
     else if is_word_byte b then cut (λ w. token (word w)) (span is_word_byte (b ∷ bs))
     else if is_blank b then (blank b, bs)
     else if is_mark b then (token (mark b), bs)
-    else if b == 34 then (token (text (span is_string_byte bs).0), drop 1 (span is_string_byte bs).1)
+    else if is_quote b then text_cut b bs (string_end b (Plain 0) bs)
     else after_slash bs
 
 span_is : (p : ℕ → Bool) (w r : List ℕ) → list_all p w ≡ true → begins p r ≡ false → span p (w ++ r) ≡ (w, r)
@@ -92,10 +101,14 @@ number_first (c ∷ w) r h s =
     e ∙ ap (cut (λ v. token (number v))) (span_is is_number_byte (c ∷ w) r b.0 s)
 
 text_first : (w r : List ℕ) → is_part (token (text w)) ≡ true → First (token (text w)) r
-text_first w r h =
-    let a = both (list_all is_string_byte w) (is_utf8 w) h in
-    ap (λ (x : List ℕ × List ℕ). (token (text x.0), drop 1 x.1))
-    (ap (span is_string_byte) (append_assoc w (34 ∷ []) r) ∙ span_is is_string_byte w (34 ∷ r) a.0 refl)
+text_first [] r h = absurd cc
+text_first (q ∷ w) r h =
+    let a = both (is_string (q ∷ w)) (is_utf8 (q ∷ w)) h in
+    let b = both (is_quote q) (is_closed (fold (string_step q) (Plain 0) w)) a.0 in
+    let cuts : first_part (q ∷ (w ++ r)) ≡ text_cut q (w ++ r) (string_end q (Plain 0) (w ++ r)) =
+    of_quotes (λ x. first_part (x ∷ (w ++ r)) ≡ text_cut x (w ++ r) (string_end x (Plain 0) (w ++ r))) q b.0 refl refl in
+    cuts ∙ ap (text_cut q (w ++ r)) (string_ends q (Plain 0) w r refl b.1)
+    ∙ ap (λ v. (token (text (q ∷ v)), r)) (cut_front w r)
 
 doc_first : (w r : List ℕ) → list_all is_line_byte w ≡ true → begins is_line_byte r ≡ false → First (token (doc w)) r
 doc_first w r h s = ap (cut (λ v. token (doc v))) (span_is is_line_byte w r h s)

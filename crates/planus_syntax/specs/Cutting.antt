@@ -1,6 +1,6 @@
 -- One token off the front of a text.
 use Rattle.std.specs.Prelude.{◌≡◌, ℕ, Bool, true, false, List, [], ◌∷◌, ◌++◌, Option, Some, None}
-use Rattle.std.specs.Prelude.{Result, Ok, Err}
+use Rattle.std.specs.Prelude.{Result, Ok, Err, length, if◌then◌else◌}
 use Rattle.std.specs.List.{list_all}
 use Rattle.std.specs.Borrow.{Bor}
 use Rattle.planus_syntax.specs.declared.lexer.LexFault.{LexFault}
@@ -13,7 +13,9 @@ use Rattle.planus_syntax.specs.declared.run.Run.TheVariants as run
 use Rattle.planus_syntax.specs.Tokens.{Piece, word, number, text, doc, mark, begins}
 use Rattle.planus_syntax.specs.Spelled.{Part, token, part_bytes, is_part, goes_on, tokens_in}
 use Rattle.planus_syntax.specs.Spelled.{stays_open}
-use Rattle.planus_syntax.specs.Tokens.{is_word_byte, is_number_byte, is_string_byte, is_line_byte}
+use Rattle.planus_syntax.specs.Tokens.{is_word_byte, is_number_byte, is_line_byte}
+use Rattle.planus_syntax.specs.Strings.{string_step, is_closed, is_wrong}
+use Rattle.planus_syntax.specs.declared.strings.StringState.{StringState}
 use Rattle.planus_syntax.specs.Lexing.{Read, with_front, lex_of, string_fault}
 
 abbrev pub cut_piece : Lexeme → Piece
@@ -26,7 +28,6 @@ cut_piece (token.Mark b) = mark b
 abbrev pub in_run : Run → ℕ → Bool
 in_run run.Word = is_word_byte
 in_run run.Number = is_number_byte
-in_run run.Text = is_string_byte
 in_run run.Line = is_line_byte
 
 -- a front whose bytes all pass, and the rest, whose first byte does not
@@ -59,10 +60,18 @@ abbrev pub Cuts : List ℕ → Result (Option Lexeme × Bor (List ℕ)) Stop →
 Cuts bytes (Ok x) = lex_of bytes ≡ with_front (pieces_in x.0) (lex_of x.1.now)
 Cuts bytes (Err stop) = lex_of bytes ≡ Err (stop.fault, stop.left)
 
--- why a string ends before these bytes
-abbrev pub string_stop : List ℕ → LexFault
-string_stop [] = OpenString
-string_stop (b ∷ bs) = string_fault b
+-- what follows the closing quote of a string, or its error
+abbrev pub string_end : ℕ → StringState → List ℕ → Result (List ℕ) (LexFault × ℕ)
+string_end q s [] = Err (OpenString, 0)
+string_end q s (b ∷ bs) =
+    let next = string_step q s b in
+    if is_closed next then Ok bs
+    else if is_wrong next then Err (string_fault s b, length (b ∷ bs))
+    else string_end q next bs
+
+abbrev pub Ends : Result (List ℕ) (LexFault × ℕ) → Result (Bor (List ℕ)) Stop → Type 0
+Ends end (Ok rest) = end ≡ Ok rest.now
+Ends end (Err stop) = end ≡ Err (stop.fault, stop.left)
 
 -- a comment or documentation; `read` is what is read with it
 abbrev pub Skips : Read → Result (Bor (List ℕ)) Stop → Type 0

@@ -1,6 +1,6 @@
 -- The tokens of a text: a machine that takes a byte at a time.
 use Rattle.std.specs.Prelude.{◌≡◌, ℕ, ◌==◌, ◌+◌, List, [], ◌∷◌, ◌++◌, length, if◌then◌else◌, Result}
-use Rattle.std.specs.Prelude.{Ok, Err}
+use Rattle.std.specs.Prelude.{Ok, Err, not}
 use Rattle.std.specs.Global.{Vec}
 use Rattle.std.specs.Char.{is_ascii_digit}
 use Rattle.std.specs.Str.{is_utf8}
@@ -13,17 +13,20 @@ use Rattle.planus_syntax.specs.declared.lexer.LexError.TheVariants as errors
 use Rattle.planus_syntax.specs.declared.token.Token.{Token}
 use Rattle.planus_syntax.specs.Tokens.{Piece, word, number, text, doc, mark, pieces_of}
 use Rattle.planus_syntax.specs.Tokens.{is_word_byte, is_number_start, is_number_byte, is_number}
-use Rattle.planus_syntax.specs.Tokens.{is_blank, is_mark, is_string_byte}
+use Rattle.planus_syntax.specs.Tokens.{is_blank, is_mark}
+use Rattle.planus_syntax.specs.Strings.{is_quote, string_step, is_closed, is_wrong}
+use Rattle.planus_syntax.specs.declared.strings.StringState.{StringState}
+use Rattle.planus_syntax.specs.declared.strings.StringState.TheVariants as string
 
--- between tokens; in a word, a number, a string or documentation, with the bytes so far; after a
--- point, which begins a number or is a mark; after one or two slashes; in a comment to the end of
--- the line; in a comment to `*/`, and there after a `*`
+-- between tokens; in a word, a number, a string or documentation, with the bytes so far, of a string
+-- also with its quote and its state; after a point, which begins a number or is a mark; after one or
+-- two slashes; in a comment to the end of the line; in a comment to `*/`, and there after a `*`
 pub data State : Type 0 where
   between : State
   run : List ℕ → State
   figures : List ℕ → State
   point : State
-  quoted : List ℕ → State
+  quoted : ℕ → StringState → List ℕ → State
   slash : State
   slashes : State
   comment : State
@@ -48,7 +51,7 @@ opened b =
     else if is_blank b then Ok ([], between)
     else if b == 46 then Ok ([], point)
     else if is_mark b then Ok (mark b ∷ [], between)
-    else if b == 34 then Ok ([], quoted [])
+    else if is_quote b then Ok ([], quoted b (string.Plain 0) (b ∷ []))
     else if b == 47 then Ok ([], slash)
     else Err Strange
 
@@ -61,8 +64,21 @@ closed (Ok p) next = in_front p next
 closed (Err f) next = Err f
 
 -- why a string does not go on
-abbrev pub string_fault : ℕ → LexFault
-string_fault b = if b == 92 then Escape else if b == 10 then OpenString else Control
+abbrev pub string_fault : StringState → ℕ → LexFault
+string_fault (string.Plain high) b =
+    if not (high == 0) then Escape else if b == 10 then OpenString else Control
+string_fault (string.Escape high) b = Escape
+string_fault string.HexMark b = Escape
+string_fault (string.Digits high left value) b = Escape
+string_fault string.End b = Escape
+string_fault string.Wrong b = Escape
+
+-- the bytes `w` of a string with the byte that leads to the state `next`
+abbrev pub in_string : ℕ → List ℕ → LexFault → StringState → Step
+in_string q w fault next =
+    if is_closed next then closed (text_piece w) (Ok ([], between))
+    else if is_wrong next then Err fault
+    else Ok ([], quoted q next w)
 
 abbrev pub step : State → ℕ → Step
 step between b = opened b
@@ -72,10 +88,7 @@ step (figures w) b =
     if is_number_byte b then Ok ([], figures (w ++ b ∷ [])) else closed (number_piece w) (opened b)
 step point b =
     if is_ascii_digit b then Ok ([], figures (46 ∷ b ∷ [])) else closed (Ok (mark 46)) (opened b)
-step (quoted w) b =
-    if b == 34 then closed (text_piece w) (Ok ([], between))
-    else if is_string_byte b then Ok ([], quoted (w ++ b ∷ []))
-    else Err (string_fault b)
+step (quoted q s w) b = in_string q (w ++ b ∷ []) (string_fault s b) (string_step q s b)
 step slash b =
     if b == 47 then Ok ([], slashes) else if b == 42 then Ok ([], block) else Err Strange
 step slashes b =
@@ -97,7 +110,7 @@ finished between = Ok ([], between)
 finished (run w) = Ok (word w ∷ [], between)
 finished (figures w) = closed (number_piece w) (Ok ([], between))
 finished point = Ok (mark 46 ∷ [], between)
-finished (quoted w) = Err OpenString
+finished (quoted q s w) = Err OpenString
 finished slash = Err Strange
 finished slashes = Ok ([], between)
 finished comment = Ok ([], between)

@@ -1,3 +1,4 @@
+pub mod Strings
 pub mod Tokens
 pub mod Layout
 pub mod Values

@@ -1,6 +1,6 @@
 -- The tokens of a schema, and how each is written.
 use Rattle.std.specs.Prelude.{ℕ, Bool, true, false, ◌==◌, ◌&&◌, ◌||◌, not, List, [], ◌∷◌, ◌++◌, map}
-use Rattle.std.specs.Prelude.{codes, if◌then◌else◌, fold, nat_lt}
+use Rattle.std.specs.Prelude.{codes, if◌then◌else◌, fold}
 use Rattle.std.specs.List.{list_all, list_any}
 use Rattle.std.specs.Str.{str_eq_ignore_ascii_case, is_utf8}
 use Rattle.std.specs.Char.{is_ascii_digit, is_ascii_alphabetic, is_ascii_hexdigit}
@@ -11,10 +11,11 @@ use Rattle.planus_syntax.specs.declared.number.NumberState.TheVariants.{Exponent
 use Rattle.planus_syntax.specs.declared.number.NumberState.TheVariants.{ExponentDigits, HexMark}
 use Rattle.planus_syntax.specs.declared.number.NumberState.TheVariants.{HexDigits, HexPoint}
 use Rattle.planus_syntax.specs.declared.number.NumberState.TheVariants.{HexFraction, Wrong}
+use Rattle.planus_syntax.specs.Strings.{is_string}
 use Rattle.planus_syntax.specs.declared.token.Token.{Token}
 use Rattle.planus_syntax.specs.declared.token.Token.TheVariants as token
 
--- an identifier or keyword, a number, a string, a line of documentation, a mark
+-- an identifier or keyword, a number, a string with its quotes, a line of documentation, a mark
 pub data Piece : Type 0 where
   word : List ℕ → Piece
   number : List ℕ → Piece
@@ -58,10 +59,6 @@ is_blank b = b == 32 || (b == 10 || (b == 9 || b == 13))
 
 abbrev pub is_mark : ℕ → Bool
 is_mark b = list_any (λ m. m == b) (codes "{}()[]:;,=.")
-
--- no quote, no backslash, no control character, as a tab and a line feed
-abbrev pub is_string_byte : ℕ → Bool
-is_string_byte b = not (b == 34 || (b == 92 || nat_lt b 32))
 
 abbrev pub is_line_byte : ℕ → Bool
 is_line_byte b = not (b == 10)
@@ -147,13 +144,13 @@ is_some (b ∷ bs) = true
 abbrev pub is_lawful : Piece → Bool
 is_lawful (word w) = is_some w && (list_all is_word_byte w && not (begins is_number_start w))
 is_lawful (number w) = starts_number w && (list_all is_number_byte w && is_number w)
-is_lawful (text w) = list_all is_string_byte w && is_utf8 w
+is_lawful (text w) = is_string w && is_utf8 w
 is_lawful (doc w) = list_all is_line_byte w
 is_lawful (mark b) = is_mark b
 
 abbrev pub bytes_of : Piece → List ℕ
 bytes_of (word w) = w
 bytes_of (number w) = w
-bytes_of (text w) = 34 ∷ (w ++ 34 ∷ [])
+bytes_of (text w) = w
 bytes_of (doc w) = 47 ∷ 47 ∷ 47 ∷ w
 bytes_of (mark b) = b ∷ []

@@ -1,6 +1,6 @@
 -- A schema, and its tokens. `x_before v rest` is the tokens of v before those of rest.
 use Rattle.std.specs.Prelude.{◌≡◌, ℕ, Bool, true, false, List, [], ◌∷◌, map, codes, Option, Some}
-use Rattle.std.specs.Prelude.{None, not}
+use Rattle.std.specs.Prelude.{None, not, if◌then◌else◌}
 use Rattle.std.specs.List.{AllByRecursion}
 use Rattle.std.specs.Option.{option_map}
 use Rattle.std.specs.Global.{Vec}
@@ -24,6 +24,7 @@ use Rattle.planus_syntax.specs.declared.value.Item.TheVariants as item
 use Rattle.planus_syntax.specs.declared.value.Declaration.{Declaration}
 use Rattle.planus_syntax.specs.Tokens.{Piece, word, number, text, doc, mark, is_lawful}
 use Rattle.planus_syntax.specs.Layout.{printed}
+use Rattle.planus_syntax.specs.Strings.{between_quotes}
 
 -- ---- values
 
@@ -45,7 +46,7 @@ pub data LiteralV : Type 0 where
   quote : List ℕ → LiteralV
   nothing : LiteralV
 
--- a word, or a string
+-- a word, or a string with its quotes
 pub record LabelV : Type 0 where
   pub quoted : Bool
   pub name : List ℕ
@@ -125,6 +126,10 @@ pub data ItemV : Type 0 where
 pub record DeclarationV : Type 0 where
   pub docs : List (List ℕ)
   pub item : ItemV
+
+-- the name of an attribute: of a string, what is between its quotes
+abbrev pub label_name : LabelV → Name
+label_name l = if l.quoted then between_quotes l.name else l.name
 
 -- ---- their tokens
 

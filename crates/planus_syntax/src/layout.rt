@@ -203,12 +203,8 @@ fn put_token(out: &mut Vec<u8>, token: &Token) -> Result<(), AllocError>
     ensures { OnOk result (out.new.items ≡ out.old.items ++ bytes_of (piece_of token.now)) }
 {
     match token {
-        Token::Word(bytes) | Token::Number(bytes) => out.extend_from_slice(bytes),
-        Token::Text(bytes) => {
-            out.push(b'"')?;
-            out.extend_from_slice(bytes)?;
-            out.push(b'"')?;
-            Ok(())
+        Token::Word(bytes) | Token::Number(bytes) | Token::Text(bytes) => {
+            out.extend_from_slice(bytes)
         }
         Token::Doc(bytes) => {
             out.extend_from_slice(b"///")?;

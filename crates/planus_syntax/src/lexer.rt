@@ -16,11 +16,14 @@ ghost use Rattle.planus_syntax.specs.Cutting.{cut_piece, pieces_in, Cuts, Skips,
 ghost use Rattle.planus_syntax.specs.Cutting.{Closes, Starts, in_run};
 ghost use Rattle.planus_syntax.specs.Placing.{StandsAt};
 ghost use Rattle.planus_syntax.specs.Tokens.{Piece};
-ghost use Rattle.planus_syntax.specs.Cutting.{string_stop};
+ghost use Rattle.planus_syntax.specs.Cutting.{string_end as string_end_lem, Ends};
+ghost use Rattle.planus_syntax.specs.Lexing.{string_fault as string_fault_lem};
+ghost use Rattle.planus_syntax.specs.Strings.{is_quote as is_quote_lem};
 ghost use Rattle.planus_syntax.specs.Spelled.{closes};
 
 use crate::number::is_number;
 use crate::run::Run;
+use crate::strings::{StringState, is_closed, is_quote, is_wrong, string_step};
 use crate::token::{Lexeme, Token};
 use std::alloc::{AllocError, AllocFailed, Global};
 
@@ -31,7 +34,8 @@ pub enum LexFault {
     BadNumber,
     /// A string has no end on its line.
     OpenString,
-    /// A backslash is in a string.
+    /// An escape in a string is none of those that there are, or half of one. The place is in it,
+    /// or after it.
     Escape,
     /// A control character, as a tab, is in a string.
     Control,
@@ -121,7 +125,6 @@ fn goes_on(run: Run, b: u8) -> bool
     match run {
         Run::Word => is_word_byte(b),
         Run::Number => is_number_byte(b),
-        Run::Text => !(b == b'"' || b == b'\\' || b < b' '),
         Run::Line => b != b'\n',
     }
 }
@@ -194,38 +197,70 @@ fn is_utf8(bytes: &[u8]) -> bool
     }
 }
 
-fn string_fault(bytes: &[u8]) -> LexFault
-    ensures { result ≡ string_stop bytes.now }
+fn string_fault(state: StringState, b: u8) -> LexFault
+    ensures { result ≡ string_fault_lem state b }
 {
-    match bytes.split_first() {
-        Some((b'\\', _)) => LexFault::Escape,
-        Some((b'\n', _)) | None => LexFault::OpenString,
-        _ => LexFault::Control,
+    match state {
+        StringState::Plain { high } if high == 0 => {
+            if b == b'\n' {
+                LexFault::OpenString
+            } else {
+                LexFault::Control
+            }
+        }
+        _ => LexFault::Escape,
     }
 }
 
+/// Returns what follows the closing quote of a string.
+fn string_end(quote: u8, bytes: &[u8]) -> Result<&[u8], Stop>
+    ensures { Ends (string_end_lem quote (StringState.Plain 0) bytes.now) result }
+{
+    let mut state = StringState::Plain { high: 0 };
+    let mut rest = bytes;
+    'bytes: while let Some((b, after)) = rest.split_first() {
+        let next = string_step(quote, state, *b);
+        if is_closed(next) {
+            return Ok(after);
+        }
+        if is_wrong(next) {
+            return Err(Stop {
+                fault: string_fault(state, *b),
+                left: rest.len(),
+            });
+        }
+        state = next;
+        rest = after;
+    }
+    Err(Stop {
+        fault: LexFault::OpenString,
+        left: 0,
+    })
+}
+
 fn string_at(bytes: &[u8]) -> Result<(Option<Lexeme>, &[u8]), Stop>
-    ensures cuts { Cuts (34 ∷ bytes.now) result }
-    ensures starts { IfOk result (λ x. Starts (34 ∷ bytes.now) x.0 x.1.now) }
+    requires { begins is_quote_lem bytes.now ≡ true }
+    ensures cuts { Cuts bytes.now result }
+    ensures starts { IfOk result (λ x. Starts bytes.now x.0 x.1.now) }
     ensures shorter { IfOk result (λ x. length x.1.now < length bytes.now) }
     ensures within { IfErr result (λ stop. stop.left ≤ length bytes.now) }
 {
-    let (text, rest) = split(Run::Text, bytes);
-    match after(rest, b'"') {
-        Some(end) => {
+    let Some((quote, body)) = bytes.split_first() else {
+        return Ok((None, bytes));
+    };
+    match string_end(*quote, body) {
+        Ok(rest) => {
+            let (text, _) = bytes.split_at(bytes.len() - rest.len());
             if is_utf8(text) {
-                Ok((Some(Lexeme::Text(text)), end))
+                Ok((Some(Lexeme::Text(text)), rest))
             } else {
                 Err(Stop {
                     fault: LexFault::NotUtf8,
-                    left: rest.len(),
+                    left: rest.len() + 1,
                 })
             }
         }
-        None => Err(Stop {
-            fault: string_fault(rest),
-            left: rest.len(),
-        }),
+        Err(stop) => Err(stop),
     }
 }
 
@@ -313,8 +348,8 @@ fn token_at(bytes: &[u8]) -> Result<(Option<Lexeme>, &[u8]), Stop>
         Ok((None, rest))
     } else if is_mark(first) {
         Ok((Some(Lexeme::Mark(first)), rest))
-    } else if first == b'"' {
-        string_at(rest)
+    } else if is_quote(first) {
+        string_at(bytes)
     } else if first == b'/' {
         comment_at(rest)
     } else {

@@ -4,6 +4,5 @@
 pub(crate) enum Run {
     Word,
     Number,
-    Text,
     Line,
 }

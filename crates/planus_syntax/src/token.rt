@@ -7,7 +7,7 @@ pub(crate) enum Lexeme<'a> {
     Word(&'a [u8]),
     /// A number with its sign.
     Number(&'a [u8]),
-    /// What is between two `"`.
+    /// A string, as it is written, with its quotes.
     Text(&'a [u8]),
     /// What follows `///` on its line.
     Doc(&'a [u8]),

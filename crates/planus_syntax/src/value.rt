@@ -1,4 +1,5 @@
-//! Declarations. Names, digits and strings are bytes of the text.
+//! Declarations. Names, digits and strings are bytes of the text; a string has its quotes
+//! ([`between_quotes`](crate::between_quotes), [`string_text`](crate::string_text)).
 //!
 //! `left` counts the tokens from a word to the text's end, the word included;
 //! [`place_from_end`](crate::place_from_end) returns where the word begins.
@@ -27,13 +28,13 @@ pub enum Literal {
     Number(Vec<u8>),
     /// A name, as `Red`, `Color.Red`, `true`, `null` and `nan`.
     Name(Path),
-    /// A string, as it is written between its quotes.
+    /// A string, as it is written.
     Text(Vec<u8>),
     /// `[]`.
     EmptyVector,
 }
 
-/// The name of an attribute: a word, or a string.
+/// The name of an attribute: a word, or a string ([`label_name`](crate::label_name)).
 #[derive(Drop)]
 pub struct Label {
     pub left: usize,

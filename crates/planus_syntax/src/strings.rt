@@ -1,0 +1,287 @@
+//! How strings are written, and the text that they mean.
+
+ghost use Rattle.std.specs.Prelude.{◌≡◌, ◌++◌, ◌<◌, OnOk, IfOk};
+ghost use Rattle.planus_syntax.specs.Strings.{after_backslash as after_backslash_lem};
+ghost use Rattle.planus_syntax.specs.Strings.{after_code as after_code_lem};
+ghost use Rattle.planus_syntax.specs.Strings.{after_digit as after_digit_lem};
+ghost use Rattle.planus_syntax.specs.Strings.{between_quotes as between_quotes_lem};
+ghost use Rattle.planus_syntax.specs.Strings.{character, code_of as code_of_lem, written};
+ghost use Rattle.planus_syntax.specs.Strings.{escaped as escaped_lem, hex_digit as hex_digit_lem};
+ghost use Rattle.planus_syntax.specs.Strings.{is_high as is_high_lem, is_low as is_low_lem};
+ghost use Rattle.planus_syntax.specs.Strings.{is_closed as is_closed_lem};
+ghost use Rattle.planus_syntax.specs.Strings.{is_quote as is_quote_lem};
+ghost use Rattle.planus_syntax.specs.Strings.{is_wrong as is_wrong_lem};
+ghost use Rattle.planus_syntax.specs.Strings.{with_digit as with_digit_lem};
+ghost use Rattle.planus_syntax.specs.Strings.{string_step as string_step_lem, string_text as string_text_lem};
+ghost use Rattle.planus_syntax.specs.Values.{label_name as label_name_lem, label_of};
+
+use crate::value::Label;
+use std::alloc::{AllocError, Global};
+
+/// The part of a string that was read. `high` is the first half of a character above `\uffff`, of
+/// which the second has to follow, or 0.
+#[derive(Clone, Copy)]
+pub(crate) enum StringState {
+    /// Between characters.
+    Plain { high: u32 },
+    /// After a backslash.
+    Escape { high: u32 },
+    /// After `\x`.
+    HexMark,
+    /// In the hexadecimal digits of an escape, of which so many are left.
+    Digits { high: u32, left: u8, value: u32 },
+    /// After the closing quote.
+    End,
+    Wrong,
+}
+
+pub(crate) fn is_quote(b: u8) -> bool
+    ensures { result ≡ is_quote_lem b }
+{
+    b == b'"' || b == b'\''
+}
+
+pub(crate) fn is_closed(state: StringState) -> bool
+    ensures { result ≡ is_closed_lem state }
+{
+    matches!(state, StringState::End)
+}
+
+pub(crate) fn is_wrong(state: StringState) -> bool
+    ensures { result ≡ is_wrong_lem state }
+{
+    matches!(state, StringState::Wrong)
+}
+
+fn escaped(b: u8) -> Option<u8>
+    ensures { result ≡ escaped_lem b }
+{
+    match b {
+        b'"' | b'\'' | b'/' | b'\\' => Some(b),
+        b'b' => Some(8),
+        b'f' => Some(12),
+        b'n' => Some(b'\n'),
+        b'r' => Some(b'\r'),
+        b't' => Some(b'\t'),
+        _ => None,
+    }
+}
+
+fn hex_digit(b: u8) -> Option<u8>
+    ensures { result ≡ hex_digit_lem b }
+{
+    match b {
+        b'0'..=b'9' => Some(b - b'0'),
+        b'a'..=b'f' => Some(b - b'a' + 10),
+        b'A'..=b'F' => Some(b - b'A' + 10),
+        _ => None,
+    }
+}
+
+fn is_high(code: u32) -> bool
+    ensures { result ≡ is_high_lem code }
+{
+    0xd800 <= code && code <= 0xdbff
+}
+
+fn is_low(code: u32) -> bool
+    ensures { result ≡ is_low_lem code }
+{
+    0xdc00 <= code && code <= 0xdfff
+}
+
+fn after_code(high: u32, code: u32) -> StringState
+    ensures { result ≡ after_code_lem high code }
+{
+    if high == 0 {
+        if is_high(code) {
+            StringState::Plain { high: code }
+        } else if is_low(code) {
+            StringState::Wrong
+        } else {
+            StringState::Plain { high: 0 }
+        }
+    } else if is_low(code) {
+        StringState::Plain { high: 0 }
+    } else {
+        StringState::Wrong
+    }
+}
+
+fn after_digit(high: u32, left: u8, value: u32) -> StringState
+    ensures { result ≡ after_digit_lem high left value }
+{
+    if left <= 1 {
+        after_code(high, value)
+    } else {
+        StringState::Digits {
+            high,
+            left: left - 1,
+            value,
+        }
+    }
+}
+
+fn after_backslash(high: u32, b: u8) -> StringState
+    ensures { result ≡ after_backslash_lem high b }
+{
+    if b == b'u' {
+        StringState::Digits {
+            high,
+            left: 4,
+            value: 0,
+        }
+    } else if high != 0 {
+        StringState::Wrong
+    } else if b == b'x' {
+        StringState::HexMark
+    } else if escaped(b).is_some() {
+        StringState::Plain { high: 0 }
+    } else {
+        StringState::Wrong
+    }
+}
+
+fn with_digit(value: u32, digit: u8) -> u32
+    ensures { result ≡ with_digit_lem value digit }
+{
+    16 * (value % 4096) + digit as u32
+}
+
+fn plain_step(quote: u8, high: u32, b: u8) -> StringState
+    ensures { result ≡ string_step_lem quote (StringState.Plain high) b }
+{
+    if b == b'\\' {
+        StringState::Escape { high }
+    } else if high != 0 {
+        StringState::Wrong
+    } else if b == quote {
+        StringState::End
+    } else if b < b' ' {
+        StringState::Wrong
+    } else {
+        StringState::Plain { high: 0 }
+    }
+}
+
+pub(crate) fn string_step(quote: u8, state: StringState, b: u8) -> StringState
+    ensures { result ≡ string_step_lem quote state b }
+{
+    match state {
+        StringState::Plain { high } => plain_step(quote, high, b),
+        StringState::Escape { high } => after_backslash(high, b),
+        StringState::HexMark => match b {
+            b'0'..=b'7' => StringState::Digits {
+                high: 0,
+                left: 1,
+                value: (b - b'0') as u32,
+            },
+            _ => StringState::Wrong,
+        },
+        StringState::Digits { high, left, value } => match hex_digit(b) {
+            Some(digit) => after_digit(high, left, with_digit(value, digit)),
+            None => StringState::Wrong,
+        },
+        StringState::End | StringState::Wrong => StringState::Wrong,
+    }
+}
+
+/// Returns what is between the quotes of a string, as it is written.
+pub fn between_quotes(string: &[u8]) -> &[u8]
+    ensures { result.now ≡ between_quotes_lem string.now }
+{
+    match string.split_first() {
+        Some((_, rest)) => match rest.split_last() {
+            Some((_, between)) => between,
+            None => rest,
+        },
+        None => string,
+    }
+}
+
+/// Returns the name of an attribute: of a string, what is between its quotes.
+pub fn label_name(label: &Label) -> &[u8]
+    ensures { result.now ≡ label_name_lem (label_of label.now) }
+{
+    if label.quoted {
+        between_quotes(&label.name)
+    } else {
+        &label.name
+    }
+}
+
+fn code_of(high: u32, code: u32) -> u32
+    requires { code < 1114112 }
+    ensures { result ≡ code_of_lem high code }
+{
+    if high == 0 {
+        code
+    } else {
+        0x10000 + 1024 * (high % 1024) + code % 1024
+    }
+}
+
+fn put_character(out: &mut Vec<u8>, code: u32) -> Result<(), AllocError>
+    requires { code < 1114112 }
+    ensures { OnOk result (out.new.items ≡ out.old.items ++ character code) }
+{
+    match char::from_u32(code) {
+        Some(character) => {
+            let mut bytes = [0; 4];
+            let text = character.encode_utf8(&mut bytes);
+            out.extend_from_slice(text.as_bytes())
+        }
+        None => Ok(()),
+    }
+}
+
+fn put_digit(out: &mut Vec<u8>, high: u32, left: u8, value: u32, b: u8) -> Result<(), AllocError>
+    ensures { OnOk result (out.new.items ≡ out.old.items
+        ++ written 34 (StringState.Digits high left value) b) }
+{
+    match hex_digit(b) {
+        Some(digit) if left <= 1 => put_character(out, code_of(high, with_digit(value, digit))),
+        _ => Ok(()),
+    }
+}
+
+fn put_written(out: &mut Vec<u8>, quote: u8, state: StringState, b: u8) -> Result<(), AllocError>
+    ensures { OnOk result (out.new.items ≡ out.old.items ++ written quote state b) }
+{
+    match state {
+        StringState::Plain { high: _ } => {
+            if b == quote || b == b'\\' {
+                return Ok(());
+            }
+            out.push(b)?;
+            Ok(())
+        }
+        StringState::Escape { high: _ } => match escaped(b) {
+            Some(meant) => {
+                out.push(meant)?;
+                Ok(())
+            }
+            None => Ok(()),
+        },
+        StringState::Digits { high, left, value } => put_digit(out, high, left, value, b),
+        StringState::HexMark | StringState::End | StringState::Wrong => Ok(()),
+    }
+}
+
+/// Returns the text that a string means, which has no escapes.
+pub fn string_text(alloc: Global, string: &[u8]) -> Result<Vec<u8>, AllocError>
+    ensures { IfOk result (λ text. text.items ≡ string_text_lem string.now) }
+{
+    let mut out = Vec::new(alloc);
+    let Some((quote, body)) = string.split_first() else {
+        return Ok(out);
+    };
+    let mut state = StringState::Plain { high: 0 };
+    let mut rest = body;
+    'bytes: while let Some((b, after)) = rest.split_first() {
+        put_written(&mut out, *quote, state, *b)?;
+        state = string_step(*quote, state, *b);
+        rest = after;
+    }
+    Ok(out)
+}
