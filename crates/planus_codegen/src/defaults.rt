@@ -3,7 +3,9 @@
 use crate::context::{Context, is_signed, scalar_name};
 use crate::printer::Printer;
 use crate::types::has_default;
-use planus_layout::{Base, Body, Enum, Number, Scalar, TableField, Value};
+use planus_layout::{
+    Base, Body, Enum, Number, Scalar, TableField, Value, is_hexadecimal, without_sign,
+};
 
 pub(crate) fn default_number(field: &TableField) -> Number {
     planus_tie::default_number(&field.default)
@@ -141,7 +143,9 @@ impl<'a> Printer<'a> {
         match &field.default {
             Some(Value::Float(text)) => {
                 let word = float_word(text);
-                if word.is_empty() {
+                if is_hexadecimal(without_sign(text)) {
+                    self.put_hex_float(text);
+                } else if word.is_empty() {
                     self.put_digits(text);
                 } else {
                     self.put_str(scalar_name(scalar));

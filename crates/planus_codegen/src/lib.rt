@@ -12,6 +12,7 @@ mod enums;
 mod field_lines;
 mod floats;
 mod groups;
+mod hex_floats;
 mod holes;
 mod imports;
 mod known;

@@ -1,7 +1,10 @@
 //! What the printed code of a schema can't have.
 
+use crate::hex_floats::is_too_long;
 use crate::refusal::Refusal;
-use planus_layout::{Body, Declared, Enum, Table, TableField, Union, Value};
+use planus_layout::{
+    Body, Declared, Enum, Table, TableField, Union, Value, is_hexadecimal, without_sign,
+};
 use planus_plan::Plan;
 use planus_tie::{are_taken, entries_of};
 use std::alloc::{AllocError, Global};
@@ -22,6 +25,9 @@ fn unsupported_field(field: &TableField) -> Option<&'static str> {
     match &field.default {
         Some(Value::Text(_)) => Some("a default of a string"),
         Some(Value::EmptyVector) => Some("a default of a vector"),
+        Some(Value::Float(text)) if is_hexadecimal(without_sign(text)) && is_too_long(text) => {
+            Some("a hexadecimal float of more than 64 bytes or an exponent above 1100")
+        }
         _ => None,
     }
 }

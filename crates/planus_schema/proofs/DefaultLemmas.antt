@@ -6,7 +6,7 @@ use Rattle.std.proofs.lemmas.List.{take-append-drop, map-append}
 use Rattle.std.proofs.lemmas.List.Sums.{fold-append}
 use Rattle.std.proofs.lemmas.List.Folds.{fold_stays}
 use Rattle.planus_schema.proofs.StructLemmas.{map_rest}
-use Rattle.std.specs.Prelude.{Option, Some, None, codes, ◌==◌, if◌then◌else◌}
+use Rattle.std.specs.Prelude.{Option, Some, None, codes, ◌==◌, ◌&&◌, not, if◌then◌else◌}
 use Rattle.std.specs.Str.{bytes_eq}
 use Rattle.planus_syntax.specs.Tokens.{is_number, is_float_name}
 use Rattle.planus_syntax.specs.Values.{Name, LiteralV, numeral, named, quote, nothing, EnumerationV, names_of}
@@ -21,7 +21,7 @@ use Rattle.planus_layout.specs.Numbers.{integer_said, is_float, is_bool, fits, z
 use Rattle.planus_schema.specs.Names.{HeadV, item_at, cut_words}
 use Rattle.planus_schema.specs.Enums.{variants_or_none}
 use Rattle.planus_schema.specs.Enums.{is_flags}
-use Rattle.planus_schema.specs.Defaults.{ValueV, absent, integer, float, text, empty, lone_word, is_null, null_or, if_fits, whole_number, number_default, truth, bool_number, named_bool, named_float, float_number, scalar_number, scalar_quoted, scalar_word, scalar_named_by, scalar_default, enum_quoted, value_named, value_name, value_in, as_integer, enum_named, is_among_values, among_values, flags_named, with_flag, or_flag, as_flags, text_default, vector_default, enum_at, default_in, base_default, zero_in, zero_scalar, zero_default, some_default, default_said, is_scalar_value, is_enum_value, is_text_value, is_vector_value, is_value, is_default}
+use Rattle.planus_schema.specs.Defaults.{ValueV, absent, integer, float, text, empty, lone_word, is_null, null_or, if_fits, whole_number, number_default, truth, bool_number, named_bool, named_float, has_exponent, float_number, scalar_number, scalar_quoted, scalar_word, scalar_named_by, scalar_default, enum_quoted, value_named, value_name, value_in, as_integer, enum_named, is_among_values, among_values, flags_named, with_flag, or_flag, as_flags, text_default, vector_default, enum_at, default_in, base_default, zero_in, zero_scalar, zero_default, some_default, default_said, is_scalar_value, is_enum_value, is_text_value, is_vector_value, is_value, is_default}
 
 record Allowed (p : ValueV → Bool) (o : Option ValueV) : Type 0 where
   each : (v : ValueV) → o ≡ Some v → p v ≡ true
@@ -40,7 +40,7 @@ chosen p true x y f g = f refl
 chosen p false x y f g = g refl
 
 float_allowed : (s : Scalar) (w : List ℕ) → is_float s ≡ true → Allowed (is_scalar_value s) (float_number w)
-float_allowed s w h = chosen (is_scalar_value s) (is_hexadecimal (without_sign w)) None (Some (float w)) (λ _. none_allowed (is_scalar_value s)) (λ _. one_allowed (is_scalar_value s) (float w) h)
+float_allowed s w h = chosen (is_scalar_value s) (is_hexadecimal (without_sign w) && not (has_exponent w)) None (Some (float w)) (λ _. none_allowed (is_scalar_value s)) (λ _. one_allowed (is_scalar_value s) (float w) h)
 
 fits_scalar : (s : Scalar) (n : Number) → is_float s ≡ false → fits s n ≡ true → is_scalar_value s (integer n) ≡ true
 fits_scalar s n f h = rw (f, h) refl

@@ -79,9 +79,14 @@ named_bool w = if bytes_eq w (codes "true") then Some (integer truth)
 abbrev pub named_float : Name → Option ValueV
 named_float w = if is_float_name w then Some (float w) else None
 
--- no hexadecimal digits
+-- a `p`, before the exponent of a hexadecimal float
+abbrev pub has_exponent : List ℕ → Bool
+has_exponent w = list_any (λ b. b == 112 || b == 80) w
+
+-- no hexadecimal integer
 abbrev pub float_number : List ℕ → Option ValueV
-float_number w = if is_hexadecimal (without_sign w) then None else Some (float w)
+float_number w =
+    if is_hexadecimal (without_sign w) && not (has_exponent w) then None else Some (float w)
 
 abbrev pub scalar_number : Scalar → List ℕ → Option ValueV
 scalar_number s w = if is_float s then float_number w

@@ -16,6 +16,7 @@ ghost use Rattle.planus_schema.specs.Defaults.{bool_number as bool_number_lem};
 ghost use Rattle.planus_schema.specs.Defaults.{named_bool as named_bool_lem};
 ghost use Rattle.planus_schema.specs.Defaults.{scalar_number as scalar_number_lem};
 ghost use Rattle.planus_schema.specs.Defaults.{scalar_word as scalar_word_lem};
+ghost use Rattle.planus_schema.specs.Defaults.{has_exponent as has_exponent_lem};
 ghost use Rattle.planus_schema.specs.Defaults.{scalar_quoted as scalar_quoted_lem};
 ghost use Rattle.planus_schema.specs.Defaults.{value_in as value_in_lem};
 ghost use Rattle.planus_schema.specs.Defaults.{enum_quoted as enum_quoted_lem};
@@ -72,6 +73,12 @@ fn float_of(alloc: Global, word: &[u8]) -> Result<Option<Value>, AllocError>
     Ok(Some(Value::Float(word)))
 }
 
+fn has_exponent(digits: &[u8]) -> bool
+    ensures { result ≡ has_exponent_lem digits.now }
+{
+    digits.iter().any(|b| *b == b'p' || *b == b'P')
+}
+
 fn bool_number(digits: &[u8]) -> Option<Value>
     ensures { option_map value_of result ≡ bool_number_lem (integer_said digits.now) }
 {
@@ -106,7 +113,7 @@ fn scalar_number(alloc: Global, scalar: Scalar, digits: &[u8]) -> Result<Option<
     ensures { IfOk result (λ o. option_map value_of o ≡ scalar_number_lem scalar digits.now) }
 {
     if scalar.is_float() {
-        if is_hexadecimal(without_sign(digits)) {
+        if is_hexadecimal(without_sign(digits)) && !has_exponent(digits) {
             Ok(None)
         } else {
             float_of(alloc, digits)
