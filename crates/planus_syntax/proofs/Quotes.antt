@@ -1,6 +1,6 @@
 -- Strings are read up to their closing quote.
 use Rattle.std.proofs.Common.{◌≡◌, ℕ, suc, ◌+◌, ◌-◌, ◌<◌, ◌≤◌, List, [], ◌∷◌, ◌++◌, length, take, Bool, true, false, cond, refl, sym, ap, ◌∙◌, subst, append_assoc, arith, Result, Ok, Err}
-use Rattle.std.specs.Prelude.{fold, ◌==◌, ◌||◌, ◌&&◌}
+use Rattle.std.specs.Prelude.{fold, ◌==◌, ◌||◌}
 use Rattle.std.specs.Str.{is_utf8}
 use Rattle.std.proofs.lemmas.Bool.{eqb-true}
 use Rattle.std.proofs.lemmas.List.{length-append}
@@ -8,10 +8,10 @@ use Rattle.planus_syntax.specs.declared.lexer.LexFault.{LexFault}
 use Rattle.planus_syntax.specs.declared.lexer.LexFault.TheVariants.{NotUtf8}
 use Rattle.planus_syntax.specs.declared.strings.StringState.{StringState}
 use Rattle.planus_syntax.specs.declared.strings.StringState.TheVariants.{Plain, Escape, HexMark, Digits, End, Wrong}
-use Rattle.planus_syntax.specs.Strings.{is_quote, string_step, is_closed, is_wrong, is_string}
+use Rattle.planus_syntax.specs.Strings.{is_quote, string_step, is_closed, is_wrong}
 use Rattle.planus_syntax.specs.Tokens.{Piece, text, begins, is_lawful}
 use Rattle.planus_syntax.specs.Spelled.{token}
-use Rattle.planus_syntax.specs.Lexing.{Read, between, quoted, text_piece, string_fault, in_string, closed, with_front, going, lex_from, lex_of}
+use Rattle.planus_syntax.specs.Lexing.{Read, between, quoted, text_piece, string_fault, closed, with_front, going, lex_from, lex_of}
 use Rattle.planus_syntax.specs.Cutting.{string_end, Leads}
 use Rattle.planus_syntax.proofs.Scanning.{no_front}
 use Rattle.planus_syntax.proofs.Marks.{never}
