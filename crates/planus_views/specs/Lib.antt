@@ -3,4 +3,5 @@ pub mod Fields
 pub mod Views
 pub mod Vectors
 pub mod Members
+pub mod Items
 pub use Rattle.planus_verify.specs as verify

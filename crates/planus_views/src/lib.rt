@@ -15,8 +15,8 @@ pub use planus_verify::{
     Fault, FieldKind, FieldPlace, FieldShape, Limits, Schema, TableShape, ValueKind, Variant,
 };
 pub use root::verify_root;
-pub use table_vectors::Tables;
-pub use texts::Texts;
+pub use table_vectors::{TableItems, Tables};
+pub use texts::{TextItems, Texts};
 pub use union_of::{Member, UnionKind, UnionOf};
 pub use view::View;
 pub use view_of::ViewOf;

@@ -53,6 +53,54 @@ impl<'a, K: VerifiedKind + 'a> Tables<'a, K> {
     }
 }
 
+/// An iterator over verified tables.
+#[derive(Drop)]
+pub struct TableItems<'a, K: VerifiedKind + 'a> {
+    tables: Tables<'a, K>,
+    next: usize,
+}
+
+impl<'a, K: VerifiedKind + 'a> Iterator for TableItems<'a, K> {
+    type Item = View<'a, K>;
+
+    ghost use Rattle.std.specs.Iterator.{at_most};
+    ghost use Rattle.planus_views.specs.Items.{tables_left, TakesTable};
+
+    ghost next_gives = { TakesTable };
+
+    ghost remaining = { λ s. at_most (tables_left s) };
+
+    #[inline(always)]
+    fn next(&mut self) -> Option<View<'a, K>> {
+        let view = self.tables.get(self.next)?;
+        self.next += 1;
+        Some(view)
+    }
+
+    #[inline(always)]
+    fn size_hint(&self) -> (usize, Option<usize>) {
+        (0, None)
+    }
+}
+
+impl<'a, K: VerifiedKind + 'a> IntoIterator for Tables<'a, K> {
+    type Item = View<'a, K>;
+
+    type IntoIter = TableItems<'a, K>;
+
+    ghost use Rattle.planus_views.specs.Items.{IsOverTables};
+
+    ghost into_iter_gives = { IsOverTables };
+
+    #[inline(always)]
+    fn into_iter(self) -> TableItems<'a, K> {
+        TableItems {
+            tables: self,
+            next: 0,
+        }
+    }
+}
+
 /// Returns the vector of tables to which the reference at an offset leads. Requires all to be
 /// verified.
 #[inline(always)]

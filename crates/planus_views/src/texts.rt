@@ -42,6 +42,49 @@ impl<'a> Texts<'a> {
     }
 }
 
+/// An iterator over verified strings.
+#[derive(Clone, Drop)]
+pub struct TextItems<'a> {
+    texts: Texts<'a>,
+    next: usize,
+}
+
+impl<'a> Iterator for TextItems<'a> {
+    type Item = &'a str;
+
+    ghost use Rattle.std.specs.Iterator.{at_most};
+    ghost use Rattle.planus_views.specs.Items.{texts_left, TakesText};
+
+    ghost next_gives = { TakesText };
+
+    ghost remaining = { λ s. at_most (texts_left s) };
+
+    #[inline(always)]
+    fn next(&mut self) -> Option<&'a str> {
+        let text = self.texts.get(self.next)?;
+        self.next += 1;
+        Some(text)
+    }
+}
+
+impl<'a> IntoIterator for Texts<'a> {
+    type Item = &'a str;
+
+    type IntoIter = TextItems<'a>;
+
+    ghost use Rattle.planus_views.specs.Items.{IsOverTexts};
+
+    ghost into_iter_gives = { IsOverTexts };
+
+    #[inline(always)]
+    fn into_iter(self) -> TextItems<'a> {
+        TextItems {
+            texts: self,
+            next: 0,
+        }
+    }
+}
+
 /// Returns the vector of strings to which the reference at an offset leads. Requires all to be there.
 #[inline(always)]
 pub fn texts_unchecked<'a>(buffer: SliceWithStartOffset<'a>, offset: usize) -> Texts<'a>

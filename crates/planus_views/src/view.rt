@@ -288,6 +288,18 @@ impl<'a, K: VerifiedKind> View<'a, K> {
         }
     }
 
+    /// Returns the field of a fixed layout in a slot.
+    #[inline(always)]
+    pub fn plain_required<T: PlainTotal>(&self, slot: usize) -> T
+        requires { MustHave K.schema K.index slot (ValueKind.Plain T.SIZE) }
+        ensures { Returns (IsPlainRequired T.shape (view_table self.now) slot) result }
+    {
+        match self.place(slot) {
+            Some((buffer, offset)) => <T as VectorRead<'a>>::from_buffer(buffer, offset),
+            None => unreachable!(),
+        }
+    }
+
     /// Returns the field of a fixed layout in a slot. Fails as `T`'s read.
     #[inline(always)]
     pub fn judged_required<T: Plain>(&self, slot: usize) -> Result<T, ErrorKind>

@@ -59,18 +59,23 @@ fn has_own_fields(ann: &ShipView<'_>) -> bool {
 }
 
 fn has_vectors(ann: &ShipView<'_>) -> bool {
-    let name = match ann.names() {
-        Some(names) if names.len() == 2 => names.get(1),
+    let mut names = 0_usize;
+    if let Some(all) = ann.names() {
+        for name in all {
+            names = names.wrapping_add(name.len());
+        }
+    }
+    let mut hulls = 0_usize;
+    if let Some(all) = ann.consorts() {
+        for consort in all {
+            hulls = hulls.wrapping_add(ShipView::new(consort).hull() as usize);
+        }
+    }
+    let last = match ann.names() {
+        Some(all) if all.len() == 2 => all.get(1),
         _ => None,
     };
-    let hull = match ann.consorts() {
-        Some(consorts) if consorts.len() == 2 => match consorts.get(1) {
-            Some(consort) => Some(ShipView::new(consort).hull()),
-            None => None,
-        },
-        _ => None,
-    };
-    name == Some("bc") && hull == Some(5)
+    names == 3 && hulls == 105 && last == Some("bc")
 }
 
 fn has_tables(ann: &ShipView<'_>) -> bool {
