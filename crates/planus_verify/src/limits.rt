@@ -11,12 +11,11 @@ pub struct Limits {
     pub tables: usize,
 }
 
-impl Limits {
+impl Default for Limits {
+    ghost is_default = { λ limits. limits ≡ record { depth = 64; tables = 1000000 } };
+
     /// Returns the limits of the verifier of flatc's code: a depth of 64, and 1000000 tables.
-    #[must_use]
-    pub const fn new() -> Limits
-        ensures { result ≡ record { depth = 64; tables = 1000000 } }
-    {
+    fn default() -> Limits {
         Limits {
             depth: 64,
             tables: 1_000_000,

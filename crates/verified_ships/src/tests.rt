@@ -42,7 +42,7 @@ const ANN: [u8; 496] = [
 const NAME: usize = 492;
 
 fn verified(bytes: &[u8]) -> Result<ShipView<'_>, Fault> {
-    verify_root::<ShipView<'_>>(bytes, Limits::new())
+    verify_root::<ShipView<'_>>(bytes, Limits::default())
 }
 
 fn has_own_fields(ann: &ShipView<'_>) -> bool {
