@@ -31,7 +31,8 @@ use planus_verify::{FieldKind, ValueKind};
 use std::alloc::AllocError;
 use std::marker::PhantomData;
 
-/// A table all of whose accessors succeed, and those of all tables that it leads to.
+/// A table all of whose accessors succeed, and those of all tables that it leads to; numbers of enums
+/// and tags of unions may be of a newer schema.
 pub struct View<'a, K: VerifiedKind> {
     table: Table<'a>,
     _kind: PhantomData<K>,
@@ -57,7 +58,7 @@ impl<'a, K: VerifiedKind> View<'a, K> {
     ghost use Rattle.planus_views.specs.Members.{member_tag, member_bytes, member_start};
     ghost use Rattle.planus_views.specs.Members.{member_offset, checked_option, ReturnsAs};
 
-    /// Returns the table, whose accessors all succeed.
+    /// Returns the table, which is verified.
     #[inline(always)]
     pub fn table(&self) -> Table<'a>
         ensures table { result ≡ view_table self.now }
