@@ -63,3 +63,7 @@ is_whole schema =
     all_of (table_fits schema.fields) schema.tables
     && (all_of (λ field. kind_in (length schema.tables) field.kind) schema.fields
     && variants_rise (length schema.tables) 0 0 schema.variants)
+
+-- The lists fit together, and the table is one of them.
+abbrev pub is_kind : Shapes → ℕ → Bool
+is_kind schema t = nat_lt t (length schema.tables) && is_whole schema

@@ -2,7 +2,7 @@
 
 ghost use Rattle.std.specs.Prelude.{◌≡◌, ℕ, true};
 ghost use Rattle.planus_verify.specs.Schemas.{Shapes, shapes};
-ghost use Rattle.planus_views.specs.Whole.{is_whole};
+ghost use Rattle.planus_views.specs.Whole.{is_kind};
 
 use planus_verify::Schema;
 
@@ -12,8 +12,8 @@ pub trait VerifiedKind {
 
     ghost index: { ℕ };
 
-    // its lists fit together
-    ghost whole: { is_whole schema ≡ true };
+    // its lists fit together, and the table is one of them
+    ghost whole: { is_kind schema index ≡ true };
 
     /// Returns the schema.
     fn schema() -> Schema<'static>
