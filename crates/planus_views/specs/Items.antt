@@ -1,50 +1,47 @@
--- Iterators over verified vectors.
-use Rattle.std.specs.Prelude.{◌≡◌, ℕ, ◌+◌, ◌-◌, List, Option, Some, None}
-use Rattle.std.specs.Borrow.{Bor}
-use Rattle.planus.specs.ItemAccessors.{IsTextItem, IsTableItem}
-use Rattle.planus_view.specs.VectorView.{count_of}
-use Rattle.planus_views.specs.declared.table_vectors.TableItems.{TableItems}
-use Rattle.planus_views.specs.declared.table_vectors.Tables.{Tables}
-use Rattle.planus_views.specs.declared.texts.TextItems.{TextItems}
-use Rattle.planus_views.specs.declared.texts.Texts.{Texts}
-use Rattle.planus_views.specs.declared.view.View.{View}
-use Rattle.planus_views.specs.Vectors.{all_ok}
-use Rattle.planus_views.specs.Views.{view_table}
+-- The state of an iterator over a verified vector.
+use Rattle.std.specs.Prelude.{◌≡◌, ℕ, ◌+◌, ◌-◌, ◌<◌, Option, Some, None}
+use Rattle.planus_views.specs.declared.verified_items.VerifiedItems.{VerifiedItems}
+use Rattle.planus_views.specs.declared.verified_items.VerifiedVector.{Ghosts as VectorGhosts}
 
--- The position of the item that comes next: one more after an item, the same after none.
-abbrev pub NextIs : {T : Type 0} → ℕ → Option T → ℕ → Type 0
-NextIs before None after = after ≡ before
-NextIs before (Some x) after = after ≡ before + 1
+module _ {V : Type 0} {kind : VectorGhosts V} where
+  abbrev pub vector_of : VerifiedItems V kind → V
+  vector_of s = s.whole
 
--- how many strings are left
-abbrev pub texts_left : TextItems → ℕ
-texts_left s = count_of s.texts.vector - s.next
+  -- the first index that is left
+  abbrev pub front_of : VerifiedItems V kind → ℕ
+  front_of s = s.front
 
--- over all strings
-pub record IsOverTexts (texts : Texts) (s : TextItems) : Type 0 where
-  pub same : s.texts ≡ texts
-  pub first : s.next ≡ 0
+  abbrev pub back_of : VerifiedItems V kind → ℕ
+  back_of s = s.back
 
--- Takes the next string, as the checked reader returns it.
-pub record TakesText (s : TextItems) (r : Option (Bor (List ℕ))) (t : TextItems) : Type 0 where
-  pub item : IsTextItem s.texts.vector s.next (all_ok r)
-  pub same : t.texts ≡ s.texts
-  pub next : NextIs s.next r t.next
+  -- the number of items left
+  abbrev pub count_left : VerifiedItems V kind → ℕ
+  count_left s = back_of s - front_of s
 
-module _ {K : Type 0} {kind : _} where
-  -- how many tables are left
-  abbrev pub tables_left : TableItems K kind → ℕ
-  tables_left s = count_of s.tables.vector - s.next
+  -- over v, with all its items left
+  pub record IsOverAll (v : V) (s : VerifiedItems V kind) : Type 0 where
+    pub whole : vector_of s ≡ v
+    pub front_is : front_of s ≡ 0
+    pub back_is : back_of s ≡ kind.count v
 
-  pub record IsOverTables (tables : Tables K kind) (s : TableItems K kind) : Type 0 where
-    pub same : s.tables ≡ tables
-    pub first : s.next ≡ 0
-
-  -- Takes the next table, as the checked reader returns it, whatever name its errors have.
-  pub record TakesTable (s : TableItems K kind) (r : Option (View K kind)) (t : TableItems K kind)
+  -- over the vector of s, with these indexes left
+  pub record IsLeft (s : VerifiedItems V kind) (front back : ℕ) (t : VerifiedItems V kind)
       : Type 0 where
-    pub item :
-        (name : List ℕ)
-        → IsTableItem K name (λ view. view_table view) s.tables.vector s.next (all_ok r)
-    pub same : t.tables ≡ s.tables
-    pub next : NextIs s.next r t.next
+    pub same : vector_of t ≡ vector_of s
+    pub front_is : front_of t ≡ front
+    pub back_is : back_of t ≡ back
+
+  module _ {A : Type 0} (is_item : V → ℕ → A → Type 0) where
+    -- Takes the first item left; with none left nothing changes.
+    abbrev pub TakesFirst : VerifiedItems V kind → Option A → VerifiedItems V kind → Type 0
+    TakesFirst s None t = (front_of s ≡ back_of s) × (t ≡ s)
+    TakesFirst s (Some x) t =
+        (front_of s < back_of s) × is_item (vector_of s) (front_of s) x
+        × IsLeft s (front_of s + 1) (back_of s) t
+
+    -- Takes the last item left.
+    abbrev pub TakesLast : VerifiedItems V kind → Option A → VerifiedItems V kind → Type 0
+    TakesLast s None t = (front_of s ≡ back_of s) × (t ≡ s)
+    TakesLast s (Some x) t =
+        (front_of s < back_of s) × is_item (vector_of s) (back_of s - 1) x
+        × IsLeft s (front_of s) (back_of s - 1) t

@@ -2,6 +2,7 @@ pub mod Whole
 pub mod Fields
 pub mod Views
 pub mod Vectors
+pub mod CheckedVectors
 pub mod Members
 pub mod Items
 pub use Rattle.planus_verify.specs as verify

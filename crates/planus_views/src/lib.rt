@@ -4,20 +4,26 @@
 
 mod kind;
 mod members;
+mod of_kind;
+mod of_union;
 mod root;
 mod table_vectors;
 mod texts;
 mod union_of;
+mod verified_items;
 mod view;
 mod view_of;
 
 pub use kind::VerifiedKind;
+pub use of_kind::OfKind;
+pub use of_union::OfUnion;
 pub use planus_verify::{
     Fault, FieldKind, FieldPlace, FieldShape, Limits, Schema, TableShape, ValueKind, Variant,
 };
 pub use root::verify_root;
-pub use table_vectors::{TableItems, Tables};
-pub use texts::{TextItems, Texts};
+pub use table_vectors::Tables;
+pub use texts::Texts;
 pub use union_of::{Member, UnionKind, UnionOf};
+pub use verified_items::{ReadVerified, VerifiedItems, VerifiedVector};
 pub use view::View;
 pub use view_of::ViewOf;

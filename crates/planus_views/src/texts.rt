@@ -1,6 +1,6 @@
 //! Verified vectors of strings.
 
-ghost use Rattle.std.specs.Prelude.{◌≡◌, ℕ, ◌<◌, ◌*◌, Ok};
+ghost use Rattle.std.specs.Prelude.{◌≡◌, ℕ, ◌<◌, ◌*◌, Ok, Some};
 ghost use Rattle.planus.specs.ItemAccessors.{IsTextItem};
 ghost use Rattle.planus_view.specs.VectorView.{count_of, view_of};
 ghost use Rattle.planus_views.specs.Fields.{TextHolds, EachHolds};
@@ -9,89 +9,112 @@ ghost use Rattle.planus_read.specs.Reading.{vector_reading};
 ghost use Rattle.planus_read.specs.Slices.{slice_bytes, slice_start};
 ghost use Rattle.planus_view.specs.VectorView.{ShowsVector};
 
+use crate::verified_items::{ReadVerified, VerifiedItems, VerifiedVector};
 use planus::{SliceWithStartOffset, Vector};
 use planus_read::text_unchecked;
 
 /// A vector of strings, all of which are there.
 #[derive(Clone, Copy)]
 pub struct Texts<'a> {
-    vector: Vector<'a, planus::Result<&'a str>>,
-    ghost verified: { (i : ℕ) → i < count_of vector → ∥ TextHolds (view_of vector).bytes (i * 4) ∥₁ },
+    references: Vector<'a, u32>,
+    ghost verified: { (i : ℕ) → i < count_of references
+        → ∥ TextHolds (view_of references).bytes (i * 4) ∥₁ },
 }
 
 impl<'a> Texts<'a> {
+    ghost use Rattle.planus_views.specs.CheckedVectors.{checked_texts};
+    ghost use Rattle.planus_views.specs.Items.{IsOverAll};
     ghost use Rattle.planus_views.specs.Vectors.{all_ok};
 
     /// Returns the number of strings.
     #[inline(always)]
     pub fn len(&self) -> usize
-        ensures { result ≡ count_of self.now.vector }
+        ensures { result ≡ count_of (checked_texts self.now) }
     {
-        self.vector.len()
+        self.references.len()
     }
 
     /// Returns the string at an index, or `None` out of bounds.
     #[inline(always)]
     pub fn get(&self, index: usize) -> Option<&'a str>
-        ensures { IsTextItem self.now.vector index (all_ok result) }
+        ensures { IsTextItem (checked_texts self.now) index (all_ok result) }
     {
-        if index >= self.vector.len() {
+        if index >= self.references.len() {
             return None;
         }
-        Some(text_unchecked(self.vector.items(), index * 4))
+        Some(self.item(index))
+    }
+
+    /// Returns an iterator over the strings.
+    #[inline(always)]
+    pub fn iter(&self) -> VerifiedItems<Texts<'a>>
+        ensures { IsOverAll self.now result }
+    {
+        VerifiedItems::new(*self)
     }
 }
 
-/// An iterator over verified strings.
-#[derive(Clone, Drop)]
-pub struct TextItems<'a> {
-    texts: Texts<'a>,
-    next: usize,
-}
+impl<'a> VerifiedVector for Texts<'a> {
+    ghost use Rattle.planus_views.specs.CheckedVectors.{checked_texts};
 
-impl<'a> Iterator for TextItems<'a> {
-    type Item = &'a str;
-
-    ghost use Rattle.std.specs.Iterator.{at_most};
-    ghost use Rattle.planus_views.specs.Items.{texts_left, TakesText};
-
-    ghost next_gives = { TakesText };
-
-    ghost remaining = { λ s. at_most (texts_left s) };
+    ghost count = { λ texts. count_of (checked_texts texts) };
 
     #[inline(always)]
-    fn next(&mut self) -> Option<&'a str> {
-        let text = self.texts.get(self.next)?;
-        self.next += 1;
-        Some(text)
+    fn len(&self) -> usize {
+        self.references.len()
+    }
+}
+
+impl<'a> ReadVerified for Texts<'a> {
+    type Item = &'a str;
+
+    ghost use Rattle.planus_views.specs.CheckedVectors.{checked_texts};
+
+    ghost is_item = { λ texts i text. IsTextItem (checked_texts texts) i (Some (Ok text)) };
+
+    #[inline(always)]
+    fn item(&self, index: usize) -> &'a str {
+        text_unchecked(self.references.items(), index * 4)
     }
 }
 
 impl<'a> IntoIterator for Texts<'a> {
     type Item = &'a str;
 
-    type IntoIter = TextItems<'a>;
+    type IntoIter = VerifiedItems<Texts<'a>>;
 
-    ghost use Rattle.planus_views.specs.Items.{IsOverTexts};
+    ghost use Rattle.planus_views.specs.Items.{IsOverAll};
 
-    ghost into_iter_gives = { IsOverTexts };
+    ghost into_iter_gives = { λ texts items. IsOverAll texts items };
 
     #[inline(always)]
-    fn into_iter(self) -> TextItems<'a> {
-        TextItems {
-            texts: self,
-            next: 0,
-        }
+    fn into_iter(self) -> VerifiedItems<Texts<'a>> {
+        VerifiedItems::new(self)
+    }
+}
+
+impl<'b, 'a> IntoIterator for &'b Texts<'a> {
+    type Item = &'a str;
+
+    type IntoIter = VerifiedItems<Texts<'a>>;
+
+    ghost use Rattle.planus_views.specs.Items.{IsOverAll};
+
+    ghost into_iter_gives = { λ texts items. IsOverAll texts.now items };
+
+    #[inline(always)]
+    fn into_iter(self) -> VerifiedItems<Texts<'a>> {
+        self.iter()
     }
 }
 
 /// Returns the vector of strings to which the reference at an offset leads. Requires all to be there.
 #[inline(always)]
-pub fn texts_unchecked<'a>(buffer: SliceWithStartOffset<'a>, offset: usize) -> Texts<'a>
+pub(crate) fn texts_unchecked<'a>(buffer: SliceWithStartOffset<'a>, offset: usize) -> Texts<'a>
     requires { ∥ EachHolds TextHolds (slice_bytes buffer) offset ∥₁ }
     ensures { let S = slice_bytes buffer.entry in let start = slice_start buffer.entry in
-        Answer (shown (ShowsVector S start) (vector_reading S offset 4)) (Ok result.vector) }
+        Answer (shown (ShowsVector S start) (vector_reading S offset 4)) (Ok result.references) }
 {
-    let vector: Vector<'a, planus::Result<&'a str>> = Vector::from_buffer_unchecked(buffer, offset);
-    Texts { vector }
+    let references: Vector<'a, u32> = Vector::from_buffer_unchecked(buffer, offset);
+    Texts { references }
 }

@@ -7,6 +7,7 @@ ghost use Rattle.planus_read.specs.Slices.{slice_bytes, slice_start};
 ghost use Rattle.planus_verify.specs.Schemas.{Shapes, variant_in};
 ghost use Rattle.planus_views.specs.Fields.{IsMember};
 
+use crate::of_union::OfUnion;
 use crate::view_of::ViewOf;
 use planus::SliceWithStartOffset;
 use planus::table_reader::Table;
@@ -70,9 +71,7 @@ impl<'a> Member<'a> {
 }
 
 /// A printed enum of a union's variants, with one for tags that its schema doesn't have.
-pub trait UnionOf<'a>: Sized {
-    type Kind: UnionKind;
-
+pub trait UnionOf<'a>: Sized + OfUnion {
     ghost reads: { List ℕ → ℕ → ℕ → ℕ → std_result Self ErrorKind → Type 0 };
 
     // what the checked reader returns

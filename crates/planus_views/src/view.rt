@@ -55,6 +55,7 @@ impl<'a, K: VerifiedKind> Copy for View<'a, K> {}
 impl<'a, K: VerifiedKind> View<'a, K> {
     ghost use Rattle.planus_views.specs.Views.{view_table};
     ghost use Rattle.planus_views.specs.Vectors.{Returns};
+    ghost use Rattle.planus_views.specs.CheckedVectors.{checked_tables, checked_texts};
     ghost use Rattle.planus_views.specs.Members.{member_tag, member_bytes, member_start};
     ghost use Rattle.planus_views.specs.Members.{member_offset, checked_option, ReturnsAs};
 
@@ -203,7 +204,8 @@ impl<'a, K: VerifiedKind> View<'a, K> {
     #[inline(always)]
     pub fn text_vector(&self, slot: usize) -> Option<Texts<'a>>
         requires { MayHave K.schema K.index slot ValueKind.Texts }
-        ensures { Returns (IsTextVector (view_table self.now) slot) (option_map (λ texts. texts.vector) result) }
+        ensures { Returns (IsTextVector (view_table self.now) slot)
+            (option_map (λ texts. checked_texts texts) result) }
     {
         match self.place(slot) {
             None => None,
@@ -213,10 +215,11 @@ impl<'a, K: VerifiedKind> View<'a, K> {
 
     /// Returns the vector of tables in a slot, or `None` if absent.
     #[inline(always)]
-    pub fn table_vector<W: VerifiedKind + 'a>(&self, slot: usize) -> Option<Tables<'a, W>>
-        requires same { W.schema ≡ K.schema }
-        requires has { MayHave K.schema K.index slot (ValueKind.Tables W.index) }
-        ensures { Returns (IsTableVector W (view_table self.now) slot) (option_map (λ tables. tables.vector) result) }
+    pub fn table_vector<V: ViewOf<'a>>(&self, slot: usize) -> Option<Tables<'a, V>>
+        requires same { V.Kind.schema ≡ K.schema }
+        requires has { MayHave K.schema K.index slot (ValueKind.Tables V.Kind.index) }
+        ensures { Returns (IsTableVector V.Kind (view_table self.now) slot)
+            (option_map (λ tables. checked_tables tables) result) }
     {
         match self.place(slot) {
             None => None,
@@ -252,7 +255,8 @@ impl<'a, K: VerifiedKind> View<'a, K> {
     #[inline(always)]
     pub fn text_vector_required(&self, slot: usize) -> Texts<'a>
         requires { MustHave K.schema K.index slot ValueKind.Texts }
-        ensures { Returns (IsTextVectorRequired (view_table self.now) slot) result.vector }
+        ensures { Returns (IsTextVectorRequired (view_table self.now) slot)
+            (checked_texts result) }
     {
         match self.place(slot) {
             Some((buffer, offset)) => texts_unchecked(buffer, offset),
@@ -278,10 +282,11 @@ impl<'a, K: VerifiedKind> View<'a, K> {
 
     /// Returns the vector of tables in a slot.
     #[inline(always)]
-    pub fn table_vector_required<W: VerifiedKind + 'a>(&self, slot: usize) -> Tables<'a, W>
-        requires same { W.schema ≡ K.schema }
-        requires has { MustHave K.schema K.index slot (ValueKind.Tables W.index) }
-        ensures { Returns (IsTableVectorRequired W (view_table self.now) slot) result.vector }
+    pub fn table_vector_required<V: ViewOf<'a>>(&self, slot: usize) -> Tables<'a, V>
+        requires same { V.Kind.schema ≡ K.schema }
+        requires has { MustHave K.schema K.index slot (ValueKind.Tables V.Kind.index) }
+        ensures { Returns (IsTableVectorRequired V.Kind (view_table self.now) slot)
+            (checked_tables result) }
     {
         match self.place(slot) {
             Some((buffer, offset)) => tables_unchecked(buffer, offset),

@@ -6,7 +6,7 @@ ghost use Rattle.planus_views.specs.Vectors.{Returns};
 
 use crate::schema::schema;
 use planus::table_reader::Table;
-use planus_views::{Schema, VerifiedKind, View, ViewOf};
+use planus_views::{OfKind, Schema, VerifiedKind, View, ViewOf};
 
 /// The kind of `Company`.
 pub struct Company;
@@ -34,9 +34,11 @@ impl VerifiedKind for Company {
 #[derive(Clone, Copy)]
 pub struct CompanyView<'a>(View<'a, Company>);
 
-impl<'a> ViewOf<'a> for CompanyView<'a> {
+impl<'a> OfKind for CompanyView<'a> {
     type Kind = Company;
+}
 
+impl<'a> ViewOf<'a> for CompanyView<'a> {
     ghost table = { λ view. view_table view.0 };
 
     fn of_verified(read: Table<'a>) -> CompanyView<'a> {

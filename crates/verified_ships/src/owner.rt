@@ -5,7 +5,7 @@ ghost use Rattle.verified_ships.specs.Owner.{owner_variants, checked_owner};
 
 use crate::company::CompanyView;
 use crate::person::PersonView;
-use planus_views::{Member, UnionKind, UnionOf};
+use planus_views::{Member, OfUnion, UnionKind, UnionOf};
 
 /// The kind of one of some tables.
 pub struct Owner;
@@ -27,9 +27,11 @@ pub enum OwnerView<'a> {
     Unknown(u8),
 }
 
-impl<'a> UnionOf<'a> for OwnerView<'a> {
+impl<'a> OfUnion for OwnerView<'a> {
     type Kind = Owner;
+}
 
+impl<'a> UnionOf<'a> for OwnerView<'a> {
     ghost reads = { ReadsVariants owner_variants };
 
     ghost checked = { checked_owner };

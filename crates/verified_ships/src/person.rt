@@ -6,7 +6,7 @@ ghost use Rattle.planus_views.specs.Vectors.{Returns};
 
 use crate::schema::schema;
 use planus::table_reader::Table;
-use planus_views::{Schema, VerifiedKind, View, ViewOf};
+use planus_views::{OfKind, Schema, VerifiedKind, View, ViewOf};
 
 /// The kind of `Person`.
 pub struct Person;
@@ -34,9 +34,11 @@ impl VerifiedKind for Person {
 #[derive(Clone, Copy)]
 pub struct PersonView<'a>(View<'a, Person>);
 
-impl<'a> ViewOf<'a> for PersonView<'a> {
+impl<'a> OfKind for PersonView<'a> {
     type Kind = Person;
+}
 
+impl<'a> ViewOf<'a> for PersonView<'a> {
     ghost table = { λ view. view_table view.0 };
 
     fn of_verified(read: Table<'a>) -> PersonView<'a> {

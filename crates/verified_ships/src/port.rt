@@ -5,14 +5,15 @@ ghost use Rattle.planus_views.specs.Views.{view_table};
 ghost use Rattle.planus.specs.Printed.{IsTableVectorRequired, IsTextVectorRequired};
 ghost use Rattle.planus.specs.Printed.{IsPlainVectorRequired, IsBytesRequired};
 ghost use Rattle.planus_views.specs.Members.{ReturnsAs};
+ghost use Rattle.planus_views.specs.CheckedVectors.{checked_tables, checked_texts};
 ghost use Rattle.planus_views.specs.Vectors.{Returns};
 
 use crate::owner::OwnerView;
 use crate::schema::schema;
-use crate::ship::Ship;
+use crate::ship::ShipView;
 use planus::Vector;
 use planus::table_reader::Table;
-use planus_views::{Schema, Tables, Texts, VerifiedKind, View, ViewOf};
+use planus_views::{OfKind, Schema, Tables, Texts, VerifiedKind, View, ViewOf};
 
 /// The kind of `Port`.
 pub struct Port;
@@ -40,9 +41,11 @@ impl VerifiedKind for Port {
 #[derive(Clone, Copy)]
 pub struct PortView<'a>(View<'a, Port>);
 
-impl<'a> ViewOf<'a> for PortView<'a> {
+impl<'a> OfKind for PortView<'a> {
     type Kind = Port;
+}
 
+impl<'a> ViewOf<'a> for PortView<'a> {
     ghost table = { λ view. view_table view.0 };
 
     fn of_verified(read: Table<'a>) -> PortView<'a> {
@@ -63,15 +66,16 @@ impl<'a> PortView<'a> {
     }
 
     /// Returns `ships`.
-    pub fn ships(&self) -> Tables<'a, Ship>
-        ensures { Returns (IsTableVectorRequired Ship (view_table self.now.0) 2) result.vector }
+    pub fn ships(&self) -> Tables<'a, ShipView<'a>>
+        ensures { Returns (IsTableVectorRequired Ship (view_table self.now.0) 2)
+            (checked_tables result) }
     {
         self.0.table_vector_required(2)
     }
 
     /// Returns `berths`.
     pub fn berths(&self) -> Texts<'a>
-        ensures { Returns (IsTextVectorRequired (view_table self.now.0) 3) result.vector }
+        ensures { Returns (IsTextVectorRequired (view_table self.now.0) 3) (checked_texts result) }
     {
         self.0.text_vector_required(3)
     }

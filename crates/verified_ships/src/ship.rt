@@ -5,6 +5,7 @@ ghost use Rattle.std.specs.Option.{option_map};
 ghost use Rattle.planus.specs.Printed.{u16_shape, IsTextRequired, IsPlainFieldOr, IsPlainVector};
 ghost use Rattle.planus.specs.Printed.{IsBytesField, IsTextVector, IsTableField, IsTableVector};
 ghost use Rattle.planus_views.specs.Views.{view_table};
+ghost use Rattle.planus_views.specs.CheckedVectors.{checked_tables, checked_texts};
 ghost use Rattle.planus_views.specs.Vectors.{Returns};
 ghost use Rattle.planus_views.specs.Members.{ReturnsAs, checked_option};
 ghost use Rattle.planus.specs.Printed.{IsUnionField, ReadsVariants, IsPlainField};
@@ -15,7 +16,7 @@ use crate::schema::schema;
 use planus::errors::ErrorKind;
 use planus::table_reader::Table;
 use planus::{TableKind, TableWriter, Vector};
-use planus_views::{Schema, Tables, Texts, VerifiedKind, View, ViewOf};
+use planus_views::{OfKind, Schema, Tables, Texts, VerifiedKind, View, ViewOf};
 
 /// The kind of `Ship`.
 pub struct Ship;
@@ -53,9 +54,11 @@ impl VerifiedKind for Ship {
 #[derive(Clone, Copy)]
 pub struct ShipView<'a>(View<'a, Ship>);
 
-impl<'a> ViewOf<'a> for ShipView<'a> {
+impl<'a> OfKind for ShipView<'a> {
     type Kind = Ship;
+}
 
+impl<'a> ViewOf<'a> for ShipView<'a> {
     ghost table = { λ view. view_table view.0 };
 
     fn of_verified(read: Table<'a>) -> ShipView<'a> {
@@ -70,13 +73,6 @@ impl<'a> ShipView<'a> {
     ghost use Rattle.verified_ships.specs.Owner.{owner_variants, checked_owner};
     ghost use Rattle.verified_ships.specs.Kind.{kind_shape};
     ghost use Rattle.verified_ships.specs.declared.kind.Kind.TheVariants as kind_value;
-
-    /// Returns the view of one in a vector.
-    pub fn new(view: View<'a, Ship>) -> ShipView<'a>
-        ensures { view_table result.0 ≡ view_table view.entry }
-    {
-        ShipView(view)
-    }
 
     /// Returns `name`.
     pub fn name(&self) -> &'a str
@@ -116,7 +112,8 @@ impl<'a> ShipView<'a> {
 
     /// Returns `names`.
     pub fn names(&self) -> Option<Texts<'a>>
-        ensures { Returns (IsTextVector (view_table self.now.0) 14) (option_map (λ texts. texts.vector) result) }
+        ensures { Returns (IsTextVector (view_table self.now.0) 14)
+            (option_map (λ texts. checked_texts texts) result) }
     {
         self.0.text_vector(14)
     }
@@ -129,8 +126,9 @@ impl<'a> ShipView<'a> {
     }
 
     /// Returns `consorts`.
-    pub fn consorts(&self) -> Option<Tables<'a, Ship>>
-        ensures { Returns (IsTableVector Ship (view_table self.now.0) 16) (option_map (λ tables. tables.vector) result) }
+    pub fn consorts(&self) -> Option<Tables<'a, ShipView<'a>>>
+        ensures { Returns (IsTableVector Ship (view_table self.now.0) 16)
+            (option_map (λ tables. checked_tables tables) result) }
     {
         self.0.table_vector(16)
     }

@@ -91,7 +91,7 @@ fn has_vectors(ann: &ShipView<'_>) -> bool {
     let mut hulls = 0_usize;
     if let Some(all) = ann.consorts() {
         for consort in all {
-            hulls = hulls.wrapping_add(ShipView::new(consort).hull() as usize);
+            hulls = hulls.wrapping_add(consort.hull() as usize);
         }
     }
     let last = match ann.names() {
@@ -131,7 +131,7 @@ fn has_all_fields(port: &PortView<'_>) -> bool {
         _ => false,
     };
     let hull = match port.ships().get(0) {
-        Some(ship) => Some(ShipView::new(ship).hull()),
+        Some(ship) => Some(ship.hull()),
         None => None,
     };
     owner

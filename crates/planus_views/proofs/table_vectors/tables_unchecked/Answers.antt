@@ -8,22 +8,22 @@ use Rattle.planus_views.proofs.Merely.{vector_had}
 use Rattle.planus_views.proofs.Vectors.{items_held, items_begin}
 use Rattle.planus_views.proofs.table_vectors.tables_unchecked.Goals as goal
 
-pub from_buffer_unchecked-vector-requires : goal.from_buffer_unchecked-vector-requires
-from_buffer_unchecked-vector-requires g c = vector_had _ _ _ (∥∥₁_map c.requires (λ h. h.1.0))
+pub from_buffer_unchecked-references-requires : goal.from_buffer_unchecked-references-requires
+from_buffer_unchecked-references-requires g c = vector_had _ _ _ (∥∥₁_map c.requires (λ h. h.1.0))
 
 pub invariant_of-result : goal.invariant_of-result
 invariant_of-result g c = record {
   verified = λ i below. ∥∥₁_map c.requires (λ h. (
     h.0,
     subst
-        (λ k. TableHolds g.K.VerifiedKind.schema h.0 g.K.VerifiedKind.index k
-        (view_of c.from_buffer_unchecked-vector.result).bytes (i * 4))
+        (λ k. TableHolds g.V.Kind.VerifiedKind.schema h.0 g.V.Kind.VerifiedKind.index k
+        (view_of c.from_buffer_unchecked-references.result).bytes (i * 4))
         (sym (items_begin (slice_bytes c.args.buffer) (slice_start c.args.buffer) c.args.offset
-        c.from_buffer_unchecked-vector.result c.from_buffer_unchecked-vector.ensures))
-        (items_held (TableHolds g.K.VerifiedKind.schema h.0 g.K.VerifiedKind.index
+        c.from_buffer_unchecked-references.result c.from_buffer_unchecked-references.ensures))
+        (items_held (TableHolds g.V.Kind.VerifiedKind.schema h.0 g.V.Kind.VerifiedKind.index
         (slice_start c.args.buffer + items_at (slice_bytes c.args.buffer) c.args.offset))
         (slice_bytes c.args.buffer)
-        (slice_start c.args.buffer) c.args.offset c.from_buffer_unchecked-vector.result
-        c.from_buffer_unchecked-vector.ensures h.1 i below),
+        (slice_start c.args.buffer) c.args.offset c.from_buffer_unchecked-references.result
+        c.from_buffer_unchecked-references.ensures h.1 i below),
   ));
 }

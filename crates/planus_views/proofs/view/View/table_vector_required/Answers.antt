@@ -16,15 +16,15 @@ use Rattle.planus_views.proofs.view.View.table_vector_required.Goals as goal
 pub tables_unchecked-requires : goal.tables_unchecked-requires
 tables_unchecked-requires g c =
     subst (λ (s : Shapes). ∥ ((n : ℕ) × EachHolds
-    (TableHolds s n g.W.VerifiedKind.index (slice_start c.in-Some.buffer
+    (TableHolds s n g.V.Kind.VerifiedKind.index (slice_start c.in-Some.buffer
     + items_at (slice_bytes c.in-Some.buffer) c.in-Some.offset))
     (slice_bytes c.in-Some.buffer) c.in-Some.offset) ∥₁) (sym c.requires.same)
     (∥∥₁_map (place_holds g.K.VerifiedKind.schema g.K.VerifiedKind.index
-    c.args.slot true (value.Tables g.W.VerifiedKind.index) (view_table c.args.self.now) _ _ _
+    c.args.slot true (value.Tables g.V.Kind.VerifiedKind.index) (view_table c.args.self.now) _ _ _
     c.args.self.now.verified c.requires.has c.in-Some.ensures.some)
     (λ h. (
       h.0,
-      each_table g.K.VerifiedKind.schema h.0 g.W.VerifiedKind.index
+      each_table g.K.VerifiedKind.schema h.0 g.V.Kind.VerifiedKind.index
           (faults_of g.K.VerifiedKind.index (view_table c.args.self.now) c.args.slot) (slice_bytes c.in-Some.buffer)
           (slice_start c.in-Some.buffer) c.in-Some.offset h.1,
     )))
@@ -32,11 +32,11 @@ tables_unchecked-requires g c =
 pub unreachable-requires : goal.unreachable-requires
 unreachable-requires g c =
     is_present g.K.VerifiedKind.schema g.K.VerifiedKind.index c.args.slot
-    (value.Tables g.W.VerifiedKind.index) (view_table c.args.self.now) c.args.self.now.verified c.requires.has c.in-None.ensures.none
+    (value.Tables g.V.Kind.VerifiedKind.index) (view_table c.args.self.now) c.args.self.now.verified c.requires.has c.in-None.ensures.none
 
 pub returns : goal.returns
 returns g c = λ type_ method.
-    required_read (tables_kind g.row.W.Denot) (tables_law _ _ g.row.W.Denot refl) (view_table c.args.self.now) c.args.slot type_ method
-    (Ok c.tables_unchecked.result.vector)
-    (field_answered (reads_vector _ _) (view_table c.args.self.now) c.args.slot _ _ _ c.tables_unchecked.result.vector
+    required_read (tables_kind g.row.V-Kind.Denot) (tables_law _ _ g.row.V-Kind.Denot refl) (view_table c.args.self.now) c.args.slot type_ method
+    (Ok c.tables_unchecked.result.references)
+    (field_answered (reads_vector _ _) (view_table c.args.self.now) c.args.slot _ _ _ c.tables_unchecked.result.references
     c.in-Some.ensures.some c.tables_unchecked.ensures)

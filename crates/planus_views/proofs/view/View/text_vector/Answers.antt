@@ -23,8 +23,8 @@ texts_unchecked-requires g c =
 pub returns-in-Some : goal.returns-in-Some
 returns-in-Some g c = λ type_ method.
     field_read texts_kind (texts_law _ _ refl) (view_table c.args.self.now) c.args.slot type_ method
-    (Ok (Some c.texts_unchecked.result.vector))
-    (field_answered (reads_vector _ _) (view_table c.args.self.now) c.args.slot _ _ _ c.texts_unchecked.result.vector
+    (Ok (Some c.texts_unchecked.result.references))
+    (field_answered (reads_vector _ _) (view_table c.args.self.now) c.args.slot _ _ _ c.texts_unchecked.result.references
     c.in-Some.ensures.some c.texts_unchecked.ensures)
 
 pub returns-in-None : goal.returns-in-None

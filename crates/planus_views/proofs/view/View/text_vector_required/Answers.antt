@@ -28,6 +28,6 @@ unreachable-requires g c =
 pub returns : goal.returns
 returns g c = λ type_ method.
     required_read texts_kind (texts_law _ _ refl) (view_table c.args.self.now) c.args.slot type_ method
-    (Ok c.texts_unchecked.result.vector)
-    (field_answered (reads_vector _ _) (view_table c.args.self.now) c.args.slot _ _ _ c.texts_unchecked.result.vector
+    (Ok c.texts_unchecked.result.references)
+    (field_answered (reads_vector _ _) (view_table c.args.self.now) c.args.slot _ _ _ c.texts_unchecked.result.references
     c.in-Some.ensures.some c.texts_unchecked.ensures)
