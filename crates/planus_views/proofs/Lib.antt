@@ -4,3 +4,4 @@ pub mod Merely
 pub mod Vectors
 pub mod UnionAnswers
 pub mod Judged
+pub mod UnionVectorFacts

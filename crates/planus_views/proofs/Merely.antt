@@ -5,6 +5,7 @@ use Rattle.std.proofs.Props.{props}
 use Rattle.std.proofs.lemmas.Str.{IsUtf8-had}
 use Rattle.planus_read.specs.Clauses.{AllHold}
 use Rattle.planus_read.specs.Reading.{byte_list_clauses, vector_clauses, table_clauses}
+use Rattle.planus_read.specs.Reading.{union_vector_clauses}
 use Rattle.planus_views.specs.Fields.{TextHolds}
 
 pub text_had : (S : List ℕ) (f : ℕ) → ∥ TextHolds S f ∥₁ → TextHolds S f
@@ -33,6 +34,11 @@ pub vector_had :
     (S : List ℕ) (f size : ℕ) → ∥ AllHold (vector_clauses S f size) ∥₁
     → AllHold (vector_clauses S f size)
 vector_had S f size h = ∥∥₁_elim h (Prim.hlevel props) (λ t. t)
+
+pub unions_had :
+    (S : List ℕ) (f g : ℕ) → ∥ AllHold (union_vector_clauses S f g) ∥₁
+    → AllHold (union_vector_clauses S f g)
+unions_had S f g h = ∥∥₁_elim h (Prim.hlevel props) (λ t. t)
 
 pub table_had :
     (S : List ℕ) (f : ℕ) → ∥ AllHold (table_clauses S f) ∥₁ → AllHold (table_clauses S f)

@@ -12,7 +12,9 @@ use Rattle.planus_read.specs.Tables.{Slot, UnionThere, UnionAbsent, table_object
 use Rattle.planus_read.specs.Tables.{table_slots, table_start, slot_of}
 use Rattle.planus_read.specs.declared.table_reader.Table.{Table}
 use Rattle.planus_read.proofs.Reading.{num_there, num_value}
+use Rattle.planus_read.specs.declared.errors.ErrorKind.{ErrorKind}
 use Rattle.planus_verify.specs.Schemas.{Shapes, variant_in}
+use Rattle.planus_verify.specs.declared.fault.Fault.{Fault}
 use Rattle.planus_verify.specs.Steps.{Step, Faults, union_steps, member_steps, variant_steps, tag_at}
 use Rattle.planus_verify.specs.Verified.{OfTable, StepsHold, Verified, IsVerified}
 use Rattle.planus_verify.specs.declared.schema.FieldKind.TheVariants as kind
@@ -65,6 +67,14 @@ module _ (H : OfTable) (at : Faults) (steps : ℕ → ℕ → List Step) where
     short_needed true is short h = h.0.0
     short_needed false is short h = let e = sym (le-leb (length V) (2 * i) short) ∙ is in cc
 
+-- the table of a tag, if the schema has the tag
+pub variant_holds :
+    (schema : Shapes) (n : ℕ) (here : ErrorKind → Fault) (table_of : Option ℕ) (S : List ℕ)
+    (start f : ℕ) → StepsHold (Verified schema n) (variant_steps here table_of S start f)
+    → IfSome table_of (λ t. TableHolds schema n t start S f)
+variant_holds schema n here None S start f h = tt
+variant_holds schema n here (Some t) S start f h = (h.0, h.1.0)
+
 module _ (schema : Shapes) (t u i : ℕ) (required : Bool) (table : Table)
     (verified : IsVerified schema t table)
     (has : Has schema t i (record { slot = i; required = required; kind = kind.Union u })) where
@@ -97,14 +107,6 @@ module _ (schema : Shapes) (t u i : ℕ) (required : Bool) (table : Table)
         (nat_le (length V) (2 * i)) refl long h.1);
   }
 
-  one_variant :
-      (n : ℕ) (table_of : Option ℕ)
-      → StepsHold (Verified schema n) (variant_steps (at None) table_of S (table_start table)
-      (slot_of table (i + 1)))
-      → IfSome table_of (λ t. TableHolds schema n t (table_start table) S (slot_of table (i + 1)))
-  one_variant n None h = tt
-  one_variant n (Some t) h = (h.0, h.1.0)
-
   pub is_member :
       (tag : ℕ) → UnionThere table i tag
       → IsMember schema u tag (table_start table) S (slot_of table (i + 1))
@@ -115,7 +117,8 @@ module _ (schema : Shapes) (t u i : ℕ) (required : Bool) (table : Table)
       ∥∥₁_map holds
       (λ h. (
         h.0,
-        one_variant h.0 (variant_in schema.variants u tag)
+        variant_holds schema h.0 (at None) (variant_in schema.variants u tag) S
+            (table_start table) (slot_of table (i + 1))
             (subst (λ k. StepsHold (Verified schema h.0) (member k (slot_of table (i + 1)))) (sym byte)
             (there_of (Verified schema h.0) at member required (Slot V i) (Slot V (i + 1))
             (tag_at S (Slot V i)) there.tag_slot there.value_slot

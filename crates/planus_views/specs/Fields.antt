@@ -1,9 +1,10 @@
 -- Fields of verified tables.
 use Rattle.std.specs.Prelude.{◌≡◌, ℕ, ◌+◌, ◌*◌, ◌==◌, ◌<◌, ◌≤◌, List, [], ◌∷◌, length, drop}
-use Rattle.std.specs.Prelude.{Option, Some, None, if◌then◌else◌, true, false, IfSome}
+use Rattle.std.specs.Prelude.{Option, Some, None, if◌then◌else◌, true, false, IfSome, ◌⊎◌}
+use Rattle.std.specs.Prelude.{slice_index}
 use Rattle.planus_read.specs.Clauses.{AllHold}
 use Rattle.planus_read.specs.Reading.{target, items_at, count_at, slots_of, text_clauses}
-use Rattle.planus_read.specs.Reading.{vector_clauses, table_clauses}
+use Rattle.planus_read.specs.Reading.{vector_clauses, table_clauses, union_vector_clauses}
 use Rattle.planus_read.specs.Tables.{BothSlots, table_object, table_slots, table_start, slot_of}
 use Rattle.planus_read.specs.declared.table_reader.Table.{Table}
 use Rattle.planus_verify.specs.Schemas.{Shapes, fields_of, variant_in}
@@ -70,3 +71,18 @@ pub record Unbroken (table : Table) (i : ℕ) : Type 0 where
 abbrev pub IsMember : Shapes → ℕ → ℕ → ℕ → List ℕ → ℕ → Type 0
 IsMember schema u tag start S f =
     ∥ ((n : ℕ) × IfSome (variant_in schema.variants u tag) (λ t. TableHolds schema n t start S f)) ∥₁
+
+-- A vector of unions stands, its tags at f and its references at g; and each of its tables is
+-- verified as the one of its tag, if the schema has the tag.
+abbrev pub UnionsHold : Shapes → ℕ → ℕ → ℕ → List ℕ → ℕ → ℕ → Type 0
+UnionsHold schema n u start S f g =
+    AllHold (union_vector_clauses S f g)
+    × ((i : ℕ) → i < count_at S f
+    → IfSome (variant_in schema.variants u (slice_index (drop (items_at S f) S) i))
+    (λ t. TableHolds schema n t (start + items_at S g) (drop (items_at S g) S) (i * 4)))
+
+-- A vector of unions has no slots, or both hold 0.
+abbrev pub UnionVectorAbsent : Table → ℕ → Type 0
+UnionVectorAbsent table i =
+    (length (table_slots table) < 2 * i + 4)
+    ⊎ (BothSlots table i × (slot_of table i ≡ 0) × (slot_of table (i + 1) ≡ 0))

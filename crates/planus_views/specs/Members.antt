@@ -4,6 +4,7 @@ use Rattle.planus_read.specs.declared.errors.ErrorKind.{ErrorKind}
 use Rattle.planus_read.specs.declared.errors.ErrorKind.TheVariants.{UnknownUnionTag}
 use Rattle.planus_read.specs.declared.located.Error.{Error}
 use Rattle.planus_read.specs.declared.table_reader.Table.{Table}
+use Rattle.planus_read.specs.Items.{item_method}
 use Rattle.planus_read.specs.Located.{Located}
 use Rattle.planus_read.specs.Slices.{slice_bytes, slice_start}
 use Rattle.planus_read.specs.Tables.{table_start}
@@ -37,6 +38,16 @@ abbrev pub checked_option :
     {U : Type 0} → (U → Result U ErrorKind) → Option U → Result (Option U) ErrorKind
 checked_option checked None = Ok None
 checked_option checked (Some union) = some_if (checked union)
+
+-- The checked reader of an item, whatever name its errors have, would return this, its error at this
+-- start.
+abbrev pub ItemReturnsAs :
+    {A : Type 0} → (List ℕ → Option (Result A Error) → Type 0) → ℕ → Option (Result A ErrorKind)
+    → Type 0
+ItemReturnsAs Clause start None = (name : List ℕ) → Clause name None
+ItemReturnsAs {A} Clause start (Some answer) =
+    (name : List ℕ) (r : Result A Error)
+    → Located (λ found. found ≡ answer) name item_method start r → Clause name (Some r)
 
 -- The checked accessor of this clause, whatever the names in its errors, would return this, its
 -- error at this table.

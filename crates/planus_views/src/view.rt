@@ -10,6 +10,7 @@ ghost use Rattle.planus.specs.Accessors.{IsPlainRequired, IsBytesRequired, IsTex
 ghost use Rattle.planus.specs.Accessors.{IsTableRequired, IsTableVectorRequired};
 ghost use Rattle.planus.specs.Accessors.{IsPlainVectorRequired};
 ghost use Rattle.planus.specs.UnionAccessors.{IsUnionField, IsUnionRequired};
+ghost use Rattle.planus.specs.UnionAccessors.{IsUnionVector, IsUnionVectorRequired};
 ghost use Rattle.planus_read.specs.Tables.{slot_of, table_object, table_start};
 ghost use Rattle.planus_read.specs.Tables.{UnionThere, UnionAbsent};
 ghost use Rattle.planus_views.specs.Fields.{Unbroken};
@@ -18,10 +19,11 @@ ghost use Rattle.planus_verify.specs.Verified.{IsVerified};
 ghost use Rattle.planus_views.specs.Fields.{IsPlace};
 
 use crate::kind::VerifiedKind;
-use crate::members::union_unchecked;
+use crate::members::{union_unchecked, union_vector_slots};
 use crate::table_vectors::{Tables, tables_unchecked};
 use crate::texts::{Texts, texts_unchecked};
 use crate::union_of::{Member, UnionOf};
+use crate::unions::Unions;
 use crate::view_of::ViewOf;
 use planus::errors::ErrorKind;
 use planus::table_reader::Table;
@@ -56,6 +58,7 @@ impl<'a, K: VerifiedKind> View<'a, K> {
     ghost use Rattle.planus_views.specs.Views.{view_table};
     ghost use Rattle.planus_views.specs.Vectors.{Returns};
     ghost use Rattle.planus_views.specs.CheckedVectors.{checked_tables, checked_texts};
+    ghost use Rattle.planus_views.specs.CheckedVectors.{checked_unions};
     ghost use Rattle.planus_views.specs.Members.{member_tag, member_bytes, member_start};
     ghost use Rattle.planus_views.specs.Members.{member_offset, checked_option, ReturnsAs};
 
@@ -363,6 +366,38 @@ impl<'a, K: VerifiedKind> View<'a, K> {
     {
         match self.member(slot) {
             Some(member) => U::of_member(member),
+            None => unreachable!(),
+        }
+    }
+
+    /// Returns the vector of unions of a slot and the next, or `None` if absent.
+    #[inline(always)]
+    pub fn union_vector<U: UnionOf<'a>>(&self, slot: usize) -> Option<Unions<'a, U>>
+        requires same { U.Kind.schema ≡ K.schema }
+        requires has { Has K.schema K.index slot (optional slot (FieldKind.Unions U.Kind.union)) }
+        ensures { Returns (IsUnionVector (view_table self.now) slot)
+            (option_map (λ unions. checked_unions unions) result) }
+    {
+        match union_vector_slots(&self.table, slot) {
+            None => None,
+            Some((tags, references)) => {
+                Some(Unions::from_buffer_unchecked(self.table.object(), tags, references))
+            }
+        }
+    }
+
+    /// Returns the vector of unions of a slot and the next.
+    #[inline(always)]
+    pub fn union_vector_required<U: UnionOf<'a>>(&self, slot: usize) -> Unions<'a, U>
+        requires same { U.Kind.schema ≡ K.schema }
+        requires has { Has K.schema K.index slot (required slot (FieldKind.Unions U.Kind.union)) }
+        ensures { Returns (IsUnionVectorRequired (view_table self.now) slot)
+            (checked_unions result) }
+    {
+        match union_vector_slots(&self.table, slot) {
+            Some((tags, references)) => {
+                Unions::from_buffer_unchecked(self.table.object(), tags, references)
+            }
             None => unreachable!(),
         }
     }
