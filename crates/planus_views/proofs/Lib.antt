@@ -5,3 +5,4 @@ pub mod Vectors
 pub mod UnionAnswers
 pub mod Judged
 pub mod UnionVectorFacts
+pub mod ByteFields

@@ -1,7 +1,7 @@
 -- Fields of verified tables.
 use Rattle.std.specs.Prelude.{◌≡◌, ℕ, ◌+◌, ◌*◌, ◌==◌, ◌<◌, ◌≤◌, List, [], ◌∷◌, length, drop}
 use Rattle.std.specs.Prelude.{Option, Some, None, if◌then◌else◌, true, false, IfSome, ◌⊎◌}
-use Rattle.std.specs.Prelude.{slice_index}
+use Rattle.std.specs.Prelude.{Bool, not, ◌&&◌, slice_index}
 use Rattle.planus_read.specs.Clauses.{AllHold}
 use Rattle.planus_read.specs.Reading.{target, items_at, count_at, slots_of, text_clauses}
 use Rattle.planus_read.specs.Reading.{vector_clauses, table_clauses, union_vector_clauses}
@@ -13,6 +13,7 @@ use Rattle.planus_verify.specs.declared.schema.FieldShape.{FieldShape}
 use Rattle.planus_verify.specs.declared.schema.FieldKind.{FieldKind}
 use Rattle.planus_verify.specs.declared.schema.FieldKind.TheVariants as kind
 use Rattle.planus_verify.specs.declared.schema.ValueKind.{ValueKind}
+use Rattle.planus_verify.specs.declared.schema.ValueKind.TheVariants as value
 
 -- the field in a slot
 abbrev pub field_in : List FieldShape → ℕ → Option FieldShape
@@ -36,6 +37,27 @@ MayHave schema t slot value = Has schema t slot (optional slot (kind.Value value
 
 abbrev pub MustHave : Shapes → ℕ → ℕ → ValueKind → Type 0
 MustHave schema t slot value = Has schema t slot (required slot (kind.Value value))
+
+-- a byte vector, which may be a buffer
+abbrev pub is_bytes : FieldKind → Bool
+is_bytes (kind.Value value.Bytes) = true
+is_bytes (kind.Value (value.Nested t)) = true
+is_bytes other = false
+
+abbrev pub bytes_if : Bool → Option FieldShape → Bool
+bytes_if required None = false
+bytes_if true (Some field) = field.required && is_bytes field.kind
+bytes_if false (Some field) = not field.required && is_bytes field.kind
+
+-- The table of an index has a byte vector in this slot, which is required or not.
+abbrev pub HasBytes : Shapes → ℕ → ℕ → Bool → Type 0
+HasBytes schema t slot required = bytes_if required (field_in (fields_of schema t) slot) ≡ true
+
+abbrev pub MayHaveBytes : Shapes → ℕ → ℕ → Type 0
+MayHaveBytes schema t slot = HasBytes schema t slot false
+
+abbrev pub MustHaveBytes : Shapes → ℕ → ℕ → Type 0
+MustHaveBytes schema t slot = HasBytes schema t slot true
 
 -- A string stands at the reference at f of S.
 abbrev pub TextHolds : List ℕ → ℕ → Type 0

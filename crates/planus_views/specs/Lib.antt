@@ -5,4 +5,5 @@ pub mod Vectors
 pub mod CheckedVectors
 pub mod Members
 pub mod Items
+pub mod Nested
 pub use Rattle.planus_verify.specs as verify

@@ -3,9 +3,13 @@
 ghost use Rattle.std.specs.Prelude.{ℕ, List, Ok, Err, IfOk, IfErr};
 ghost use Rattle.planus.specs.Roots.{IsRoot};
 ghost use Rattle.planus_verify.specs.Walks.{RootWalks};
+ghost use Rattle.planus_views.specs.Fields.{TableHolds};
+ghost use Rattle.planus_views.specs.Nested.{ReturnsRoot};
 
 use crate::kind::VerifiedKind;
 use crate::view_of::ViewOf;
+use planus::SliceWithStartOffset;
+use planus::table_reader::Table;
 use planus_verify::{Fault, Limits, verify};
 
 /// Verifies the root of a whole buffer with all that it leads to, and returns its view.
@@ -22,4 +26,14 @@ pub fn verify_root<'a, V: ViewOf<'a>>(bytes: &'a [u8], limits: Limits) -> Result
         Ok(table) => Ok(V::of_verified(table)),
         Err(fault) => Err(fault),
     }
+}
+
+/// Returns the view of the root of a whole buffer. Requires it to be verified.
+#[inline(always)]
+pub(crate) fn root_unchecked<'a, V: ViewOf<'a>>(bytes: &'a [u8]) -> V
+    requires { ∥ ((n : ℕ) × TableHolds V.Kind.schema n V.Kind.index 0 bytes.now 0) ∥₁ }
+    ensures { ReturnsRoot V.Kind V.table bytes.entry.now result }
+{
+    let buffer = SliceWithStartOffset::new(bytes, 0);
+    V::of_verified(Table::from_buffer_unchecked(buffer, 0))
 }

@@ -15,11 +15,13 @@ ghost use Rattle.planus_read.specs.Tables.{slot_of, table_object, table_start};
 ghost use Rattle.planus_read.specs.Tables.{UnionThere, UnionAbsent};
 ghost use Rattle.planus_views.specs.Fields.{Unbroken};
 ghost use Rattle.planus_views.specs.Fields.{Has, MayHave, MustHave, optional, required};
+ghost use Rattle.planus_views.specs.Fields.{MayHaveBytes, MustHaveBytes};
 ghost use Rattle.planus_verify.specs.Verified.{IsVerified};
 ghost use Rattle.planus_views.specs.Fields.{IsPlace};
 
 use crate::kind::VerifiedKind;
 use crate::members::{union_unchecked, union_vector_slots};
+use crate::root::root_unchecked;
 use crate::table_vectors::{Tables, tables_unchecked};
 use crate::texts::{Texts, texts_unchecked};
 use crate::union_of::{Member, UnionOf};
@@ -56,6 +58,7 @@ impl<'a, K: VerifiedKind> Copy for View<'a, K> {}
 
 impl<'a, K: VerifiedKind> View<'a, K> {
     ghost use Rattle.planus_views.specs.Views.{view_table};
+    ghost use Rattle.planus_views.specs.Nested.{IsNestedField, IsNestedRequired};
     ghost use Rattle.planus_views.specs.Vectors.{Returns};
     ghost use Rattle.planus_views.specs.CheckedVectors.{checked_tables, checked_texts};
     ghost use Rattle.planus_views.specs.CheckedVectors.{checked_unions};
@@ -108,16 +111,39 @@ impl<'a, K: VerifiedKind> View<'a, K> {
         }
     }
 
-    /// Returns the byte vector in a slot, or `None` if absent.
+    /// Returns the byte vector in a slot, also one that is a buffer, or `None` if absent.
     #[inline(always)]
     pub fn bytes_field(&self, slot: usize) -> Option<&'a [u8]>
-        requires { MayHave K.schema K.index slot ValueKind.Bytes }
+        requires { MayHaveBytes K.schema K.index slot }
         ensures { Returns (IsBytesField (view_table self.now) slot) result }
     {
         match self.place(slot) {
             None => None,
             Some((buffer, offset)) => Some(bytes_unchecked(buffer, offset)),
         }
+    }
+
+    /// Returns the view of the root of the buffer in a slot, or `None` if absent.
+    #[inline(always)]
+    pub fn nested_field<V: ViewOf<'a>>(&self, slot: usize) -> Option<V>
+        requires same { V.Kind.schema ≡ K.schema }
+        requires has { MayHave K.schema K.index slot (ValueKind.Nested V.Kind.index) }
+        ensures { IsNestedField V.Kind V.table (view_table self.now) slot result }
+    {
+        match self.bytes_field(slot) {
+            None => None,
+            Some(bytes) => Some(root_unchecked(bytes)),
+        }
+    }
+
+    /// Returns the view of the root of the buffer in a slot.
+    #[inline(always)]
+    pub fn nested_required<V: ViewOf<'a>>(&self, slot: usize) -> V
+        requires same { V.Kind.schema ≡ K.schema }
+        requires has { MustHave K.schema K.index slot (ValueKind.Nested V.Kind.index) }
+        ensures { IsNestedRequired V.Kind V.table (view_table self.now) slot result }
+    {
+        root_unchecked(self.bytes_required(slot))
     }
 
     /// Returns the field of a fixed layout in a slot, or `None` if absent.
@@ -230,10 +256,10 @@ impl<'a, K: VerifiedKind> View<'a, K> {
         }
     }
 
-    /// Returns the byte vector in a slot.
+    /// Returns the byte vector in a slot, also one that is a buffer.
     #[inline(always)]
     pub fn bytes_required(&self, slot: usize) -> &'a [u8]
-        requires { MustHave K.schema K.index slot ValueKind.Bytes }
+        requires { MustHaveBytes K.schema K.index slot }
         ensures { Returns (IsBytesRequired (view_table self.now) slot) result }
     {
         match self.place(slot) {

@@ -1,21 +1,18 @@
 use Rattle.std.proofs.Common.{Ok, Some, None}
-use Rattle.std.proofs.Math.Logic.{∥∥₁_map}
 use Rattle.std.proofs.Common.{false}
-use Rattle.planus_verify.specs.declared.schema.ValueKind.TheVariants as value
-use Rattle.planus_views.proofs.Fields.{place_holds, field_answered}
+use Rattle.planus_views.proofs.ByteFields.{bytes_hold}
+use Rattle.planus_views.proofs.Fields.{field_answered}
 use Rattle.planus_views.specs.Views.{view_table}
 use Rattle.planus.specs.Accessors.{bytes_kind}
 use Rattle.planus.specs.ReadKinds.{reads_bytes}
 use Rattle.planus.proofs.Accessors.{field_read}
 use Rattle.planus.proofs.ReadKinds.{byte_lists_read_back}
-use Rattle.planus_views.proofs.Merely.{bytes_had}
 use Rattle.planus_views.proofs.view.View.bytes_field.Goals as goal
 
 pub bytes_unchecked-requires : goal.bytes_unchecked-requires
 bytes_unchecked-requires g c =
-    bytes_had _ _ (∥∥₁_map (place_holds g.K.VerifiedKind.schema g.K.VerifiedKind.index
-    c.args.slot false value.Bytes (view_table c.args.self.now) _ _ _
-    c.args.self.now.verified c.requires c.in-Some.ensures.some) (λ h. h.1.0))
+    bytes_hold g.K.VerifiedKind.schema g.K.VerifiedKind.index c.args.slot false
+    (view_table c.args.self.now) _ _ _ c.args.self.now.verified c.in-Some.ensures.some c.requires
 
 pub returns-in-Some : goal.returns-in-Some
 returns-in-Some g c = λ type_ method.
