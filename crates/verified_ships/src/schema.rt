@@ -2,7 +2,7 @@
 
 use planus_views::{FieldKind, FieldShape, Schema, TableShape, ValueKind, Variant};
 
-pub const FIELDS: [FieldShape; 20] = [
+pub const FIELDS: [FieldShape; 26] = [
     FieldShape {
         slot: 0,
         required: true,
@@ -103,9 +103,39 @@ pub const FIELDS: [FieldShape; 20] = [
         required: true,
         kind: FieldKind::Value(ValueKind::Bytes),
     },
+    FieldShape {
+        slot: 0,
+        required: true,
+        kind: FieldKind::Value(ValueKind::Plain(4)),
+    },
+    FieldShape {
+        slot: 1,
+        required: true,
+        kind: FieldKind::Value(ValueKind::Plain(1)),
+    },
+    FieldShape {
+        slot: 2,
+        required: false,
+        kind: FieldKind::Unions(0),
+    },
+    FieldShape {
+        slot: 4,
+        required: true,
+        kind: FieldKind::Unions(0),
+    },
+    FieldShape {
+        slot: 6,
+        required: false,
+        kind: FieldKind::Value(ValueKind::Nested(1)),
+    },
+    FieldShape {
+        slot: 7,
+        required: true,
+        kind: FieldKind::Value(ValueKind::Nested(1)),
+    },
 ];
 
-pub const TABLES: [TableShape; 4] = [
+pub const TABLES: [TableShape; 5] = [
     TableShape {
         first: 0,
         count: 11,
@@ -121,6 +151,10 @@ pub const TABLES: [TableShape; 4] = [
     TableShape {
         first: 15,
         count: 5,
+    },
+    TableShape {
+        first: 20,
+        count: 6,
     },
 ];
 
