@@ -122,7 +122,7 @@ def main(*words):
             crate = repository / "crates" / file.stem
             subprocess.check_call([program, "rattle", file, "-o", crate])
             with open(repository / "crates.txt", "a") as crates:
-                crates.write(f"{file.stem}: planus\n")
+                crates.write(f"{file.stem}: planus planus_views\n")
             if not same_slots(file, crate):
                 failed.append(file.stem)
         if "--slots" not in words:

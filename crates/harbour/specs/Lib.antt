@@ -7,3 +7,4 @@ pub mod Owner
 pub mod Gauge
 pub mod Signal
 pub mod Cause
+pub mod Verified

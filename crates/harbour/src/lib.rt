@@ -40,8 +40,20 @@ mod root;
 
 pub use root::{
     finish_root, finish_root_size_prefixed, has_identifier, read_as_root,
-    read_size_prefixed_as_root,
+    read_size_prefixed_as_root, verify_as_root,
 };
+
+mod verified;
+
+pub use verified::cause::CauseView;
+pub use verified::company::CompanyView;
+pub use verified::entry::EntryView;
+pub use verified::manifest::ManifestView;
+pub use verified::origin::OriginView;
+pub use verified::owner::OwnerView;
+pub use verified::person::PersonView;
+pub use verified::port::PortView;
+pub use verified::ship::ShipView;
 
 /// The file identifier, which [`planus::Builder::finish`] writes and [`planus::has_identifier`]
 /// looks for.

@@ -1,14 +1,19 @@
 //! The root of a buffer.
 
-ghost use Rattle.std.specs.Prelude.{◌↔◌, ◌∷◌, [], codes, IfOk, IsTrue, Some};
+ghost use Rattle.std.specs.Prelude.{◌↔◌, ◌∷◌, [], ℕ, List, codes, IfOk, IfErr, IsTrue, Some, Ok};
+ghost use Rattle.std.specs.Prelude.{Err};
 ghost use Rattle.std.specs.Borrow.{sem};
 ghost use Rattle.planus.specs.Printed.{BytesStand, IsPrefixed, FinishGives, SizedFinishGives};
 ghost use Rattle.planus.specs.Printed.{EndsAs, FinishLeaves, SizedFinishLeaves, IsIn, IsPrepared};
 ghost use Rattle.planus.specs.Printed.{IsRoot, IsSizedRoot};
+ghost use Rattle.planus_views.specs.Printed.{view_table, RootWalks};
+ghost use Rattle.harbour.specs.Verified.{verified_schema};
 ghost use Rattle.harbour.specs.declared.ship.Ship.{Ship};
+ghost use Rattle.harbour.specs.declared.verified.ship.ShipView.{ShipView};
 
 use crate::FILE_IDENTIFIER;
 use crate::ship::{Ship, ShipRef};
+use crate::verified::ship::ShipView;
 use planus::errors::ErrorKind;
 use planus::{BuildError, Builder, Offset, read_root, read_sized_root};
 
@@ -24,6 +29,22 @@ pub fn read_size_prefixed_as_root(bytes: &[u8]) -> Result<(ShipRef<'_>, &[u8]), 
     ensures { IsSizedRoot (λ view. view.0) bytes.now result }
 {
     read_sized_root(bytes)
+}
+
+/// Verifies the root of a buffer with all that it leads to, within limits, and returns its view, whose
+/// accessors don't fail.
+pub fn verify_as_root(
+    bytes: &[u8],
+    limits: planus_views::Limits,
+) -> Result<ShipView<'_>, planus_views::Fault>
+    ensures root { (name : List ℕ) → IfOk result (λ view. IsRoot Ship name
+        (λ (view : ShipView). view_table view.0) bytes.now (Ok view)) }
+    ensures passed { IfOk result (λ view. (left : ℕ) × RootWalks verified_schema 2 limits.depth
+        limits.tables bytes.now (Ok left)) }
+    ensures fault { IfErr result (λ found. RootWalks verified_schema 2 limits.depth limits.tables
+        bytes.now (Err found)) }
+{
+    planus_views::verify_root(bytes, limits)
 }
 
 /// Finishes a buffer with this root and the file identifier, as [`Builder::finish`].

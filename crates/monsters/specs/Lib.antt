@@ -1,1 +1,2 @@
 pub mod Equipment
+pub mod Verified

@@ -12,4 +12,10 @@ pub use weapon::{Weapon, WeaponFields, WeaponRef};
 
 mod root;
 
-pub use root::{read_as_root, read_size_prefixed_as_root};
+pub use root::{read_as_root, read_size_prefixed_as_root, verify_as_root};
+
+mod verified;
+
+pub use verified::equipment::EquipmentView;
+pub use verified::monster::MonsterView;
+pub use verified::weapon::WeaponView;

@@ -1,10 +1,14 @@
 //! The root of a buffer.
 
-ghost use Rattle.std.specs.Prelude.{codes};
+ghost use Rattle.std.specs.Prelude.{ℕ, List, codes, IfOk, IfErr, Ok, Err};
 ghost use Rattle.planus.specs.Printed.{IsRoot, IsSizedRoot};
+ghost use Rattle.planus_views.specs.Printed.{view_table, RootWalks};
+ghost use Rattle.monsters.specs.Verified.{verified_schema};
 ghost use Rattle.monsters.specs.declared.monster.Monster.{Monster};
+ghost use Rattle.monsters.specs.declared.verified.monster.MonsterView.{MonsterView};
 
 use crate::monster::MonsterRef;
+use crate::verified::monster::MonsterView;
 use planus::errors::ErrorKind;
 use planus::{read_root, read_sized_root};
 
@@ -20,4 +24,20 @@ pub fn read_size_prefixed_as_root(bytes: &[u8]) -> Result<(MonsterRef<'_>, &[u8]
     ensures { IsSizedRoot (λ view. view.0) bytes.now result }
 {
     read_sized_root(bytes)
+}
+
+/// Verifies the root of a buffer with all that it leads to, within limits, and returns its view, whose
+/// accessors don't fail.
+pub fn verify_as_root(
+    bytes: &[u8],
+    limits: planus_views::Limits,
+) -> Result<MonsterView<'_>, planus_views::Fault>
+    ensures root { (name : List ℕ) → IfOk result (λ view. IsRoot Monster name
+        (λ (view : MonsterView). view_table view.0) bytes.now (Ok view)) }
+    ensures passed { IfOk result (λ view. (left : ℕ) × RootWalks verified_schema 1 limits.depth
+        limits.tables bytes.now (Ok left)) }
+    ensures fault { IfErr result (λ found. RootWalks verified_schema 1 limits.depth limits.tables
+        bytes.now (Err found)) }
+{
+    planus_views::verify_root(bytes, limits)
 }

@@ -16,15 +16,15 @@ is_word_of text w = list_any (λ word. bytes_eq word w) (slice_split (λ b. b ==
 -- types that code has without an import, and a file of definitions
 unfoldable pub own_types : List ℕ
 own_types = codes "Bool Clone Copy Debug Default Drop Err FieldLine Float Lib None Ok Option "
-    ++ codes "PartialEq Result Some String Table Type Unit Vec"
+    ++ codes "PartialEq Result Some String Table Type Unit Vec Verified"
 
 -- what clauses and definitions import
 unfoldable pub in_clauses : List (List ℕ)
 in_clauses =
     (encodes (codes "◌≡◌ ◌≤◌ ◌==◌ ◌↔◌ ◌∷◌ [] ℕ ℤ ")
     ++ (codes "Bool List Option length codes pos negsuc nat_eq true "
-    ++ (codes "false bit_and bit_or IfOk IsOkAnd IsTrue MatchOption "
-    ++ encodes (codes "⊤ Some None"))))
+    ++ (codes "false bit_and bit_or IfOk IfErr IsOkAnd IsTrue MatchOption "
+    ++ encodes (codes "⊤ Some None Ok Err"))))
     ∷ codes "sem"
     ∷ codes "w8 w16 w32 w64"
     ∷ codes "int_eq"
@@ -42,6 +42,9 @@ in_clauses =
     ++ (codes "IsUnionVectorRequired ReadsVariants UnionVariant table_variant plains judged "
     ++ (codes "texts tables optional required plain_if plain_or number_or signed_or union "
     ++ codes "union_required unions unions_required IsSizedRoot")))))))))))))
+    ∷ (codes "view_table checked_texts checked_tables checked_unions Returns ReturnsAs "
+    ++ (codes "checked_option Checked unknown option_map IsNestedField IsNestedRequired RootWalks "
+    ++ codes "IsMember member_tag member_bytes member_start member_offset"))
     ∷ []
 
 -- what code imports of `planus`
@@ -70,12 +73,13 @@ is_imported w = list_any (λ text. is_word_of text w) in_clauses || (is_word_of 
 -- how types of fields, groups and views end
 abbrev pub ends_as_printed : List ℕ → Bool
 ends_as_printed w = ends_with nat_eq w (codes "Ref") || (ends_with nat_eq w (codes "Fields")
-    || (ends_with nat_eq w (codes "FieldGroup") || ends_with nat_eq w (codes "FieldLines")))
+    || (ends_with nat_eq w (codes "FieldGroup") || (ends_with nat_eq w (codes "FieldLines")
+    || ends_with nat_eq w (codes "View"))))
 
 -- what a crate has beside its modules
 unfoldable pub own_modules : List ℕ
 own_modules = codes "finish_root finish_root_size_prefixed has_identifier lib read_as_root "
-    ++ codes "read_size_prefixed_as_root root"
+    ++ codes "read_size_prefixed_as_root root verified verify_as_root"
 
 -- code has such a type anyway
 abbrev pub is_known_type : List ℕ → Bool

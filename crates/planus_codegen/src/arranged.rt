@@ -41,7 +41,7 @@ struct Measure {
 }
 
 fn is_ghost_line(line: &str) -> bool {
-    line.starts_with("ghost") || line.starts_with("ensures")
+    line.starts_with("ghost") || line.starts_with("ensures") || line.starts_with("requires")
 }
 
 fn measure_of(line: &str) -> Measure {

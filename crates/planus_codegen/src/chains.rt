@@ -13,32 +13,28 @@ impl<'a> Printer<'a> {
     }
 
     // Adds a list of some members and those of the next list.
-    fn put_list_from(&mut self, head: &str, entry: &str, at: At) {
+    fn put_list_from(&mut self, head: &str, entry: &str, next: &str, at: At) {
         let count = self.context.names.count(at.index);
         let end = at.place.saturating_add(GROUP);
         self.put(head, at);
         for place in at.place..end.min(count) {
             self.put(entry, at.member(place));
         }
-        self.put(
-            if end < count {
-                "~from_$p_on\n\n"
-            } else {
-                "~[]\n\n"
-            },
-            at.member(end),
-        );
+        self.put(if end < count { next } else { "~[]" }, at.member(end));
+        self.put_str("\n\n");
     }
 
-    /// Adds the lists of all members, the last one first.
-    pub(crate) fn put_lists(&mut self, head: &str, entry: &str, at: At) {
+    /// Adds the lists of all members, the last one first. `next` names the list from a place on.
+    pub(crate) fn put_lists(&mut self, head: &str, entry: &str, next: &str, at: At) {
         let lists = self.lists(at);
         for list in 0..lists {
             let left = lists.saturating_sub(list).saturating_sub(1);
-            self.put_list_from(head, entry, at.member(left.saturating_mul(GROUP)));
+            let at = at.member(left.saturating_mul(GROUP));
+            self.put_list_from(head, entry, next, at);
         }
     }
 
+    /// Adds the names of all those lists.
     pub(crate) fn put_list_names(&mut self, at: At) {
         for list in 0..self.lists(at) {
             self.put("~from_$p_on", at.member(list.saturating_mul(GROUP)));

@@ -24,6 +24,8 @@ pub(crate) struct Context<'a> {
     pub(crate) names: Names,
     /// Whether a read of each can't fail once its bytes are there.
     totals: Vec<bool>,
+    /// How many tables are before each, or unions before each union.
+    ranks: Vec<usize>,
 }
 
 fn is_total_base(totals: &[bool], base: Base) -> bool {
@@ -57,6 +59,22 @@ fn totals_of(alloc: Global, declared: &[Declared]) -> Result<Vec<bool>, AllocErr
         totals.push(total)?;
     }
     Ok(totals)
+}
+
+fn ranks_of(alloc: Global, declared: &[Declared]) -> Result<Vec<usize>, AllocError> {
+    let mut ranks = Vec::new(alloc);
+    let mut tables = 0usize;
+    let mut unions = 0usize;
+    for one in declared {
+        if matches!(one.body, Body::Union(_)) {
+            ranks.push(unions)?;
+            unions = unions.saturating_add(1);
+        } else {
+            ranks.push(tables)?;
+            tables = tables.saturating_add(matches!(one.body, Body::Table(_)) as usize);
+        }
+    }
+    Ok(ranks)
 }
 
 /// How many members a declaration has.
@@ -117,6 +135,7 @@ impl<'a> Context<'a> {
             root: schema.statements.root,
             names: Names::of(alloc, declared)?,
             totals: totals_of(alloc, declared)?,
+            ranks: ranks_of(alloc, declared)?,
         })
     }
 
@@ -187,6 +206,18 @@ impl<'a> Context<'a> {
 
     pub(crate) fn is_total_declaration(&self, index: usize) -> bool {
         self.totals.get(index) == Some(&true)
+    }
+
+    /// The index of a table among all tables, or of a union among all unions.
+    pub(crate) fn rank(&self, index: usize) -> usize {
+        self.ranks.get(index).copied().unwrap_or(0)
+    }
+
+    /// Whether there is a table.
+    pub(crate) fn has_tables(&self) -> bool {
+        self.declared
+            .iter()
+            .any(|one| matches!(one.body, Body::Table(_)))
     }
 
     /// Whether the read of a value can't fail once its bytes are there.

@@ -19,6 +19,10 @@ use crate::structs::{has_padding, print_padded, print_struct, print_struct_layou
 use crate::supported::refuse_unsupported;
 use crate::tables::print_table;
 use crate::unions::{print_union, print_variants};
+use crate::uses::{Own, VERIFIED};
+use crate::verified_schema::{print_schema, print_schema_definition};
+use crate::verified_tables::print_verified_kind;
+use crate::verified_unions::print_verified_union;
 use planus_layout::{Body, Declared, Enum, Schema, Struct, Table, Union};
 use planus_plan::Plan;
 use planus_tie::{PrintedFile, are_tied};
@@ -27,17 +31,28 @@ use std::alloc::{AllocError, Global};
 const ROOT: &str = "
 pub use root::{
     finish_root, finish_root_size_prefixed, has_identifier, read_as_root,
-    read_size_prefixed_as_root,
+    read_size_prefixed_as_root, verify_as_root,
 };
 ";
 
 const RUNTIME: &str = "planus";
 
+const VERIFIED_HEAD: &str =
+    "//! Verified views, and the schema as a value, by which buffers are verified.\n\n";
+
 const CREATE: &str = "pub use planus::Create;\n";
 
 const ROOT_ALONE: &str = "
-pub use root::{read_as_root, read_size_prefixed_as_root};
+pub use root::{read_as_root, read_size_prefixed_as_root, verify_as_root};
 ";
+
+/// What a namespace has of its declarations, by the place of their modules to this one.
+#[derive(Clone, Copy)]
+struct Uses<'a> {
+    namespace: &'a [u8],
+    template: &'a str,
+    module: &'a str,
+}
 
 #[derive(Drop)]
 struct Files<'a> {
@@ -67,12 +82,13 @@ impl<'a> Files<'a> {
         }
     }
 
-    // `own` is the declaration whose types the file has.
-    fn code_file(&self, head: &str, at: At, own: usize, code: &Printer<'_>) -> Printer<'a> {
+    // The head is a template. The clauses of this part of the code are those whose words the file
+    // imports.
+    fn file_of(&self, head: &str, at: At, own: Own, part: &str, code: &Printer<'_>) -> Printer<'a> {
         let mut file = Printer::new(self.context);
         file.put(head, at);
         file.put_str("\n");
-        file.put_clause_uses(code.as_str(), self.order);
+        file.put_clause_uses(part, self.order);
         file.put_str("\n");
         file.put_code_uses(code.as_str(), self.order, own);
         file.put_str("\n");
@@ -80,16 +96,38 @@ impl<'a> Files<'a> {
         file
     }
 
+    fn code_file(&self, head: &str, at: At, own: Own, code: &Printer<'_>) -> Printer<'a> {
+        self.file_of(head, at, own, code.as_str(), code)
+    }
+
     fn put_code(&mut self, head: &str, at: At, code: &Printer<'_>) {
-        let file = self.code_file(head, at, at.index, code);
+        let file = self.code_file(head, at, Own::Types(at.index), code);
         self.put("src/$M.rt", at, &file);
+    }
+
+    fn put_table_view(&mut self, plan: &Plan<'_>) {
+        let context = self.context;
+        let at = At::declaration(plan.table);
+        let kind = print_verified_kind(context, at);
+        let mut code = print_verified_kind(context, at);
+        code.put_verified_methods(plan, self.order);
+        let own = Own::View(plan.table);
+        let head = "//! Verified tables `$T`.\n";
+        let file = self.file_of(head, at, own, kind.as_str(), &code);
+        self.put("src/verified/$M.rt", at, &file);
+    }
+
+    fn put_union_view(&mut self, at: At, one: &Union) {
+        let code = print_verified_union(self.context, at, one);
+        let own = Own::View(at.index);
+        let file = self.code_file("//! Verified unions `$T`.\n", at, own, &code);
+        self.put("src/verified/$M.rt", at, &file);
     }
 
     fn put_root(&mut self, root: usize) {
         let at = At::declaration(root);
         let code = print_root(self.context, at);
-        let none = self.context.declared.len();
-        let file = self.code_file("//! The root of a buffer.\n", at, none, &code);
+        let file = self.code_file("//! The root of a buffer.\n", at, Own::Nobody, &code);
         self.put("src/root.rt", at, &file);
     }
 
@@ -107,6 +145,7 @@ impl<'a> Files<'a> {
         let plan = Plan::of(context.alloc, context.declared, at.index, one)?;
         let code = print_table(context, &plan, declared)?;
         self.put_code("//! Tables `$T`.\n", at, &code);
+        self.put_table_view(&plan);
         Ok(())
     }
 
@@ -146,6 +185,7 @@ impl<'a> Files<'a> {
         let context = self.context;
         let code = print_union(context, at, declared, one);
         self.put_code("//! Unions `$T`.\n", at, &code);
+        self.put_union_view(at, one);
         let variants = print_variants(context, at, one);
         self.put_definitions("-- The variants of `$T`.\n", at, &variants);
     }
@@ -183,26 +223,90 @@ impl<'a> Files<'a> {
         text
     }
 
-    // Adds the modules in a namespace, and its declarations; outside of all also the trait of
-    // tables.
-    fn put_namespace(&self, text: &mut Printer<'_>, namespace: &[u8], template: &str) {
+    // Adds what a namespace has of its declarations, those whose modules are before one or behind it.
+    fn put_uses(&self, text: &mut Printer<'_>, part: Uses<'_>, behind: bool) {
         let context = self.context;
-        let mut uses = Printer::new(context);
-        let mut create = if namespace.is_empty() { CREATE } else { "" };
         for index in &self.order.indices {
             if let Some(one) = context.declared.get(*index) {
-                if namespace_around(&one.name) == namespace {
-                    if context.names.module(*index) > RUNTIME.as_bytes() {
-                        uses.put_str(create);
-                        create = "";
-                    }
-                    uses.put_passed_on(template, *index, &one.body);
+                let is_behind = context.names.module(*index) > part.module.as_bytes();
+                if namespace_around(&one.name) == part.namespace && is_behind == behind {
+                    text.put_passed_on(part.template, *index, &one.body);
                 }
             }
         }
-        uses.put_str(create);
+    }
+
+    // Adds the modules outside of all namespaces, and the declarations with the trait of tables.
+    fn put_outermost(&self, text: &mut Printer<'_>) {
+        let part = Uses {
+            namespace: &[],
+            template: "pub use $M::",
+            module: RUNTIME,
+        };
+        let mut uses = Printer::new(self.context);
+        self.put_uses(&mut uses, part, false);
+        uses.put_str(CREATE);
+        self.put_uses(&mut uses, part, true);
+        text.join_apart(&self.modules_in(&[]));
+        text.join_apart(&uses);
+    }
+
+    // Adds the modules in a namespace, and its declarations with their verified views.
+    fn put_namespace(&self, text: &mut Printer<'_>, namespace: &[u8]) {
+        let part = Uses {
+            namespace,
+            template: "pub use crate::$M::",
+            module: VERIFIED,
+        };
+        let mut uses = Printer::new(self.context);
+        self.put_uses(&mut uses, part, false);
+        self.put_views(&mut uses, namespace, "pub use crate::verified::$M::");
+        self.put_uses(&mut uses, part, true);
         text.join_apart(&self.modules_in(namespace));
         text.join_apart(&uses);
+    }
+
+    // Whether the declaration has a verified view.
+    fn has_view(&self, index: usize) -> bool {
+        matches!(
+            self.context.body(index),
+            Some(Body::Table(_) | Body::Union(_))
+        )
+    }
+
+    // Adds the verified views in a namespace.
+    fn put_views(&self, text: &mut Printer<'_>, namespace: &[u8], template: &str) {
+        let context = self.context;
+        for index in &self.order.indices {
+            if let Some(one) = context.declared.get(*index) {
+                if self.has_view(*index) && namespace_around(&one.name) == namespace {
+                    text.put_view_passed_on(template, *index);
+                }
+            }
+        }
+    }
+
+    // The schema as a value, and the modules of verified views.
+    fn add_verified(&mut self) -> Result<(), AllocError> {
+        let context = self.context;
+        let mut text = Printer::new(context);
+        text.put_str(VERIFIED_HEAD);
+        for index in self.modules {
+            if self.has_view(*index) {
+                text.put("pub(crate) mod $M;\n", At::declaration(*index));
+            }
+        }
+        text.join_apart(&print_schema(context)?);
+        self.put("src/verified.rt", At::declaration(0), &text);
+        let definition = print_schema_definition(context);
+        self.put("specs/Verified.antt", At::declaration(0), &definition);
+        Ok(())
+    }
+
+    fn put_verified(&mut self) {
+        if self.context.has_tables() && self.add_verified().is_err() {
+            self.failed = true;
+        }
     }
 
     fn put_namespaces(&mut self) {
@@ -211,8 +315,7 @@ impl<'a> Files<'a> {
             let at = At::declaration(index);
             let mut text = Printer::new(context);
             text.put("//! Namespace `$O`.\n", at);
-            let namespace = context.names.namespace(index);
-            self.put_namespace(&mut text, namespace, "pub use crate::$M::");
+            self.put_namespace(&mut text, context.names.namespace(index));
             self.put("src$W.rt", at, &text);
         }
     }
@@ -221,7 +324,7 @@ impl<'a> Files<'a> {
         let context = self.context;
         let mut text = Printer::new(context);
         text.put_str("//! Code of a schema.\n#![tactic(auto)]\n");
-        self.put_namespace(&mut text, &[], "pub use $M::");
+        self.put_outermost(&mut text);
         if context.root.is_some() {
             text.put_str("\nmod root;\n");
             text.put_str(if context.identifier.is_some() {
@@ -230,6 +333,12 @@ impl<'a> Files<'a> {
                 ROOT_ALONE
             });
         }
+        if context.has_tables() {
+            text.put_str("\nmod verified;\n");
+        }
+        let mut views = Printer::new(context);
+        self.put_views(&mut views, &[], "pub use verified::$M::");
+        text.join_apart(&views);
         if let Some(identifier) = context.identifier {
             text.put_identifier(identifier);
         }
@@ -243,6 +352,9 @@ impl<'a> Files<'a> {
                 text.put("pub mod $T\n", At::declaration(index));
             }
         }
+        if self.context.has_tables() {
+            text.put_str("pub mod Verified\n");
+        }
         self.put("specs/Lib.antt", At::declaration(0), &text);
     }
 
@@ -253,6 +365,7 @@ impl<'a> Files<'a> {
         if let Some(root) = self.context.root {
             self.put_root(root);
         }
+        self.put_verified();
         self.put_namespaces();
         self.put_library();
         self.put_definition_list();

@@ -201,7 +201,7 @@ const NUMBERS_END: [Piece; 4] = [
 fn print_many_numbers<'a>(context: &'a Context<'a>, at: At) -> Printer<'a> {
     let mut printer = Printer::new(context);
     printer.put("-- its variants by their numbers, from some on\n", at);
-    printer.put_lists(NUMBERS_FROM, "~($k, $M_value.$n) ∷", at);
+    printer.put_lists(NUMBERS_FROM, "~($k, $M_value.$n) ∷", "~from_$p_on", at);
     printer.put_pieces(&NUMBERS_HEAD, at);
     printer.put_list_names(at);
     printer.put_pieces(&NUMBERS_END, at);

@@ -2,23 +2,25 @@
 //!
 //! Everywhere: `I` the file identifier in clauses.
 //!
-//! Of a declaration: `c` the crate, `T` the type, `U` the type in its namespace, `M` the module; of
-//! a namespace `M` the module, `O` the name in the schema, `W` the module's path; of an enum or a
-//! struct `S` its size, `A` its alignment, `P` the alignment's exponent, `Q` how many alignments
-//! the size has; of an enum `b` its scalar type, `j` the type of its numbers in definitions, `q`
-//! the test of two; of a struct `y` the padding at its end.
+//! Of a declaration: `c` the crate, `T` the type, `U` the type in its namespace, `M` the module; of a
+//! namespace `M` the module, `O` the name in the schema, `W` the module's path; of a table or a union
+//! `a` its index among them; of an enum or a struct `S` its size, `A` its alignment, `P` the
+//! alignment's exponent, `Q` how many alignments the size has; of an enum `b` its scalar type, `j` the
+//! type of its numbers in definitions, `q` the test of two; of a struct `y` the padding at its end; of
+//! a union `Z` the variant of an unknown tag.
 //!
 //! Of a member: `n` its name, `N` in capitals, `V` in small letters, `s` in the schema, `p` its
 //! place; of a value of an enum `i` its number in code and `k` in definitions; of a field `t` the
 //! type of its value, `h` the name of its shape; of a field of a struct `z` its size, `d` its
 //! offset, `x` the padding before it, `w` the offset after a colon, if it isn't the first, `f` its
 //! name in a record, `v` its value in the tuple of all; of a member of a union `g` its tag, `m` its
-//! table.
+//! table; of either `B` the index of the type among the tables or unions.
 //!
 //! Of a field of a table: `o` its slot, `u` the slot before, `r` the slot it is read by; `l` its
 //! default as an integer, `L` in clauses, `e` as a value of an enum, `F` as a float, `H` in clauses;
-//! and, as templates of these letters, `G` its type as it is given, `R` as it is read, `E` as it is
-//! encoded, `D` its default in code, `K` in clauses.
+//! `C` the size of its value or item; of one that holds a buffer `X` the type of the root, `Y` the
+//! method that reads it; and, as templates of these letters, `G` its type as it is given, `R` as it is
+//! read, `J` verified, `E` as it is encoded, `D` its default in code, `K` in clauses.
 
 use crate::at::At;
 use crate::context::{Context, scalar_name};
@@ -26,7 +28,12 @@ use crate::defaults::{default, default_clause, default_number, default_place};
 use crate::known::is_escaped;
 use crate::printer::{OWN, Printer};
 use crate::types::{encoded, given, has_default, is_optional, is_union, read};
-use planus_layout::{Base, Body, Number, StructField};
+use crate::verified_tables::verified;
+use planus_layout::{Base, Body, Number, StructField, measure_of};
+
+const UNKNOWN: &str = "Unknown";
+
+const ROOT: &str = "_root";
 
 const NOTHING: Number = Number {
     negative: false,
@@ -103,6 +110,9 @@ fn number(context: &Context<'_>, letter: char, at: At) -> usize {
         'A' => alignment,
         'P' => alignment.trailing_zeros() as usize,
         'Q' => size.checked_div(alignment).unwrap_or(0),
+        'a' => context.rank(at.index),
+        'B' => rank_of_type(context, at),
+        'C' => size_of_value(context, at),
         'z' => span(context, at).0,
         'd' => span(context, at).1,
         'g' => tag(context, at),
@@ -162,7 +172,74 @@ pub(crate) fn has_forced_alignment(context: &Context<'_>, at: At) -> bool {
     }
 }
 
+/// The root of the buffer in a field.
+fn nested(context: &Context<'_>, at: At) -> Option<usize> {
+    match context.field(at) {
+        Some(field) => field.nested,
+        None => None,
+    }
+}
+
+/// The index of the type of a member, or of its buffer's root, among the tables or unions.
+fn rank_of_type(context: &Context<'_>, at: At) -> usize {
+    match (nested(context, at), base(context, at)) {
+        (Some(index), _) | (None, Base::Table(index) | Base::Union(index)) => context.rank(index),
+        _ => 0,
+    }
+}
+
+fn size_of_value(context: &Context<'_>, at: At) -> usize {
+    match measure_of(context.declared, base(context, at)) {
+        Some(measure) => measure.size,
+        None => 0,
+    }
+}
+
+// Whether a name is that of two words and so many `_`.
+fn is_marked(name: &[u8], start: &[u8], end: &[u8], marks: usize) -> bool {
+    let rest = match name.strip_prefix(start) {
+        Some(rest) => rest.strip_prefix(end),
+        None => None,
+    };
+    match rest {
+        Some(rest) => rest.len() == marks && rest.iter().all(|byte| *byte == b'_'),
+        None => false,
+    }
+}
+
 impl<'a> Printer<'a> {
+    // As many `_` as are needed after these words, so that no member has that name.
+    pub(crate) fn put_marks(&mut self, index: usize, start: &[u8], end: &[u8]) {
+        let names = &self.context.names;
+        let count = names.count(index);
+        for marks in 0..count {
+            if !(0..count).any(|place| is_marked(names.member(index, place), start, end, marks)) {
+                return;
+            }
+            self.put_char('_');
+        }
+    }
+
+    fn put_unknown(&mut self, index: usize) {
+        self.put_str(UNKNOWN);
+        self.put_marks(index, UNKNOWN.as_bytes(), &[]);
+    }
+
+    // The name of the method that reads the root of a field's buffer.
+    fn put_nested_name(&mut self, at: At) {
+        let name = self.context.names.member(at.index, at.place);
+        self.put_name(name);
+        self.put_str(ROOT);
+        self.put_marks(at.index, name, ROOT.as_bytes());
+    }
+
+    fn put_nested_type(&mut self, at: At) {
+        let context = self.context;
+        if let Some(index) = nested(context, at) {
+            self.put_name(context.names.type_name(index));
+        }
+    }
+
     fn put_integer(&mut self, number: Number) {
         if number.negative {
             self.put_char('-');
@@ -334,6 +411,9 @@ impl<'a> Printer<'a> {
             'e' | 'F' => self.put_default_value(at),
             'H' => self.put_default_float(at),
             'I' => self.put_identifier_bytes(),
+            'X' => self.put_nested_type(at),
+            'Y' => self.put_nested_name(at),
+            'Z' => self.put_unknown(at.index),
             _ => self.put_number(number(context, letter, at) as u64),
         }
     }
@@ -361,6 +441,11 @@ impl<'a> Printer<'a> {
                 let optional = !field.required && !has_default(field);
                 let total = context.is_total(field.kind.base);
                 self.put_field_type(optional, read(field.kind, total), at);
+            }
+            'J' => {
+                let optional = !field.required && !has_default(field);
+                let total = context.is_total(field.kind.base);
+                self.put_field_type(optional, verified(field.kind, total), at);
             }
             'E' => self.put_plain(encoded(field.kind), at),
             'D' => self.put_plain(default(context, field), at),

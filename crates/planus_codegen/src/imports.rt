@@ -8,11 +8,11 @@ use std::alloc::AllocError;
 
 /// The words that clauses and definitions may need, by their modules: of the library those that
 /// `Printed` passes on.
-pub(crate) const WORDS: [(&str, &str); 5] = [
+pub(crate) const WORDS: [(&str, &str); 6] = [
     (
         "std.specs.Prelude",
         "◌≡◌ ◌≤◌ ◌==◌ ◌↔◌ ◌∷◌ [] ℕ ℤ Bool List Option length codes pos negsuc nat_eq true false \
-         bit_and bit_or IfOk IsOkAnd IsTrue MatchOption ⊤ Some None",
+         bit_and bit_or IfOk IfErr IsOkAnd IsTrue MatchOption ⊤ Some None Ok Err",
     ),
     ("std.specs.Borrow", "sem"),
     ("std.specs.Int", "w8 w16 w32 w64"),
@@ -32,6 +32,12 @@ pub(crate) const WORDS: [(&str, &str); 5] = [
          judged texts tables optional required plain_if plain_or number_or signed_or union \
          union_required unions unions_required IsSizedRoot",
     ),
+    (
+        "planus_views.specs.Printed",
+        "view_table checked_texts checked_tables checked_unions Returns ReturnsAs checked_option \
+         Checked unknown option_map IsNestedField IsNestedRequired RootWalks IsMember member_tag \
+         member_bytes member_start member_offset",
+    ),
 ];
 
 /// The module of words of proofs.
@@ -42,9 +48,30 @@ pub(crate) const PROOF_WORDS: &str = "refl lit≤ lit<";
 /// The columns of names in one import.
 const NAME_COLUMNS: usize = 80;
 
+/// Where imports of clauses stand: what each begins with, and its columns of names.
+#[derive(Clone, Copy)]
+struct Place {
+    start: &'static str,
+    columns: usize,
+}
+
+const OF_FILE: Place = Place {
+    start: "ghost use",
+    columns: NAME_COLUMNS,
+};
+
+/// In an implementation.
+const OF_METHODS: Place = Place {
+    start: "    ghost use",
+    columns: 76,
+};
+
 /// What follows a module's name in the names of definitions, and their imports.
-const OWN_DEFINITIONS: [(&str, &str); 5] = [
+const OWN_DEFINITIONS: [(&str, &str); 8] = [
     ("_variants", " Rattle.$c.specs.$T.{$M_variants}"),
+    ("_view_variants", " Rattle.$c.specs.$T.{$M_view_variants}"),
+    ("_checked", " Rattle.$c.specs.$T.{$M_checked}"),
+    ("_view_tags", " Rattle.$c.specs.$T as $M_view_tags"),
     ("_tags", " Rattle.$c.specs.$T as $M_tags"),
     ("_is", " Rattle.$c.specs.$T.{$M_is}"),
     ("_numbers", " Rattle.$c.specs.$T as $M_numbers"),
@@ -52,7 +79,7 @@ const OWN_DEFINITIONS: [(&str, &str); 5] = [
 ];
 
 /// The same of the variants of a type.
-const OWN_VARIANTS: [(&str, &str); 2] = [
+const OWN_VARIANTS: [(&str, &str); 3] = [
     (
         "_value",
         " Rattle.$c.specs.declared.$M.$T.TheVariants as $M_value",
@@ -61,12 +88,32 @@ const OWN_VARIANTS: [(&str, &str); 2] = [
         "_ref",
         " Rattle.$c.specs.declared.$M.$TRef.TheVariants as $M_ref",
     ),
+    (
+        "_view",
+        " Rattle.$c.specs.declared.verified.$M.$TView.TheVariants as $M_view",
+    ),
+];
+
+/// The names of the schema as a value, and their imports.
+const SCHEMA_WORDS: [(&str, &str); 2] = [
+    (
+        "verified_schema",
+        " Rattle.$c.specs.Verified.{verified_schema}",
+    ),
+    (
+        "verified_whole",
+        " Rattle.$c.specs.Verified.{verified_whole}",
+    ),
 ];
 
 /// What follows a type's name in the names of types, and their imports.
-const OWN_TYPES: [(&str, &str); 2] = [
+const OWN_TYPES: [(&str, &str); 3] = [
     ("", " Rattle.$c.specs.declared.$M.$T.{$T}"),
     ("Ref", " Rattle.$c.specs.declared.$M.$TRef.{$TRef}"),
+    (
+        "View",
+        " Rattle.$c.specs.declared.verified.$M.$TView.{$TView}",
+    ),
 ];
 
 fn is_named(words: &Words<'_>, name: &str) -> bool {
@@ -83,6 +130,8 @@ pub(crate) struct Imports<'a> {
     /// What is before and after each.
     pub(crate) start: &'static str,
     pub(crate) end: &'static str,
+    /// The columns of names in one import.
+    pub(crate) columns: usize,
     /// The declaration of a file of definitions.
     pub(crate) own: Option<usize>,
 }
@@ -94,7 +143,7 @@ impl<'a> Printer<'a> {
             if is_named(imports.words, name) {
                 let width = name.chars().count().saturating_add(2);
                 let taken = column.saturating_add(width).saturating_add(path.len());
-                if column > 0 && taken > NAME_COLUMNS {
+                if column > 0 && taken > imports.columns {
                     self.put_str("}");
                     self.put_str(imports.end);
                     column = 0;
@@ -143,6 +192,17 @@ impl<'a> Printer<'a> {
         self.put_own(imports, &OWN_TYPES, names.type_name(index), at);
     }
 
+    // Adds the imports of those definitions of the schema as a value that are among the words.
+    fn put_schema_words(&mut self, imports: Imports<'_>) {
+        for (name, template) in &SCHEMA_WORDS {
+            if imports.words.has(&[], *name) {
+                self.put_str(imports.start);
+                self.put(*template, At::declaration(0));
+                self.put_str(imports.end);
+            }
+        }
+    }
+
     fn put_all_owns(&mut self, imports: Imports<'_>, order: &Order) -> Result<(), AllocError> {
         let context = self.context;
         for index in order.named(context.alloc, &context.names, imports.words)? {
@@ -151,25 +211,44 @@ impl<'a> Printer<'a> {
         Ok(())
     }
 
-    fn put_clause_words(&mut self, words: &Words<'_>, order: &Order) -> Result<(), AllocError> {
+    fn put_clause_words(
+        &mut self,
+        words: &Words<'_>,
+        place: Place,
+        order: &Order,
+    ) -> Result<(), AllocError> {
         let imports = Imports {
             words,
-            start: "ghost use",
+            start: place.start,
             end: ";\n",
+            columns: place.columns,
             own: None,
         };
         self.put_words(imports);
+        self.put_schema_words(imports);
         self.put_all_owns(imports, order)
     }
 
-    fn add_clause_uses(&mut self, code: &str, order: &Order) -> Result<(), AllocError> {
+    fn add_clause_uses(
+        &mut self,
+        code: &str,
+        place: Place,
+        order: &Order,
+    ) -> Result<(), AllocError> {
         let words = Words::of(self.context.alloc, code, Part::Clauses)?;
-        self.put_clause_words(&words, order)
+        self.put_clause_words(&words, place, order)
     }
 
     /// Adds the imports of the clauses of code.
     pub(crate) fn put_clause_uses(&mut self, code: &str, order: &Order) {
-        if self.add_clause_uses(code, order).is_err() {
+        if self.add_clause_uses(code, OF_FILE, order).is_err() {
+            self.fail();
+        }
+    }
+
+    /// Adds the imports of the clauses of an implementation's methods.
+    pub(crate) fn put_method_uses(&mut self, methods: &str, order: &Order) {
+        if self.add_clause_uses(methods, OF_METHODS, order).is_err() {
             self.fail();
         }
     }
@@ -184,6 +263,7 @@ impl<'a> Printer<'a> {
             words,
             start: "use",
             end: "\n",
+            columns: NAME_COLUMNS,
             own: Some(own),
         };
         self.put_words(imports);

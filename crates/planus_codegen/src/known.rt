@@ -17,11 +17,11 @@ const ESCAPED: &str = "axiom infix infixl infixr mutual open unfold";
 /// Types that code has anyway, without an import, and a file of definitions.
 const KNOWN_TYPES: &str =
     "Bool Clone Copy Debug Default Drop Err FieldLine Float Lib None Ok Option \
-     PartialEq Result Some String Table Type Unit Vec";
+     PartialEq Result Some String Table Type Unit Vec Verified";
 
 /// What a crate has beside its modules.
 const KNOWN_MODULES: &str = "finish_root finish_root_size_prefixed has_identifier lib read_as_root \
-     read_size_prefixed_as_root root";
+     read_size_prefixed_as_root root verified verify_as_root";
 
 fn has_word(words: &str, name: &[u8]) -> bool
     ensures { result ≡ is_word_of words.now name.now }
@@ -90,10 +90,11 @@ fn ends_as_printed(name: &[u8]) -> bool
         || name.ends_with(b"Fields")
         || name.ends_with(b"FieldGroup")
         || name.ends_with(b"FieldLines")
+        || name.ends_with(b"View")
 }
 
 /// Whether code has such a type anyway. Those of fields, groups and views end in `Fields`,
-/// `FieldGroup`, `FieldLines` and `Ref`.
+/// `FieldGroup`, `FieldLines`, `Ref` and `View`.
 pub(crate) fn is_known_type(name: &[u8]) -> bool
     ensures { result ≡ is_known_type_lem name.now }
 {

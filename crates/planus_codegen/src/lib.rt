@@ -28,6 +28,9 @@ mod tables;
 mod types;
 mod unions;
 mod uses;
+mod verified_schema;
+mod verified_tables;
+mod verified_unions;
 mod words;
 
 pub use crate_file::print_crate;

@@ -5,10 +5,12 @@ use crate::words::Words;
 use std::alloc::{AllocError, Global};
 
 /// What may follow a module's or a type's name in the names that an import brings.
-const ENDINGS: [&str; 10] = [
+const ENDINGS: [&str; 15] = [
     "",
     "Fields",
     "Ref",
+    "View",
+    "_checked",
     "_is",
     "_numbers",
     "_ref",
@@ -16,6 +18,9 @@ const ENDINGS: [&str; 10] = [
     "_tags",
     "_value",
     "_variants",
+    "_view",
+    "_view_tags",
+    "_view_variants",
 ];
 
 fn count_digits(text: &[u8]) -> u8 {

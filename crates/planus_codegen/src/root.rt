@@ -23,6 +23,22 @@ pub fn read_size_prefixed_as_root(^bytes: &[u8]^) -> Result<($TRef<'_>, &[u8]), 
 }
 ";
 
+const VERIFY: &str = "
+/// Verifies the root of a buffer with all that it leads to, within limits, and returns its view, whose
+/// accessors don't fail.
+pub fn verify_as_root(^bytes: &[u8],^limits: planus_views::Limits^) -> \
+     Result<$TView<'_>, planus_views::Fault>
+    ensures root { (name : List ℕ) →~IfOk~result~(λ view.~IsRoot~$T~name~\
+     (λ (view : $TView). view_table view.0)~bytes.now~(Ok view)) }
+    ensures passed { IfOk~result~(λ view. (left : ℕ) ×~RootWalks~verified_schema~$a~limits.depth~\
+     limits.tables~bytes.now~(Ok left)) }
+    ensures fault { IfErr~result~(λ found.~RootWalks~verified_schema~$a~limits.depth~\
+     limits.tables~bytes.now~(Err found)) }
+{
+    planus_views::verify_root(bytes, limits)
+}
+";
+
 const FINISH: &str = "
 /// Finishes a buffer with this root and the file identifier, as [`Builder::finish`].
 pub fn finish_root(^builder: &mut Builder,^root: Offset<$T>^) -> Result<&[u8], BuildError>
@@ -63,7 +79,7 @@ pub fn has_identifier(bytes: &[u8]) -> bool
 /// Prints the functions that read and finish a buffer by its root.
 pub(crate) fn print_root<'a>(context: &'a Context<'a>, at: At) -> Printer<'a> {
     let mut printer = Printer::new(context);
-    printer.put_pieces(&[Once(READ), Once(READ_SIZED)], at);
+    printer.put_pieces(&[Once(READ), Once(READ_SIZED), Once(VERIFY)], at);
     if context.identifier.is_some() {
         printer.put_pieces(&[Once(FINISH), Once(FINISH_SIZED), Once(CHECK)], at);
     }

@@ -28,7 +28,7 @@ impl<'a> TableView<'a> for $TRef<'a> {
 ";
 
 /// The clause of the function that reads a vector.
-fn vector_clause(field: &TableField) -> &'static str {
+pub(crate) fn vector_clause(field: &TableField) -> &'static str {
     let bytes = is_bytes(field.kind);
     match (field.kind.base, field.required) {
         (Base::Text, false) => "~IsTextVector",
@@ -45,7 +45,7 @@ fn vector_clause(field: &TableField) -> &'static str {
 }
 
 /// The clause of the function that reads a value.
-fn value_clause(field: &TableField) -> &'static str {
+pub(crate) fn value_clause(field: &TableField) -> &'static str {
     match (field.kind.base, field.required) {
         (Base::Text, false) => "~IsTextField",
         (Base::Text, true) => "~IsTextRequired",

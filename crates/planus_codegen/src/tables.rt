@@ -134,16 +134,21 @@ impl<'a> Printer<'a> {
         }
     }
 
-    // An implementation's ghost members need these imports.
-    fn put_constant_uses(&mut self, plan: &Plan<'_>) {
-        let mut end = "";
+    /// Adds imports of the constants that clauses name, which an implementation's ghost members need.
+    pub(crate) fn put_constant_uses(&mut self, plan: &Plan<'_>) {
         for line in &plan.lines {
             if is_named_in_clauses(self.context, line.field) {
                 self.put(CONSTANT, At::line(line));
-                end = "\n";
             }
         }
-        self.put_str(end);
+    }
+
+    // The same, and an empty line if there are some.
+    fn put_constant_uses_apart(&mut self, plan: &Plan<'_>) {
+        let mut uses = Printer::new(self.context);
+        uses.put_constant_uses(plan);
+        self.join(&uses);
+        self.put_str(if uses.as_str().is_empty() { "" } else { "\n" });
     }
 
     fn put_fields(&mut self, plan: &Plan<'_>) {
@@ -233,7 +238,7 @@ impl<'a> Printer<'a> {
             (CREATES_OWNED, CREATE_OWNED)
         };
         self.put(implementation, at);
-        self.put_constant_uses(plan);
+        self.put_constant_uses_apart(plan);
         self.put_field_lines(plan);
         self.put_condition(plan);
         self.put(function, at);

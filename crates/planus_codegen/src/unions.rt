@@ -10,7 +10,7 @@ use planus_layout::{Declared, Union};
 const ARM_LETTERS: usize = 42;
 
 /// The most members of a union that one function reads.
-const MOST_TOGETHER: usize = 20;
+pub(crate) const MOST_TOGETHER: usize = 20;
 
 const KIND: &str = "\
 pub struct $T;
@@ -204,10 +204,16 @@ pub(crate) fn print_variants<'a>(context: &'a Context<'a>, at: At, one: &Union) 
     printer.put_each(if several { ONE_OF } else { ONLY }, "", at);
     if one.members.len() > MOST_TOGETHER {
         printer.put("-- by their tags, from some on\n", at);
-        printer.put_lists(VARIANTS_FROM, "~table_variant $g $M_$g ∷", at);
+        printer.put_lists(
+            VARIANTS_FROM,
+            "~table_variant $g $M_$g ∷",
+            "~from_$p_on",
+            at,
+        );
         printer.put(ALL_VARIANTS, at);
     } else {
         printer.put_pieces(&LISTED_VARIANTS, at);
     }
+    printer.put_verified_variants(at, one);
     printer
 }

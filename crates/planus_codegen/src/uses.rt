@@ -22,6 +22,9 @@ pub(crate) const NAMES: &str =
      text_field text_required text_vector text_vector_required union_field union_required \
      union_vector union_vector_required";
 
+/// The module of verified views.
+pub(crate) const VERIFIED: &str = "verified";
+
 /// The columns of an import on one line.
 const COLUMNS: usize = 98;
 
@@ -31,6 +34,32 @@ fn endings(body: &Body) -> &'static [&'static str] {
         Body::Table(_) => &["", "Fields", "Ref"],
         Body::Union(_) => &["", "Ref"],
         Body::Struct(_) | Body::Enum(_) => &[""],
+    }
+}
+
+/// Whose types a file has.
+#[derive(Clone, Copy)]
+pub(crate) enum Own {
+    Nobody,
+    /// A declaration's.
+    Types(usize),
+    /// A declaration's verified view.
+    View(usize),
+}
+
+impl Own {
+    fn has_types(self, index: usize) -> bool {
+        match self {
+            Own::Types(own) => own == index,
+            _ => false,
+        }
+    }
+
+    fn has_view(self, index: usize) -> bool {
+        match self {
+            Own::View(own) => own == index,
+            _ => false,
+        }
     }
 }
 
@@ -95,15 +124,20 @@ impl<'a> Printer<'a> {
         self.put_use("use crate::$M::", at, &names);
     }
 
-    // Adds an import of those of these names that are among the words, but one.
-    fn put_names_from(&mut self, path: &str, all: &str, words: &Words<'_>, but: &str) {
-        let mut names = Printer::new(self.context);
+    // Adds those of these names that are among the words, but one.
+    fn list_names(&mut self, all: &str, words: &Words<'_>, but: &str) {
         for name in all.split(' ') {
             if name != but && words.has(&[], name) {
-                names.put_comma();
-                names.put_str(name);
+                self.put_comma();
+                self.put_str(name);
             }
         }
+    }
+
+    // Adds an import of those of these names that are among the words.
+    fn put_names_from(&mut self, path: &str, all: &str, words: &Words<'_>) {
+        let mut names = Printer::new(self.context);
+        names.list_names(all, words, "");
         self.put_use(path, At::declaration(0), &names);
     }
 
@@ -114,24 +148,54 @@ impl<'a> Printer<'a> {
         } else {
             ""
         };
-        self.put_names_from("use planus::errors::", ERRORS, words, "");
-        self.put_names_from("use planus::table_reader::", "Table", words, "");
-        self.put_names_from("use planus::", NAMES, words, other);
+        let at = At::declaration(0);
+        let mut names = Printer::new(self.context);
+        names.list_names(NAMES, words, other);
+        // One name is before the modules.
+        let alone = !names.as_str().contains(',');
+        if alone {
+            self.put_use("use planus::", at, &names);
+        }
+        self.put_names_from("use planus::errors::", ERRORS, words);
+        self.put_names_from("use planus::table_reader::", "Table", words);
+        if !alone {
+            self.put_use("use planus::", at, &names);
+        }
     }
 
-    fn put_uses_of(&mut self, words: &Words<'_>, named: &[usize], own: usize) {
+    fn put_uses_of(&mut self, words: &Words<'_>, named: &[usize], own: Own) {
         if words.has(&[], "FILE_IDENTIFIER") {
             self.put_str("use crate::FILE_IDENTIFIER;\n");
         }
-        for index in named {
-            if *index != own {
-                self.put_type_uses(words, *index);
-            }
-        }
+        self.put_types_of(words, named, own, false);
+        self.put_view_uses(words, named, own);
+        self.put_types_of(words, named, own, true);
         self.put_planus_uses(words);
     }
 
-    fn add_code_uses(&mut self, code: &str, order: &Order, own: usize) -> Result<(), AllocError> {
+    // Adds the imports of types in modules before that of verified views, or behind it.
+    fn put_types_of(&mut self, words: &Words<'_>, named: &[usize], own: Own, behind: bool) {
+        let context = self.context;
+        for index in named {
+            let is_behind = context.names.module(*index) > VERIFIED.as_bytes();
+            if !own.has_types(*index) && is_behind == behind {
+                self.put_type_uses(words, *index);
+            }
+        }
+    }
+
+    // Adds the imports of the verified views that are among the words.
+    fn put_view_uses(&mut self, words: &Words<'_>, named: &[usize], own: Own) {
+        let context = self.context;
+        for index in named {
+            if !own.has_view(*index) && words.has(context.names.type_name(*index), "View") {
+                let at = At::declaration(*index);
+                self.put("use crate::verified::$M::$TView;\n", at);
+            }
+        }
+    }
+
+    fn add_code_uses(&mut self, code: &str, order: &Order, own: Own) -> Result<(), AllocError> {
         let context = self.context;
         let words = Words::of(context.alloc, code, Part::Code)?;
         let named = order.named(context.alloc, &context.names, &words)?;
@@ -139,8 +203,8 @@ impl<'a> Printer<'a> {
         Ok(())
     }
 
-    /// Adds the imports of code. `own` is the declaration whose types the file has.
-    pub(crate) fn put_code_uses(&mut self, code: &str, order: &Order, own: usize) {
+    /// Adds the imports of code.
+    pub(crate) fn put_code_uses(&mut self, code: &str, order: &Order, own: Own) {
         if self.add_code_uses(code, order, own).is_err() {
             self.fail();
         }
@@ -152,6 +216,18 @@ impl<'a> Printer<'a> {
         let mut names = Printer::new(self.context);
         names.list_types(at, body, None);
         self.put_use(template, at, &names);
+    }
+
+    /// Adds what a module passes on of a declaration's verified view.
+    pub(crate) fn put_view_passed_on(&mut self, template: &str, index: usize) {
+        let at = At::declaration(index);
+        let names = &self.context.names;
+        self.put(template, at);
+        self.put("$TView", at);
+        if names.type_in_namespace(index) != names.type_name(index) {
+            self.put(" as $UView", at);
+        }
+        self.put_str(";\n");
     }
 
     /// Adds the file identifier.

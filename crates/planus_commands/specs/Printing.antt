@@ -73,7 +73,7 @@ is_crate_name w = is_word w && not (is_reserved w || is_library w || is_of_planu
 
 -- what a repository says of the crate: it stands on `planus`
 abbrev pub crates_line : List ℕ → List ℕ
-crates_line name = line_of (codes "the line of crates.txt is `") name (codes ": planus`")
+crates_line name = line_of (codes "the line of crates.txt is `") name (codes ": planus planus_views`")
 
 -- It was said that no crate can have some name.
 abbrev pub RefusesName : Option (List ℕ) → Option (List ℕ) → Type 0

@@ -170,7 +170,7 @@ fn say_unsupported<X: Write>(
     Ok(FAULTY)
 }
 
-/// A crate of printed code stands on `planus` alone.
+/// A crate of printed code stands on `planus` and `planus_views`.
 fn say_line<X: Write>(alloc: Global, name: &str, errors: &mut X) -> Result<(), RunError>
     ensures { OnOk result (Appends (X.contents errors.old) (X.contents errors.new)
         (crates_line name.now)) }
@@ -180,7 +180,7 @@ fn say_line<X: Write>(alloc: Global, name: &str, errors: &mut X) -> Result<(), R
         errors,
         "the line of crates.txt is `",
         name,
-        ": planus`",
+        ": planus planus_views`",
     )
 }
 

@@ -1,0 +1,67 @@
+//! Verified tables `Company`.
+
+ghost use Rattle.planus_views.specs.Printed.{view_table};
+ghost use Rattle.harbour.specs.Verified.{verified_schema};
+ghost use Rattle.harbour.specs.Verified.{verified_whole};
+
+use crate::company::{Company, CompanyRef};
+use planus::table_reader::Table;
+
+impl planus_views::VerifiedKind for Company {
+    ghost schema = { verified_schema };
+
+    ghost index = { 1 };
+
+    ghost whole = { verified_whole };
+
+    fn schema() -> planus_views::Schema<'static> {
+        crate::verified::schema()
+    }
+
+    fn index() -> usize {
+        1
+    }
+}
+
+/// A verified one in a buffer.
+#[derive(Clone, Copy)]
+pub struct CompanyView<'a>(planus_views::View<'a, Company>);
+
+impl<'a> planus_views::OfKind for CompanyView<'a> {
+    type Kind = Company;
+}
+
+impl<'a> planus_views::ViewOf<'a> for CompanyView<'a> {
+    ghost table = { λ view. view_table view.0 };
+
+    fn of_verified(read: Table<'a>) -> CompanyView<'a> {
+        CompanyView(planus_views::View::new(read))
+    }
+}
+
+impl<'a> CompanyView<'a> {
+    ghost use Rattle.std.specs.Prelude.{◌≡◌};
+    ghost use Rattle.planus.specs.Printed.{IsTextField, IsBytesField};
+    ghost use Rattle.planus_views.specs.Printed.{view_table, Returns};
+
+    /// Returns `title`.
+    pub fn title(&self) -> Option<&'a str>
+        ensures { Returns (IsTextField (view_table self.now.0) 0) result }
+    {
+        self.0.text_field(0)
+    }
+
+    /// Returns `vat`.
+    pub fn vat(&self) -> Option<&'a [u8]>
+        ensures { Returns (IsBytesField (view_table self.now.0) 1) result }
+    {
+        self.0.bytes_field(1)
+    }
+
+    /// Returns the view that tests what it reads.
+    pub fn checked(&self) -> CompanyRef<'a>
+        ensures { result.0 ≡ view_table self.now.0 }
+    {
+        planus::TableView::of_table(self.0.table())
+    }
+}

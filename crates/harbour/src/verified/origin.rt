@@ -1,0 +1,67 @@
+//! Verified tables `Origin`.
+
+ghost use Rattle.planus_views.specs.Printed.{view_table};
+ghost use Rattle.harbour.specs.Verified.{verified_schema};
+ghost use Rattle.harbour.specs.Verified.{verified_whole};
+
+use crate::origin::{Origin, OriginRef};
+use planus::table_reader::Table;
+
+impl planus_views::VerifiedKind for Origin {
+    ghost schema = { verified_schema };
+
+    ghost index = { 5 };
+
+    ghost whole = { verified_whole };
+
+    fn schema() -> planus_views::Schema<'static> {
+        crate::verified::schema()
+    }
+
+    fn index() -> usize {
+        5
+    }
+}
+
+/// A verified one in a buffer.
+#[derive(Clone, Copy)]
+pub struct OriginView<'a>(planus_views::View<'a, Origin>);
+
+impl<'a> planus_views::OfKind for OriginView<'a> {
+    type Kind = Origin;
+}
+
+impl<'a> planus_views::ViewOf<'a> for OriginView<'a> {
+    ghost table = { λ view. view_table view.0 };
+
+    fn of_verified(read: Table<'a>) -> OriginView<'a> {
+        OriginView(planus_views::View::new(read))
+    }
+}
+
+impl<'a> OriginView<'a> {
+    ghost use Rattle.std.specs.Prelude.{◌≡◌};
+    ghost use Rattle.planus.specs.Printed.{u16_shape, IsTextField, IsPlainFieldOr};
+    ghost use Rattle.planus_views.specs.Printed.{view_table, Returns};
+
+    /// Returns `host`.
+    pub fn host(&self) -> Option<&'a str>
+        ensures { Returns (IsTextField (view_table self.now.0) 0) result }
+    {
+        self.0.text_field(0)
+    }
+
+    /// Returns `port`.
+    pub fn port(&self) -> u16
+        ensures { Returns (IsPlainFieldOr u16_shape 0 (view_table self.now.0) 1) result }
+    {
+        self.0.plain_field_or(1, 0)
+    }
+
+    /// Returns the view that tests what it reads.
+    pub fn checked(&self) -> OriginRef<'a>
+        ensures { result.0 ≡ view_table self.now.0 }
+    {
+        planus::TableView::of_table(self.0.table())
+    }
+}

@@ -1,0 +1,67 @@
+//! Verified tables `Person`.
+
+ghost use Rattle.planus_views.specs.Printed.{view_table};
+ghost use Rattle.harbour.specs.Verified.{verified_schema};
+ghost use Rattle.harbour.specs.Verified.{verified_whole};
+
+use crate::person::{Person, PersonRef};
+use planus::table_reader::Table;
+
+impl planus_views::VerifiedKind for Person {
+    ghost schema = { verified_schema };
+
+    ghost index = { 0 };
+
+    ghost whole = { verified_whole };
+
+    fn schema() -> planus_views::Schema<'static> {
+        crate::verified::schema()
+    }
+
+    fn index() -> usize {
+        0
+    }
+}
+
+/// A verified one in a buffer.
+#[derive(Clone, Copy)]
+pub struct PersonView<'a>(planus_views::View<'a, Person>);
+
+impl<'a> planus_views::OfKind for PersonView<'a> {
+    type Kind = Person;
+}
+
+impl<'a> planus_views::ViewOf<'a> for PersonView<'a> {
+    ghost table = { λ view. view_table view.0 };
+
+    fn of_verified(read: Table<'a>) -> PersonView<'a> {
+        PersonView(planus_views::View::new(read))
+    }
+}
+
+impl<'a> PersonView<'a> {
+    ghost use Rattle.std.specs.Prelude.{◌≡◌};
+    ghost use Rattle.planus.specs.Printed.{u8_shape, IsTextRequired, IsPlainFieldOr};
+    ghost use Rattle.planus_views.specs.Printed.{view_table, Returns};
+
+    /// Returns `name`.
+    pub fn name(&self) -> &'a str
+        ensures { Returns (IsTextRequired (view_table self.now.0) 0) result }
+    {
+        self.0.text_required(0)
+    }
+
+    /// Returns `age`.
+    pub fn age(&self) -> u8
+        ensures { Returns (IsPlainFieldOr u8_shape 18 (view_table self.now.0) 1) result }
+    {
+        self.0.plain_field_or(1, 18)
+    }
+
+    /// Returns the view that tests what it reads.
+    pub fn checked(&self) -> PersonRef<'a>
+        ensures { result.0 ≡ view_table self.now.0 }
+    {
+        planus::TableView::of_table(self.0.table())
+    }
+}

@@ -1,0 +1,76 @@
+//! Verified views, and the schema as a value, by which buffers are verified.
+
+pub(crate) mod equipment;
+pub(crate) mod monster;
+pub(crate) mod weapon;
+
+ghost use Rattle.std.specs.Prelude.{◌≡◌};
+ghost use Rattle.planus_views.specs.Printed.{shapes};
+ghost use Rattle.monsters.specs.Verified.{verified_schema};
+
+use planus_views::{FieldKind, FieldShape, Schema, TableShape, ValueKind, Variant};
+
+pub const FIELDS: [FieldShape; 8] = [
+    FieldShape {
+        slot: 0,
+        required: false,
+        kind: FieldKind::Value(ValueKind::Text),
+    },
+    FieldShape {
+        slot: 1,
+        required: false,
+        kind: FieldKind::Value(ValueKind::Plain(2)),
+    },
+    FieldShape {
+        slot: 0,
+        required: false,
+        kind: FieldKind::Value(ValueKind::Plain(2)),
+    },
+    FieldShape {
+        slot: 1,
+        required: true,
+        kind: FieldKind::Value(ValueKind::Text),
+    },
+    FieldShape {
+        slot: 2,
+        required: false,
+        kind: FieldKind::Value(ValueKind::Bytes),
+    },
+    FieldShape {
+        slot: 3,
+        required: false,
+        kind: FieldKind::Value(ValueKind::Tables(0)),
+    },
+    FieldShape {
+        slot: 4,
+        required: false,
+        kind: FieldKind::Union(0),
+    },
+    FieldShape {
+        slot: 6,
+        required: false,
+        kind: FieldKind::Unions(0),
+    },
+];
+
+pub const TABLES: [TableShape; 2] = [
+    TableShape { first: 0, count: 2 },
+    TableShape { first: 2, count: 6 },
+];
+
+pub const VARIANTS: [Variant; 1] = [Variant {
+    union: 0,
+    tag: 1,
+    table: 0,
+}];
+
+/// Returns the schema.
+pub(crate) fn schema() -> Schema<'static>
+    ensures { shapes result ≡ verified_schema }
+{
+    Schema {
+        fields: &FIELDS,
+        tables: &TABLES,
+        variants: &VARIANTS,
+    }
+}

@@ -1,0 +1,67 @@
+//! Verified tables `Weapon`.
+
+ghost use Rattle.planus_views.specs.Printed.{view_table};
+ghost use Rattle.monsters.specs.Verified.{verified_schema};
+ghost use Rattle.monsters.specs.Verified.{verified_whole};
+
+use crate::weapon::{Weapon, WeaponRef};
+use planus::table_reader::Table;
+
+impl planus_views::VerifiedKind for Weapon {
+    ghost schema = { verified_schema };
+
+    ghost index = { 0 };
+
+    ghost whole = { verified_whole };
+
+    fn schema() -> planus_views::Schema<'static> {
+        crate::verified::schema()
+    }
+
+    fn index() -> usize {
+        0
+    }
+}
+
+/// A verified one in a buffer.
+#[derive(Clone, Copy)]
+pub struct WeaponView<'a>(planus_views::View<'a, Weapon>);
+
+impl<'a> planus_views::OfKind for WeaponView<'a> {
+    type Kind = Weapon;
+}
+
+impl<'a> planus_views::ViewOf<'a> for WeaponView<'a> {
+    ghost table = { λ view. view_table view.0 };
+
+    fn of_verified(read: Table<'a>) -> WeaponView<'a> {
+        WeaponView(planus_views::View::new(read))
+    }
+}
+
+impl<'a> WeaponView<'a> {
+    ghost use Rattle.std.specs.Prelude.{◌≡◌, pos};
+    ghost use Rattle.planus.specs.Printed.{i16_shape, IsTextField, IsPlainFieldOr};
+    ghost use Rattle.planus_views.specs.Printed.{view_table, Returns};
+
+    /// Returns `name`.
+    pub fn name(&self) -> Option<&'a str>
+        ensures { Returns (IsTextField (view_table self.now.0) 0) result }
+    {
+        self.0.text_field(0)
+    }
+
+    /// Returns `damage`.
+    pub fn damage(&self) -> i16
+        ensures { Returns (IsPlainFieldOr i16_shape (pos 0) (view_table self.now.0) 1) result }
+    {
+        self.0.plain_field_or(1, 0)
+    }
+
+    /// Returns the view that tests what it reads.
+    pub fn checked(&self) -> WeaponRef<'a>
+        ensures { result.0 ≡ view_table self.now.0 }
+    {
+        planus::TableView::of_table(self.0.table())
+    }
+}
