@@ -15,3 +15,5 @@ mod meaning_rows;
 mod orc;
 #[cfg(test)]
 mod printed;
+#[cfg(test)]
+mod verified;

@@ -15,7 +15,7 @@ use planus::{BuildError, Builder, ByteList, table_item, union_item};
 use std::alloc::Global;
 
 /// By flatc 2.0.8 of `harbour.fbs`: a ship with the values of `writes_anna`, its tables too.
-const FLATC_ANNA: &str =
+pub const FLATC_ANNA: &str =
     "4c000000534849500000000000003e00840014000c00180007000e0010001c0028002c001200080009003000\
      340038003c00400044000a0048004c00500000007c00540058005c000b0078003e0000000000000200010201\
      00022c010300f9fff4010000e401000035000000f6fffffffdff0000b80100000000803e00000000a4010000\
@@ -31,13 +31,13 @@ const FLATC_ANNA: &str =
      0400000000000000000000000100000061000000030000000102ff0002000000050000000600000007000000\
      35000000f6fffffffdff00000200000007000000ffffffff04000000416e6e6100000000";
 
-const HOME: Pos = Pos {
+pub const HOME: Pos = Pos {
     lat: 53,
     lon: -10,
     alt: -3,
 };
 
-const FIX: Fix = Fix {
+pub const FIX: Fix = Fix {
     when: u64::MAX,
     at: Pos {
         lat: 5,
