@@ -1,0 +1,144 @@
+#!/bin/sh
+# Makes a repository of your own for a schema, or brings the runtime in one up to date.
+#   sh new.sh FOLDER SCHEMA          FOLDER is new or empty
+#   sh new.sh --update FOLDER
+#
+# In FOLDER are then crates.txt, HANDLES, .gitignore, the schema, crates/planus* (the runtime, copied without the edits
+# that try its contracts), crates/NAME (the code of SCHEMA.fbs, by `planus rattle`) and crates/app: a program that writes
+# a record to the file that its call names, reads it back and prints it, with a test.
+# An update replaces the runtime and prints the schema's code again; it says what changed, and leaves crates/app alone.
+# Needs `rt`, python3 (which rt needs too), and `planus`, which it builds by install.sh, or takes from PLANUS.
+set -eu
+
+RUNTIME="planus_back planus_read planus_view planus_unions planus_write planus_fields planus"
+fail() {
+    echo "new.sh: $1" >&2
+    exit 2
+}
+usage() {
+    sed -n 's/^#   //p' "$0"
+}
+[ "${1:-}" != --help ] || { usage; exit 0; }
+[ $# = 2 ] || { usage >&2; exit 2; }
+case $2 in -*) usage >&2; exit 2 ;; esac
+here=$(CDPATH='' cd -- "$(dirname -- "$0")" && pwd)
+command -v rt >/dev/null || fail "rt isn't on the path: it comes with the toolchain, Rattle"
+command -v python3 >/dev/null || fail "python3 isn't on the path"
+
+# Sets planus: what was built here since the sources changed, the proved one first.
+find_planus() {
+    planus=${PLANUS:-}
+    [ -z "$planus" ] || { planus=$(CDPATH='' cd -- "$(dirname -- "$planus")" && pwd)/$(basename "$planus"); return; }
+    for planus in "$here/crates/planus_cli/out/planus_cli" "$here/out/planus"; do
+        if [ -x "$planus" ] && [ -z "$(find "$here"/crates/*/src -type f -newer "$planus" | head -n 1)" ]; then return; fi
+    done
+    sh "$here/install.sh" "$here/out" >&2
+    planus=$here/out/planus
+}
+# The runtime's crates, copied to a folder.
+copy_runtime() {
+    for crate in $RUNTIME; do
+        mkdir -p "$1/$crate"
+        for part in src specs proofs; do
+            [ ! -d "$here/crates/$crate/$part" ] || cp -R "$here/crates/$crate/$part" "$1/$crate/"
+        done
+    done
+}
+runtime_lines() {
+    echo "# the runtime, copied by new.sh, of commit $(git -C "$here" rev-parse --short HEAD 2>/dev/null || echo "none")"
+    for crate in $RUNTIME; do grep "^$crate:" "$here/crates.txt"; done
+}
+print_code() { # in the folder: schema, crate
+    said=$("$planus" rattle "$1" -o "$2" 2>&1) || fail "$1 isn't printed: $said"
+}
+
+if [ "$1" = --update ]; then
+    folder=$2
+    [ -f "$folder/crates.txt" ] && [ -d "$folder/crates/planus" ] || fail "$folder isn't made by new.sh"
+    room=$(mktemp -d)
+    trap 'rm -rf "$room"' EXIT
+    copy_runtime "$room"
+    find_planus
+    changed=
+    for crate in $RUNTIME; do
+        for part in src specs proofs; do
+            new=$room/$crate/$part old=$folder/crates/$crate/$part
+            mkdir -p "$new" "$old"
+            count=$(diff -rq "$old" "$new" | wc -l)
+            [ "$count" = 0 ] || { changed=yes; echo "crates/$crate/$part: files that changed, came or went: $count"; }
+            rm -rf "$old"
+            [ -z "$(ls -A "$new")" ] || cp -R "$new" "$old"
+        done
+    done
+    grep -v -e '^# the runtime, copied' $(printf ' -e ^%s:' $RUNTIME) "$folder/crates.txt" >"$room/rest" || :
+    runtime_lines >"$room/crates.txt"
+    sed '/./,$!d' "$room/rest" >"$room/own"
+    { cat "$room/crates.txt"; echo; cat "$room/own"; } >"$folder/crates.txt"
+    # The code of each schema, as the comment above its line says.
+    sed -n 's/^# printed by: planus rattle \(.*\) -o \(.*\)$/\1 \2/p' "$folder/crates.txt" | while read -r schema crate; do
+        cp -R "$folder/$crate" "$room/printed"
+        (cd "$folder" && print_code "$schema" "$crate")
+        for part in src specs proofs; do
+            mkdir -p "$room/printed/$part" "$folder/$crate/$part"
+            count=$(diff -rq "$room/printed/$part" "$folder/$crate/$part" | wc -l)
+            [ "$count" = 0 ] || echo "$crate/$part: files that are printed otherwise: $count"
+            rmdir "$folder/$crate/$part" 2>/dev/null || :
+        done
+        rm -rf "$room/printed"
+    done
+    [ "$changed" ] || echo "the runtime is as it was"
+    echo "$folder is up to date with $(git -C "$here" rev-parse --short HEAD 2>/dev/null || echo "$here")"
+    exit 0
+fi
+
+folder=$1 schema=$2
+[ -f "$schema" ] || fail "there is no file $schema"
+[ ! -e "$folder" ] || { [ -d "$folder" ] && [ -z "$(ls -A "$folder")" ]; } || fail "$folder is there already, and isn't an empty folder"
+
+# the crate's name: that of the schema's file, in small letters, digits and _
+name=$(basename "$schema" .fbs | tr 'A-Z' 'a-z' | tr -c 'a-z0-9_\n' '_' | sed 's/^[^a-z]/s_&/')
+kit=$(dirname "$(rt doc)")
+case " $RUNTIME app core std " in *" $name "*) name=${name}_schema ;; esac
+[ ! -d "$kit/rlibs/$name.rlib" ] || name=${name}_schema
+
+find_planus
+"$planus" check "$schema" || fail "mend $schema first"
+file=$(basename "$schema")
+room=$(mktemp -d)
+trap 'rm -rf "$room"' EXIT
+(cd "$(dirname "$schema")" && print_code "$file" "$room/$name")
+
+mkdir -p "$folder/crates"
+copy_runtime "$folder/crates"
+cp -R "$room/$name" "$folder/crates/"
+cat "$schema" >"$folder/$file"
+sed -n 's/^[[:space:]]*include[[:space:]]*"\([^"]*\)".*/\1/p' "$schema" | while read -r part; do
+    [ ! -f "$(dirname "$schema")/$part" ] || { mkdir -p "$(dirname "$folder/$part")" && cat "$(dirname "$schema")/$part" >"$folder/$part"; }
+done
+{
+    runtime_lines
+    echo
+    echo "# printed by: planus rattle $file -o crates/$name"
+    echo "$name: planus"
+} >"$folder/crates.txt"
+echo "Handles allowed: none." >"$folder/HANDLES"
+printf 'out/\n__pycache__/\n' >"$folder/.gitignore"
+if python3 "$here/start/first_program.py" "$folder/crates" "$name"; then
+    printf '\napp: anyhow planus planus_write %s\n' "$name" >>"$folder/crates.txt"
+    (cd "$folder/crates/app" && rt fmt >/dev/null) || fail "the program of $folder/crates/app isn't laid out"
+fi
+if command -v git >/dev/null && ! git -C "$folder" rev-parse --git-dir >/dev/null 2>&1; then
+    git -C "$folder" init -q
+fi
+
+folder=$(CDPATH='' cd -- "$folder" && pwd)
+echo "$folder is made, with the runtime and the code of $file, crates/$name"
+if [ -d "$folder/crates/app" ]; then
+    data=$folder/first.bin
+    grep -q 'file to write' "$folder/crates/app/src/main.rt" || data='the absolute path of a buffer'
+    echo "Next:"
+    echo "    cd $folder/crates/app"
+    echo "    rt try -- $data      # half a minute: runs the program, unproved"
+    echo "    $planus view $folder/$file $data"
+    echo "    rt run -- $data      # proves the runtime, the schema's code and the program first"
+fi
