@@ -5,6 +5,7 @@
 //   harness [--turns N] [--ms N] [--only WORD] [--scaling] NAME=LIB.so[,CACHES.so] ..
 //   harness --peak WORK N NAME=LIB.so[,CACHES.so]      one round of a work; prints by how many KiB the peak of memory rose
 #include <dlfcn.h>
+#include <malloc.h>
 #include <sched.h>
 #include <time.h>
 #include <algorithm>
@@ -425,6 +426,9 @@ int main(int argc, char **argv) {
     printf("%ld KiB (sum %llx)\n", peak_kib() - before, (unsigned long long)sum);
     return 0;
   }
+  // What is freed stays with malloc, so that no column pays for pages that another's free gave back.
+  mallopt(M_MMAP_MAX, 0);
+  mallopt(M_TRIM_THRESHOLD, 1 << 30);
   cpu_set_t set;
   CPU_ZERO(&set);
   CPU_SET(sched_getcpu(), &set);

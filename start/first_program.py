@@ -41,7 +41,7 @@ class Record:
     """What is written: statements before the record, and the types that they name."""
 
     def __init__(self):
-        self.before, self.used, self.lists, self.above, self.writes = [], set(), set(), [], False
+        self.before, self.used, self.lists, self.above, self.parts = [], set(), set(), [], 0
 
     def value(self, type_):
         """Returns a first value of a field's type, and how `{:?}` prints it (None: it isn't printed so)."""
@@ -49,9 +49,12 @@ class Record:
             return "None", "None"
         if type_.startswith("&'a ["):
             return "&[]", None
-        if found := re.match(r"(ByteList|SignedList)<", type_):
-            self.lists.add(found[1])
-            return f"{found[1]}(&[])", "[]" if found[1] == "ByteList" else None
+        if type_.startswith("ByteList<"):
+            # The checker wants what it lends in a variable.
+            if "no_bytes" not in self.lists:
+                self.before.append("    let no_bytes: [u8; 0] = [];")
+            self.lists |= {"no_bytes", "ByteList"}
+            return "ByteList(&no_bytes)", "[]"
         if re.fullmatch(r"[ui](8|16|32|64)", type_):
             return "1", "1"
         simple = {"f32": ("1.5", "1.5"), "f64": ("1.5", "1.5"), "bool": ("true", "true"), "&'a str": ('"first"', '"first"')}
@@ -91,7 +94,8 @@ class Record:
         lines = [f"        {it}: {self.value(of)[0]}," for it, of in fields]
         self.above.pop()
         self.used |= {table, f"{table}Fields"}
-        offset = f"part_{len(self.before) + 1}"
+        self.parts += 1
+        offset = f"part_{self.parts}"
         self.before.append("\n".join([f"    let {offset} = {table}Fields {{", *lines, "    };", f"    let {offset} = {table}::create(builder, {offset})?;"]))
         return offset
 
@@ -136,7 +140,7 @@ if missing:
     print(f"crates/app only reads, since new.sh has no first value for {', '.join(missing)}")
 out += ["#![tactic(auto)]", "", "use anyhow::{Context, Result, bail};"]
 if not missing:
-    out.append(f"use planus::{{{', '.join(['Builder', *sorted(record.lists)])}}};")
+    out.append(f"use planus::{{{', '.join(sorted({'Builder'} | record.lists - {'no_bytes'}))}}};")
 for path, its in sorted(paths.items()):
     out.append(f"use {path}::{{{', '.join(its)}}};")
 if not missing:
@@ -153,7 +157,7 @@ must_print = []
 out += [f"/// Prints a `{root}`. Fails with the error of its first damaged field.", f"fn print(rt: &HostRuntime, record: {view}{lent}) -> Result<()> {{"]
 for it, of in getters:
     inner = of[7:-1] if (is_option := of.startswith("Option<")) else of
-    counted = inner.startswith(("Vector<", "UnionVector<", "SignedBytes<", "SignedItems<"))
+    counted = inner.startswith(("Vector<", "UnionVector<"))
     shown = not inner.endswith("Ref<'a>") and not inner.startswith("TableRef<")
     if not counted and shown:
         out.append(f'    println!(rt; "{it}: {{:?}}", record.{it}()?)?;')
