@@ -59,34 +59,30 @@ if [ "$1" = --update ]; then
     trap 'rm -rf "$room"' EXIT
     copy_runtime "$room"
     find_planus
+    # The code of each schema, as the comment above its line says.
+    sed -n 's/^# printed by: planus rattle \(.*\) -o crates\/\(.*\)$/\1 \2/p' "$folder/crates.txt" >"$room/schemas"
+    mkdir "$room/printed"
+    while read -r schema crate; do
+        (cd "$folder" && print_code "$schema" "$room/printed/$crate")
+    done <"$room/schemas"
     changed=
-    for crate in $RUNTIME; do
+    replace() { # folder of the new crate, name: the crate's files but what is built
         for part in src specs proofs; do
-            new=$room/$crate/$part old=$folder/crates/$crate/$part
+            new=$1/$2/$part old=$folder/crates/$2/$part
             mkdir -p "$new" "$old"
             count=$(diff -rq "$old" "$new" | wc -l)
-            [ "$count" = 0 ] || { changed=yes; echo "crates/$crate/$part: files that changed, came or went: $count"; }
+            [ "$count" = 0 ] || { changed=yes; echo "crates/$2/$part: files that changed, came or went: $count"; }
             rm -rf "$old"
             [ -z "$(ls -A "$new")" ] || cp -R "$new" "$old"
         done
-    done
+    }
+    for crate in $RUNTIME; do replace "$room" "$crate"; done
+    while read -r schema crate; do replace "$room/printed" "$crate"; done <"$room/schemas"
     grep -v -e '^# the runtime, copied' $(printf ' -e ^%s:' $RUNTIME) "$folder/crates.txt" >"$room/rest" || :
     runtime_lines >"$room/crates.txt"
     sed '/./,$!d' "$room/rest" >"$room/own"
     { cat "$room/crates.txt"; echo; cat "$room/own"; } >"$folder/crates.txt"
-    # The code of each schema, as the comment above its line says.
-    sed -n 's/^# printed by: planus rattle \(.*\) -o \(.*\)$/\1 \2/p' "$folder/crates.txt" | while read -r schema crate; do
-        cp -R "$folder/$crate" "$room/printed"
-        (cd "$folder" && print_code "$schema" "$crate")
-        for part in src specs proofs; do
-            mkdir -p "$room/printed/$part" "$folder/$crate/$part"
-            count=$(diff -rq "$room/printed/$part" "$folder/$crate/$part" | wc -l)
-            [ "$count" = 0 ] || echo "$crate/$part: files that are printed otherwise: $count"
-            rmdir "$folder/$crate/$part" 2>/dev/null || :
-        done
-        rm -rf "$room/printed"
-    done
-    [ "$changed" ] || echo "the runtime is as it was"
+    [ "$changed" ] || echo "the runtime and the code of schemas are as they were"
     echo "$folder is up to date with $(git -C "$here" rev-parse --short HEAD 2>/dev/null || echo "$here")"
     exit 0
 fi
