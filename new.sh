@@ -10,7 +10,7 @@
 # Needs `rt`, python3 (which rt needs too), and `planus`, which it builds by install.sh, or takes from PLANUS.
 set -eu
 
-RUNTIME="planus_back planus_read planus_view planus_unions planus_write planus_fields planus"
+RUNTIME="planus_back planus_read planus_view planus_unions planus_verify planus_write planus_fields planus planus_views"
 fail() {
     echo "new.sh: $1" >&2
     exit 2
@@ -115,7 +115,7 @@ done
     runtime_lines
     echo
     echo "# printed by: planus rattle $file -o crates/$name"
-    echo "$name: planus"
+    echo "$name: planus planus_views"
 } >"$folder/crates.txt"
 echo "Handles allowed: none." >"$folder/HANDLES"
 printf 'out/\n__pycache__/\n' >"$folder/.gitignore"

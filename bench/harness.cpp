@@ -212,7 +212,7 @@ static vector<Table> tables(const vector<Lib> &libs) {
   v("v1 weapon", "weapon", "weapon", 32, COUNT);
   v("v2 table of 8 fields: a number, a string", "wide_one", "wide", 128, COUNT);
   v("v3 table of 8 fields: all 8", "wide_all", "wide", 128, COUNT);
-  v("v4 monster, its loot aside", "monster", "monster", 192, COUNT);
+  v("v4 monster", "monster", "monster", 192, COUNT);
   v("v5 vector of 256 numbers", "numbers", "numbers", 1088, 16);
   v("v6 vector of 32 strings", "texts", "texts", 1536, 16);
   v("v7 vector of 32 tables", "tables", "tables", 1536, 16);

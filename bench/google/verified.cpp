@@ -75,6 +75,9 @@ static u64 monster(const Monster *m) {
   u64 sum = text_sum(m->name()) + u64(int64_t(m->hp())) + weapons(m->weapons());
   if (m->inventory()) sum += m->inventory()->size();
   if (auto w = m->equipped_as_Weapon()) sum += weapon(w);
+  if (auto loot = m->loot())
+    for (uoffset_t i = 0; i < loot->size(); i++)
+      if (m->loot_type()->Get(i) == Equipment_Weapon) sum += weapon(loot->GetAs<Weapon>(i));
   return sum;
 }
 static u64 numbers(const Vectors *v) { return numbers_in(v->numbers()); }
