@@ -7,9 +7,7 @@ use crate::digits::bytes_of;
 use crate::printed::FLATC_ANNA;
 use harbour::{read_as_root, verify_as_root};
 use planus_views::Limits;
-
-/// Ships in ships, as many as a buffer of this size can have, and below the limit.
-const DEPTH: u8 = 64;
+use std::alloc::Global;
 
 // How many buffers pass, and in how many the two differ.
 #[derive(Drop)]
@@ -26,14 +24,14 @@ impl Counts {
         }
     }
 
-    fn add(&mut self, bytes: &[u8]) {
+    fn add(&mut self, alloc: Global, bytes: &[u8]) {
         let checked = read_as_root(bytes);
         let is_same = match verify_as_root(bytes, Limits::default()) {
             Ok(verified) => {
                 self.passed = self.passed.wrapping_add(1);
-                matches!(checked, Ok(ship) if is_whole(&ship, DEPTH) && is_same_ship(&verified, &ship))
+                matches!(checked, Ok(ship) if is_whole(alloc, ship) && is_same_ship(&verified, &ship))
             }
-            Err(_) => !matches!(checked, Ok(ship) if is_whole(&ship, DEPTH)),
+            Err(_) => !matches!(checked, Ok(ship) if is_whole(alloc, ship)),
         };
         if !is_same {
             self.differ = self.differ.wrapping_add(1);
@@ -48,10 +46,10 @@ fn turn(bytes: &mut Vec<u8>, at: usize, bits: u8) {
 }
 
 // Each byte alone with these bits turned.
-fn count_turned(bytes: &mut Vec<u8>, bits: u8, counts: &mut Counts) {
+fn count_turned(alloc: Global, bytes: &mut Vec<u8>, bits: u8, counts: &mut Counts) {
     for at in 0..bytes.len() {
         turn(bytes, at, bits);
-        counts.add(bytes);
+        counts.add(alloc, bytes);
         turn(bytes, at, bits);
     }
 }
@@ -61,7 +59,7 @@ fn ships_with_one_byte_changed(rt: HostRuntime) {
     let mut counts = Counts::none();
     if let Some(mut bytes) = bytes_of(rt.alloc(), FLATC_ANNA) {
         for bits in [1, 4, 64, 128, 255] {
-            count_turned(&mut bytes, bits, &mut counts);
+            count_turned(rt.alloc(), &mut bytes, bits, &mut counts);
         }
     }
     assert!(rt;
@@ -78,7 +76,7 @@ fn ships_that_are_cut(rt: HostRuntime) {
     if let Some(bytes) = bytes_of(rt.alloc(), FLATC_ANNA) {
         for length in 0..bytes.len() {
             if let Some(start) = bytes.get(..length) {
-                counts.add(start);
+                counts.add(rt.alloc(), start);
             }
         }
     }
@@ -98,14 +96,14 @@ fn change(seed: u64, length: usize) -> (usize, u8) {
 }
 
 // Two bytes changed.
-fn count_two(bytes: &mut Vec<u8>, seed: u64, counts: &mut Counts) -> u64 {
+fn count_two(alloc: Global, bytes: &mut Vec<u8>, seed: u64, counts: &mut Counts) -> u64 {
     let first = next(seed);
     let second = next(first);
     let (at, bits) = change(first, bytes.len());
     let (other, others) = change(second, bytes.len());
     turn(bytes, at, bits);
     turn(bytes, other, others);
-    counts.add(bytes);
+    counts.add(alloc, bytes);
     turn(bytes, other, others);
     turn(bytes, at, bits);
     second
@@ -117,7 +115,7 @@ fn ships_with_two_bytes_changed(rt: HostRuntime) {
     if let Some(mut bytes) = bytes_of(rt.alloc(), FLATC_ANNA) {
         let mut seed = 1;
         for _ in 0..10_000 {
-            seed = count_two(&mut bytes, seed, &mut counts);
+            seed = count_two(rt.alloc(), &mut bytes, seed, &mut counts);
         }
     }
     assert!(rt;

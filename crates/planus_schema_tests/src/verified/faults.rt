@@ -1,8 +1,12 @@
 //! Whether the checked views of a ship and of all that it leads to read each field without an error.
 
-use harbour::{CompanyRef, Kind, OwnerRef, PersonRef, Ship, ShipRef};
+use harbour::{CompanyRef, OwnerRef, PersonRef, ShipRef};
 use planus::errors::ErrorKind;
-use planus::{TableRef, Vector, table_item, text_item, union_item};
+use planus::{table_item, text_item, union_item};
+use std::alloc::Global;
+
+/// More than a buffer of these tests leads to.
+const MOST_SHIPS: usize = 10_000;
 
 // An enum's number and a union's tag may be of a newer schema.
 fn is_read<T>(read: &planus::Result<T>) -> bool {
@@ -91,31 +95,51 @@ fn has_owners(ship: &ShipRef<'_>) -> bool {
         }
 }
 
-fn are_ships(ships: &Vector<'_, planus::Result<TableRef<'_, Ship>>>, depth: u8) -> bool {
-    for i in 0..ships.len() {
-        let read: Option<planus::Result<ShipRef<'_>>> = table_item(ships.get(i));
-        if !matches!(read, Some(Ok(ship)) if is_whole(&ship, depth)) {
+fn has_fields(ship: &ShipRef<'_>) -> bool {
+    has_numbers(ship) && has_vectors(ship) && has_names(ship) && has_owners(ship)
+}
+
+// Adds the ship that a ship refers to by its mate, if it is read.
+fn adds_mate<'a>(ship: &ShipRef<'a>, ships: &mut Vec<ShipRef<'a>>) -> bool {
+    match ship.mate() {
+        Ok(Some(mate)) => ships.push(mate).is_ok(),
+        other => is_read(&other),
+    }
+}
+
+// Adds its consorts, if all are read.
+fn adds_consorts<'a>(ship: &ShipRef<'a>, ships: &mut Vec<ShipRef<'a>>) -> bool {
+    let consorts = match ship.consorts() {
+        Ok(Some(consorts)) => consorts,
+        other => return is_read(&other),
+    };
+    for i in 0..consorts.len() {
+        let consort: Option<planus::Result<ShipRef<'a>>> = table_item(consorts.get(i));
+        let added = match consort {
+            Some(Ok(consort)) => ships.push(consort).is_ok(),
+            _ => false,
+        };
+        if !added {
             return false;
         }
     }
     true
 }
 
-/// Whether all is read of a ship, and of ships that it leads to down to a depth.
-pub fn is_whole(ship: &ShipRef<'_>, depth: u8) -> bool {
-    if depth == 0 {
+/// Whether all is read of a ship, and of the ships that it leads to, if they aren't too many.
+pub fn is_whole(alloc: Global, ship: ShipRef<'_>) -> bool {
+    let mut ships = Vec::new(alloc);
+    if ships.push(ship).is_err() {
         return false;
     }
-    has_numbers(ship)
-        && has_vectors(ship)
-        && has_names(ship)
-        && has_owners(ship)
-        && match ship.mate() {
-            Ok(Some(mate)) => is_whole(&mate, depth - 1),
-            other => is_read(&other),
+    for _ in 0..MOST_SHIPS {
+        let Some(ship) = ships.pop() else {
+            return true;
+        };
+        let added = adds_mate(&ship, &mut ships) && adds_consorts(&ship, &mut ships);
+        if !added || !has_fields(&ship) {
+            return false;
         }
-        && match ship.consorts() {
-            Ok(Some(ships)) => are_ships(&ships, depth - 1),
-            other => is_read(&other),
-        }
+    }
+    false
 }
