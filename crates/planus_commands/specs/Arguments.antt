@@ -84,8 +84,16 @@ rattle_option w = if bytes_eq w (codes "-I") then Some Folder
     else if bytes_eq w (codes "-o") then Some Output
     else if bytes_eq w (codes "--check") then Some CheckChoice else None
 
+-- `--help`, or `-h`
+abbrev pub is_help : List ℕ → Bool
+is_help w = bytes_eq w (codes "--help") || bytes_eq w (codes "-h")
+
+-- `--version`, or `-V`
+abbrev pub is_version : List ℕ → Bool
+is_version w = bytes_eq w (codes "--version") || bytes_eq w (codes "-V")
+
 abbrev pub option_of : Command → List ℕ → Option Choice
-option_of command w = if bytes_eq w (codes "--help") then Some HelpChoice else option_in command
+option_of command w = if is_help w then Some HelpChoice else option_in command
   where
     option_in : Command → Option Choice
     option_in Check = if bytes_eq w (codes "-I") then Some Folder else None
@@ -226,9 +234,18 @@ abbrev pub request_after : List ℕ → List (List ℕ) → Option Command → A
 request_after w rest None = unknown_command w
 request_after w rest (Some command) = request_by command (fold (with_word command) no_words rest)
 
+abbrev pub help_by : List ℕ → Option Command → Asked
+help_by w None = if bytes_eq w (codes "help") || is_help w then help else unknown_command w
+help_by w (Some command) = help_of command
+
+-- after `help`
+abbrev pub help_request : List (List ℕ) → Asked
+help_request [] = help
+help_request (w ∷ rest) = help_by w (command_of w)
+
 abbrev pub request_of : List (List ℕ) → Asked
 request_of [] = no_command
-request_of (w ∷ rest) =
-    if bytes_eq w (codes "help") || bytes_eq w (codes "--help") then help
-    else if bytes_eq w (codes "--version") then version
+request_of (w ∷ rest) = if bytes_eq w (codes "help") then help_request rest
+    else if is_help w then help
+    else if is_version w then version
     else request_after w rest (command_of w)

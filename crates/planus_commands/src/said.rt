@@ -27,9 +27,9 @@ usage: planus check [-I FOLDER].. SCHEMA..
        planus format [--write] [--drop-comments] SCHEMA..
        planus view [OPTION].. SCHEMA BUFFER
        planus rattle [--check] [-I FOLDER].. SCHEMA -o FOLDER
-       planus help, planus --help, planus COMMAND --help, planus --version
+       planus help [COMMAND], planus [COMMAND] --help, planus --version
 
-SCHEMA and BUFFER are files, or - for standard input.
+SCHEMA and BUFFER are files, or - for standard input. -h is --help, and -V is --version.
 ";
 
 const HELP_OF_CHECK: &str = "\
