@@ -1,8 +1,9 @@
 -- What the words after the program's name ask for.
 use Rattle.std.specs.Prelude.{ℕ, Bool, true, false, ◌&&◌, ◌||◌, ◌==◌, nat_lt, List, [], ◌∷◌, ◌++◌}
 use Rattle.std.specs.Prelude.{fold, map, length, codes, slice_index, Option, Some, None}
-use Rattle.std.specs.Prelude.{if◌then◌else◌, not}
-use Rattle.std.specs.Option.{option_map, unwrap_or}
+use Rattle.std.specs.Prelude.{if◌then◌else◌, not, nat_eq, drop}
+use Rattle.std.specs.Option.{option_map, option_or, unwrap_or}
+use Rattle.std.specs.List.{starts_with}
 use Rattle.std.specs.Str.{bytes_eq}
 use Rattle.planus_layout.specs.Numbers.{integer_said}
 use Rattle.planus_layout.specs.declared.number.Number.{Number}
@@ -15,6 +16,7 @@ use Rattle.planus_commands.specs.declared.arguments.Choice.TheVariants.{Root, Si
 use Rattle.planus_commands.specs.declared.arguments.Choice.TheVariants.{Bytes, Output}
 use Rattle.planus_commands.specs.declared.arguments.Choice.TheVariants.{Check as CheckChoice}
 use Rattle.planus_commands.specs.declared.arguments.Choice.TheVariants.{Help as HelpChoice}
+use Rattle.planus_commands.specs.declared.arguments.Joined.{Joined}
 use Rattle.planus_commands.specs.declared.arguments.Words.{Words}
 use Rattle.planus_commands.specs.declared.arguments.Request.{Request}
 use Rattle.planus_commands.specs.declared.arguments.Request.TheVariants as code
@@ -102,24 +104,45 @@ option_of command w = if is_help w then Some HelpChoice else option_in command
     option_in View = view_option w
     option_in RattleCommand = rattle_option w
 
+-- an option, and its value in the same word
+pub record JoinedV : Type 0 where
+  pub choice : Choice
+  pub value : List ℕ
+
+abbrev pub joined_view : Joined → JoinedV
+joined_view joined = record { choice = joined.choice; value = joined.value.now }
+
+-- the value is what follows this beginning of the word
+abbrev pub joined_by : Choice → List ℕ → List ℕ → Option JoinedV
+joined_by choice start w = if starts_with nat_eq w start
+    then Some (record { choice = choice; value = drop (length start) w }) else None
+
+abbrev pub joined_in : Command → List ℕ → Option JoinedV
+joined_in Check w = joined_by Folder (codes "-I") w
+joined_in Format w = None
+joined_in View w = option_or (joined_by Folder (codes "-I") w)
+    (option_or (joined_by Root (codes "--root=") w)
+    (option_or (joined_by Lines (codes "--lines=") w) (joined_by Bytes (codes "--bytes=") w)))
+joined_in RattleCommand w = option_or (joined_by Folder (codes "-I") w)
+    (joined_by Output (codes "-o") w)
+
 abbrev pub or_first : Option (List ℕ) → List ℕ → Option (List ℕ)
 or_first None w = Some w
 or_first (Some u) w = Some u
 
-abbrev pub with_option : WordsV → List ℕ → Option Choice → WordsV
-with_option ws w (Some Folder) = record ws { wants = Some Folder }
-with_option ws w (Some Root) = record ws { wants = Some Root }
-with_option ws w (Some Lines) = record ws { wants = Some Lines }
-with_option ws w (Some Bytes) = record ws { wants = Some Bytes }
-with_option ws w (Some Output) = record ws { wants = Some Output }
-with_option ws w (Some SizePrefixed) = record ws { size_prefixed = true }
-with_option ws w (Some CheckChoice) = record ws { check = true }
-with_option ws w (Some Write) = record ws { write = true }
-with_option ws w (Some DropComments) = record ws { drop_comments = true }
-with_option ws w (Some HelpChoice) = record ws { help = true }
-with_option ws w None = record ws { unknown = or_first ws.unknown w }
+abbrev pub with_choice : WordsV → Choice → WordsV
+with_choice ws Folder = record ws { wants = Some Folder }
+with_choice ws Root = record ws { wants = Some Root }
+with_choice ws Lines = record ws { wants = Some Lines }
+with_choice ws Bytes = record ws { wants = Some Bytes }
+with_choice ws Output = record ws { wants = Some Output }
+with_choice ws SizePrefixed = record ws { size_prefixed = true }
+with_choice ws CheckChoice = record ws { check = true }
+with_choice ws Write = record ws { write = true }
+with_choice ws DropComments = record ws { drop_comments = true }
+with_choice ws HelpChoice = record ws { help = true }
 
--- the word after an option
+-- the value of an option
 abbrev pub with_value : WordsV → Choice → List ℕ → WordsV
 with_value ws Folder w = record ws { folders = ws.folders ++ w ∷ [] }
 with_value ws Root w = record ws { root = Some w }
@@ -132,12 +155,24 @@ with_value ws SizePrefixed w = ws
 with_value ws CheckChoice w = ws
 with_value ws HelpChoice w = ws
 
+abbrev pub with_joined : WordsV → List ℕ → Option JoinedV → WordsV
+with_joined ws w (Some joined) = with_value ws joined.choice joined.value
+with_joined ws w None = record ws { unknown = or_first ws.unknown w }
+
+-- the value of an option is the next word, or in the same one
+abbrev pub with_option : Command → WordsV → List ℕ → WordsV
+with_option command ws w = by_choice (option_of command w)
+  where
+    by_choice : Option Choice → WordsV
+    by_choice (Some choice) = with_choice ws choice
+    by_choice None = with_joined ws w (joined_in command w)
+
 abbrev pub with_word : Command → WordsV → List ℕ → WordsV
 with_word command ws w = by_want ws.wants
   where
     by_want : Option Choice → WordsV
     by_want (Some choice) = with_value (record ws { wants = None }) choice w
-    by_want None = if is_option w then with_option ws w (option_of command w)
+    by_want None = if is_option w then with_option command ws w
         else record ws { files = ws.files ++ w ∷ [] }
 
 abbrev pub not_negative : Option Number → Option ℕ
