@@ -42,7 +42,7 @@ class Case:
 
     def add(self, line):
         """Adds a line of the case's file."""
-        beside = re.match(r"([\w./]+)([|:>]) ?(.*)", line)
+        beside = re.match(r"([-\w./]+)([|:>]) ?(.*)", line)
         mark, said = line[0], line[2:]
         if mark == "$":
             self.words = said.split()

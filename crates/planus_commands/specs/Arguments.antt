@@ -33,6 +33,7 @@ pub record WordsV : Type 0 where
   pub output : Option (List ℕ)
   pub check : Bool
   pub help : Bool
+  pub only_files : Bool
   pub wants : Option Choice
   pub unknown : Option (List ℕ)
 
@@ -49,6 +50,7 @@ no_words = record {
   output = None;
   check = false;
   help = false;
+  only_files = false;
   wants = None;
   unknown = None;
 }
@@ -66,6 +68,7 @@ words_of w = record {
   output = option_map (λ s. s.now) w.output;
   check = w.check;
   help = w.help;
+  only_files = w.only_files;
   wants = w.wants;
   unknown = option_map (λ s. s.now) w.unknown;
 }
@@ -172,8 +175,10 @@ with_word command ws w = by_want ws.wants
   where
     by_want : Option Choice → WordsV
     by_want (Some choice) = with_value (record ws { wants = None }) choice w
-    by_want None = if is_option w then with_option command ws w
-        else record ws { files = ws.files ++ w ∷ [] }
+    by_want None = if ws.only_files || not (is_option w)
+        then record ws { files = ws.files ++ w ∷ [] }
+        else if bytes_eq w (codes "--") then record ws { only_files = true }
+        else with_option command ws w
 
 abbrev pub not_negative : Option Number → Option ℕ
 not_negative None = None

@@ -66,7 +66,7 @@ abbrev pub version_text : List ℕ
 version_text = codes "planus 0.1.0\n"
 
 abbrev pub help_text : List ℕ
-help_text = codes "planus reads schemas of flatbuffers, shows buffers by them, and prints their code.\n\nusage: planus check [-I FOLDER].. SCHEMA..\n       planus format [--write] [--drop-comments] SCHEMA..\n       planus view [OPTION].. SCHEMA BUFFER\n       planus rattle [--check] [-I FOLDER].. SCHEMA -o FOLDER\n       planus help [COMMAND], planus [COMMAND] --help, planus --version\n\nSCHEMA and BUFFER are files, or - for standard input. The value of an option may be in\nthe same word: -IFOLDER, -oFOLDER, --root=NAME. -h is --help, and -V is --version.\n"
+help_text = codes "planus reads schemas of flatbuffers, shows buffers by them, and prints their code.\n\nusage: planus check [-I FOLDER].. SCHEMA..\n       planus format [--write] [--drop-comments] SCHEMA..\n       planus view [OPTION].. SCHEMA BUFFER\n       planus rattle [--check] [-I FOLDER].. SCHEMA -o FOLDER\n       planus help [COMMAND], planus [COMMAND] --help, planus --version\n\nSCHEMA and BUFFER are files, or - for standard input; after --, each word is one. The\nvalue of an option may be in the same word: -IFOLDER, -oFOLDER, --root=NAME. -h is\n--help, and -V is --version.\n"
 
 abbrev pub help_of : Command → List ℕ
 help_of Check = codes "usage: planus check [-I FOLDER].. SCHEMA..\n\nSays on standard error what is wrong with each schema and the files that it includes,\nor nothing. Included files are sought beside the file and in each FOLDER.\nEnds with 0 where nothing is wrong, with 1 where a schema has a fault, and with 2\nwhere the call is wrong or a file can't be read.\n"

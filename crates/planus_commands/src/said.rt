@@ -29,8 +29,9 @@ usage: planus check [-I FOLDER].. SCHEMA..
        planus rattle [--check] [-I FOLDER].. SCHEMA -o FOLDER
        planus help [COMMAND], planus [COMMAND] --help, planus --version
 
-SCHEMA and BUFFER are files, or - for standard input. The value of an option may be in
-the same word: -IFOLDER, -oFOLDER, --root=NAME. -h is --help, and -V is --version.
+SCHEMA and BUFFER are files, or - for standard input; after --, each word is one. The
+value of an option may be in the same word: -IFOLDER, -oFOLDER, --root=NAME. -h is
+--help, and -V is --version.
 ";
 
 const HELP_OF_CHECK: &str = "\
