@@ -120,7 +120,7 @@ def difference(program, folder, case):
     for name, text in case.left.items():
         if (folder / name).read_bytes() != text.encode():
             return f"{name} holds {(folder / name).read_bytes()}"
-    if case.words[0] == "view" and not ends_damaged(program, folder, case):
+    if case.words[:1] == ["view"] and not ends_damaged(program, folder, case):
         return "it doesn't end so for each changed byte"
     return ""
 

@@ -205,8 +205,8 @@ pub data Asked : Type 0 where
   no_command : Asked
   unknown_command : List ℕ → Asked
   unknown_option : Command → List ℕ → Asked
-  no_value : Choice → Asked
-  no_schema : Asked
+  no_value : Command → Choice → Asked
+  no_schema : Command → Asked
   no_buffer : Asked
   no_number : List ℕ → Asked
   several_schemas : Asked
@@ -220,8 +220,8 @@ asked (code.Run command words) = run command (words_of words)
 asked code.NoCommand = no_command
 asked (code.UnknownCommand w) = unknown_command w.now
 asked (code.UnknownOption command w) = unknown_option command w.now
-asked (code.NoValue choice) = no_value choice
-asked code.NoSchema = no_schema
+asked (code.NoValue command choice) = no_value command choice
+asked (code.NoSchema command) = no_schema command
 asked code.NoBuffer = no_buffer
 asked (code.NoNumber w) = no_number w.now
 asked code.SeveralSchemas = several_schemas
@@ -257,8 +257,8 @@ abbrev pub request_by : Command → WordsV → Asked
 request_by command ws = unknown_or ws.unknown
   where
     value_or : Option Choice → Asked
-    value_or (Some choice) = no_value choice
-    value_or None = if is_empty ws.files then no_schema else run_request command ws
+    value_or (Some choice) = no_value command choice
+    value_or None = if is_empty ws.files then no_schema command else run_request command ws
 
     unknown_or : Option (List ℕ) → Asked
     unknown_or (Some w) = unknown_option command w

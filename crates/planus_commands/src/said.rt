@@ -1,12 +1,13 @@
 //! What is written of a call that names no schema.
 
-ghost use Rattle.std.specs.Prelude.{◌≡◌, ◌++◌, codes, true, IfOk};
+ghost use Rattle.std.specs.Prelude.{◌≡◌, ◌++◌, codes, true, false, IfOk};
 ghost use Rattle.std.specs.Option.{option_map};
 ghost use Rattle.planus_commands.specs.Arguments.{asked};
 ghost use Rattle.planus_commands.specs.Said.{first_letter as first_letter_lem};
 ghost use Rattle.planus_commands.specs.Said.{command_hint as command_hint_lem};
 ghost use Rattle.planus_commands.specs.Said.{option_hint as option_hint_lem};
 ghost use Rattle.planus_commands.specs.Said.{help_of as help_of_lem, help_text, no_value_text};
+ghost use Rattle.planus_commands.specs.Said.{usage_of as usage_of_lem, details_of as details_of_lem};
 ghost use Rattle.planus_commands.specs.Said.{said_text as said_text_lem};
 ghost use Rattle.planus_commands.specs.Said.{said_of as said_of_lem, said_view, Says};
 ghost use Rattle.planus_commands.specs.Shown.{shown};
@@ -34,27 +35,30 @@ value of an option may be in the same word: -IFOLDER, -oFOLDER, --root=NAME. -h 
 --help, and -V is --version.
 ";
 
-const HELP_OF_CHECK: &str = "\
-usage: planus check [-I FOLDER].. SCHEMA..
+const PROGRAM_USAGE: &str =
+    "usage: planus COMMAND ..; the commands are check, format, view, rattle and help\n";
 
+const USAGE_OF_CHECK: &str = "usage: planus check [-I FOLDER].. SCHEMA..\n";
+
+const DETAILS_OF_CHECK: &str = "
 Says on standard error what is wrong with each schema and the files that it includes,
 or nothing. Included files are sought beside the file and in each FOLDER.
 Ends with 0 where nothing is wrong, with 1 where a schema has a fault, and with 2
 where the call is wrong or a file can't be read.
 ";
 
-const HELP_OF_FORMAT: &str = "\
-usage: planus format [--write] [--drop-comments] SCHEMA..
+const USAGE_OF_FORMAT: &str = "usage: planus format [--write] [--drop-comments] SCHEMA..\n";
 
+const DETAILS_OF_FORMAT: &str = "
 Prints the canonical text of each schema.
 
   --write          replaces each file by its text
   --drop-comments  does so where comments are lost, all but documentation
 ";
 
-const HELP_OF_VIEW: &str = "\
-usage: planus view [OPTION].. SCHEMA BUFFER
+const USAGE_OF_VIEW: &str = "usage: planus view [OPTION].. SCHEMA BUFFER\n";
 
+const DETAILS_OF_VIEW: &str = "
 Prints what a buffer holds, a line a value, as far as the lines and bytes go.
 
   --root NAME      the root is this table, and not that of the schema
@@ -67,9 +71,9 @@ Ends with 0 where all is shown, with 1 where something is wrong with the buffer 
 more follows, and with 2 where the call is wrong or a file can't be read.
 ";
 
-const HELP_OF_RATTLE: &str = "\
-usage: planus rattle [--check] [-I FOLDER].. SCHEMA -o FOLDER
+const USAGE_OF_RATTLE: &str = "usage: planus rattle [--check] [-I FOLDER].. SCHEMA -o FOLDER\n";
 
+const DETAILS_OF_RATTLE: &str = "
 Prints the code of a schema as a crate: its files in FOLDER, whose last word is the
 crate's name. A file that has its text already is left alone.
 
@@ -81,6 +85,8 @@ Ends with 0 where all is printed, with 1 where the schema has a fault or somethi
 that isn't supported, or --check names a file, and with 2 where the call is wrong or
 a file can't be read or written.
 ";
+
+const NO_COMMAND: &str = "planus: no command is given\n";
 
 const NO_SCHEMA: &str = "planus: no schema is named; - is standard input\n";
 
@@ -167,14 +173,28 @@ fn help() -> &'static str
     HELP
 }
 
-fn help_of(command: Command) -> &'static str
-    ensures { result.now ≡ help_of_lem command }
+/// Returns how a command is called, or the program.
+#[tactic(auto, unfolding(crate::specs::Said::usage_of))]
+fn usage_of(command: Option<Command>) -> &'static str
+    ensures { result.now ≡ usage_of_lem command }
 {
     match command {
-        Command::Check => HELP_OF_CHECK,
-        Command::Format => HELP_OF_FORMAT,
-        Command::View => HELP_OF_VIEW,
-        Command::Rattle => HELP_OF_RATTLE,
+        None => PROGRAM_USAGE,
+        Some(Command::Check) => USAGE_OF_CHECK,
+        Some(Command::Format) => USAGE_OF_FORMAT,
+        Some(Command::View) => USAGE_OF_VIEW,
+        Some(Command::Rattle) => USAGE_OF_RATTLE,
+    }
+}
+
+fn details_of(command: Command) -> &'static str
+    ensures { result.now ≡ details_of_lem command }
+{
+    match command {
+        Command::Check => DETAILS_OF_CHECK,
+        Command::Format => DETAILS_OF_FORMAT,
+        Command::View => DETAILS_OF_VIEW,
+        Command::Rattle => DETAILS_OF_RATTLE,
     }
 }
 
@@ -197,16 +217,35 @@ fn said_text(alloc: Global, wrong: bool, text: &str) -> Result<Option<Said>, All
     Ok(Some(Said { wrong, text }))
 }
 
+fn help_of(alloc: Global, command: Command) -> Result<Option<Said>, AllocError>
+    ensures { IfOk result (λ said. option_map said_view said
+        ≡ said_text_lem false (help_of_lem command)) }
+{
+    let mut text = Vec::from_slice(alloc, usage_of(Some(command)).as_bytes())?;
+    text.extend_from_slice(details_of(command).as_bytes())?;
+    Ok(Some(Said { wrong: false, text }))
+}
+
+fn wrong(alloc: Global, line: &str, command: Option<Command>) -> Result<Option<Said>, AllocError>
+    ensures { IfOk result (λ said. option_map said_view said
+        ≡ said_text_lem true (line.now ++ usage_of_lem command)) }
+{
+    let mut text = Vec::from_slice(alloc, line.as_bytes())?;
+    text.extend_from_slice(usage_of(command).as_bytes())?;
+    Ok(Some(Said { wrong: true, text }))
+}
+
 fn about(
     alloc: Global,
     before: &str,
     word: &str,
     after: &str,
     hint: &str,
+    command: Option<Command>,
 ) -> Result<Option<Said>, AllocError>
     ensures { IfOk result (λ said. option_map said_view said ≡ said_text_lem true
         (codes "planus: " ++ (before.now ++ (codes "`" ++ (shown word.now ++ (codes "`"
-        ++ (after.now ++ (hint.now ++ codes "\n")))))))) }
+        ++ (after.now ++ (hint.now ++ (codes "\n" ++ usage_of_lem command))))))))) }
 {
     let mut text = Vec::from_slice(alloc, b"planus: ")?;
     text.extend_from_slice(before.as_bytes())?;
@@ -216,6 +255,7 @@ fn about(
     text.extend_from_slice(after.as_bytes())?;
     text.extend_from_slice(hint.as_bytes())?;
     text.push(b'\n')?;
+    text.extend_from_slice(usage_of(command).as_bytes())?;
     Ok(Some(Said { wrong: true, text }))
 }
 
@@ -226,26 +266,35 @@ pub fn said_of(alloc: Global, request: &Request<'_>) -> Result<Option<Said>, All
     match request {
         Request::Run { .. } => Ok(None),
         Request::Help => said_text(alloc, false, help()),
-        Request::HelpOf(command) => said_text(alloc, false, help_of(*command)),
+        Request::HelpOf(command) => help_of(alloc, *command),
         Request::Version => said_text(alloc, false, VERSION),
-        Request::NoCommand => said_text(alloc, true, help()),
+        Request::NoCommand => wrong(alloc, NO_COMMAND, None),
         Request::UnknownCommand(word) => {
-            about(alloc, "unknown command ", *word, "; ", command_hint(*word))
+            about(
+                alloc,
+                "unknown command ",
+                *word,
+                "; ",
+                command_hint(*word),
+                None,
+            )
         }
         Request::UnknownOption(command, word) => {
             let hint = option_hint(*command, *word);
-            about(alloc, "unknown option ", *word, "; ", hint)
+            about(alloc, "unknown option ", *word, "; ", hint, Some(*command))
         }
-        Request::NoValue(choice) => said_text(alloc, true, no_value(*choice)),
-        Request::NoSchema => said_text(alloc, true, NO_SCHEMA),
-        Request::NoBuffer => said_text(alloc, true, NO_BUFFER),
-        Request::NoNumber(word) => about(alloc, "", *word, " is no number", ""),
-        Request::SeveralSchemas => said_text(alloc, true, SEVERAL_SCHEMAS),
-        Request::NoOutput => said_text(alloc, true, NO_OUTPUT),
+        Request::NoValue(command, choice) => wrong(alloc, no_value(*choice), Some(*command)),
+        Request::NoSchema(command) => wrong(alloc, NO_SCHEMA, Some(*command)),
+        Request::NoBuffer => wrong(alloc, NO_BUFFER, Some(Command::View)),
+        Request::NoNumber(word) => {
+            about(alloc, "", *word, " is no number", "", Some(Command::View))
+        }
+        Request::SeveralSchemas => wrong(alloc, SEVERAL_SCHEMAS, Some(Command::Rattle)),
+        Request::NoOutput => wrong(alloc, NO_OUTPUT, Some(Command::Rattle)),
     }
 }
 
-/// Writes help or the version, or reports a wrong call. Returns the exit status, or `None` for a
+/// Writes help or the version, or reports a wrong call and how one is. Returns the exit status, or `None` for a
 /// command.
 ///
 /// Fails where writing fails.
