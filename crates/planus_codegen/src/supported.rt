@@ -18,8 +18,8 @@ const MOST_VALUES: usize = 256;
 const GREATEST_NUMBER: u64 = 9_223_372_036_854_775_807;
 
 /// The most members of a union: the borrow checker covers the first 128 variants of an enum that
-/// has references.
-const MOST_MEMBERS: usize = 128;
+/// has references, and that of a verified view has one for other tags.
+const MOST_MEMBERS: usize = 127;
 
 fn unsupported_field(field: &TableField) -> Option<&'static str> {
     match &field.default {
@@ -79,7 +79,7 @@ fn unsupported_union(one: &Union) -> Option<&'static str> {
         return Some("a union without members");
     }
     if one.members.len() > MOST_MEMBERS {
-        return Some("a union of more than 128 members");
+        return Some("a union of more than 127 members");
     }
     None
 }
