@@ -9,34 +9,37 @@ use std::alloc::Global;
 const MOST_SHIPS: usize = 10_000;
 
 // An enum's number and a union's tag may be of a newer schema.
+fn is_newer(error: &planus::Error) -> bool {
+    matches!(
+        error.error_kind,
+        ErrorKind::UnknownEnumTag { .. } | ErrorKind::UnknownUnionTag { .. }
+    )
+}
+
 fn is_read<T>(read: &planus::Result<T>) -> bool {
     match read {
         Ok(_) => true,
-        Err(error) => matches!(
-            error.error_kind,
-            ErrorKind::UnknownEnumTag { .. } | ErrorKind::UnknownUnionTag { .. }
-        ),
+        Err(error) => is_newer(error),
     }
 }
 
 fn is_person(person: &PersonRef<'_>) -> bool {
-    is_read(&person.name()) && is_read(&person.age())
+    matches!(person.name(), Ok(_)) && matches!(person.age(), Ok(_))
 }
 
 fn is_company(company: &CompanyRef<'_>) -> bool {
-    is_read(&company.title()) && is_read(&company.vat())
+    matches!(company.title(), Ok(_)) && matches!(company.vat(), Ok(_))
 }
 
-fn is_owner(owner: &planus::Result<OwnerRef<'_>>) -> bool {
+fn is_owner(owner: &OwnerRef<'_>) -> bool {
     match owner {
-        Ok(OwnerRef::Person(person)) => is_person(person),
-        Ok(OwnerRef::Firm(company)) => is_company(company),
-        other => is_read(other),
+        OwnerRef::Person(person) => is_person(person),
+        OwnerRef::Firm(company) => is_company(company),
     }
 }
 
 fn has_numbers(ship: &ShipRef<'_>) -> bool {
-    is_read(&ship.name())
+    matches!(ship.name(), Ok(_))
         && is_read(&ship.hull())
         && is_read(&ship.kind())
         && is_read(&ship.level())
@@ -53,13 +56,13 @@ fn has_numbers(ship: &ShipRef<'_>) -> bool {
 }
 
 fn has_vectors(ship: &ShipRef<'_>) -> bool {
-    is_read(&ship.cargo())
-        && is_read(&ship.track())
-        && is_read(&ship.photo())
-        && is_read(&ship.kinds())
-        && is_read(&ship.temps())
-        && is_read(&ship.deltas())
-        && is_read(&ship.flags())
+    matches!(ship.cargo(), Ok(_))
+        && matches!(ship.track(), Ok(_))
+        && matches!(ship.photo(), Ok(_))
+        && matches!(ship.kinds(), Ok(_))
+        && matches!(ship.temps(), Ok(_))
+        && matches!(ship.deltas(), Ok(_))
+        && matches!(ship.flags(), Ok(_))
 }
 
 fn has_names(ship: &ShipRef<'_>) -> bool {
@@ -72,38 +75,48 @@ fn has_names(ship: &ShipRef<'_>) -> bool {
             }
             true
         }
-        other => is_read(&other),
+        Ok(None) => true,
+        Err(_) => false,
     }
 }
 
-fn has_owners(ship: &ShipRef<'_>) -> bool {
-    let owner = match ship.owner() {
-        Ok(Some(owner)) => is_owner(&Ok(owner)),
-        other => is_read(&other),
+fn has_owner(ship: &ShipRef<'_>) -> bool {
+    match ship.owner() {
+        Ok(Some(owner)) => is_owner(&owner),
+        Ok(None) => true,
+        Err(error) => is_newer(&error),
+    }
+}
+
+fn has_shares(ship: &ShipRef<'_>) -> bool {
+    let shares = match ship.shares() {
+        Ok(Some(shares)) => shares,
+        Ok(None) => return true,
+        Err(_) => return false,
     };
-    owner
-        && match ship.shares() {
-            Ok(Some(shares)) => {
-                for i in 0..shares.len() {
-                    if !matches!(union_item(&shares, i), Some(owner) if is_owner(&owner)) {
-                        return false;
-                    }
-                }
-                true
-            }
-            other => is_read(&other),
+    for i in 0..shares.len() {
+        let is_there = match union_item(&shares, i) {
+            Some(Ok(owner)) => is_owner(&owner),
+            Some(Err(error)) => is_newer(&error),
+            None => false,
+        };
+        if !is_there {
+            return false;
         }
+    }
+    true
 }
 
 fn has_fields(ship: &ShipRef<'_>) -> bool {
-    has_numbers(ship) && has_vectors(ship) && has_names(ship) && has_owners(ship)
+    has_numbers(ship) && has_vectors(ship) && has_names(ship) && has_owner(ship) && has_shares(ship)
 }
 
 // Adds the ship that a ship refers to by its mate, if it is read.
 fn adds_mate<'a>(ship: &ShipRef<'a>, ships: &mut Vec<ShipRef<'a>>) -> bool {
     match ship.mate() {
         Ok(Some(mate)) => ships.push(mate).is_ok(),
-        other => is_read(&other),
+        Ok(None) => true,
+        Err(_) => false,
     }
 }
 
@@ -111,16 +124,17 @@ fn adds_mate<'a>(ship: &ShipRef<'a>, ships: &mut Vec<ShipRef<'a>>) -> bool {
 fn adds_consorts<'a>(ship: &ShipRef<'a>, ships: &mut Vec<ShipRef<'a>>) -> bool {
     let consorts = match ship.consorts() {
         Ok(Some(consorts)) => consorts,
-        other => return is_read(&other),
+        Ok(None) => return true,
+        Err(_) => return false,
     };
     for i in 0..consorts.len() {
-        let consort: Option<planus::Result<ShipRef<'a>>> = table_item(consorts.get(i));
-        let added = match consort {
-            Some(Ok(consort)) => ships.push(consort).is_ok(),
-            _ => false,
-        };
-        if !added {
-            return false;
+        match table_item(consorts.get(i)) {
+            Some(Ok(consort)) => {
+                if ships.push(consort).is_err() {
+                    return false;
+                }
+            }
+            _ => return false,
         }
     }
     true
