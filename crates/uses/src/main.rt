@@ -26,7 +26,10 @@ fn main(rt: HostRuntime) -> io::Result<()> {
     }
 
     match verify_root::<PersonView<'_>>(bytes, Limits::default()) {
-        Ok(pia) => println!(rt; "verified: {}, aged {}", pia.name(), pia.age()),
+        Ok(pia) => {
+            println!(rt; "verified: {}, aged {}", pia.name(), pia.age())?;
+            println!(rt; "checked again: {:?}", pia.checked().age())
+        }
         Err(fault) => println!(rt; "{fault:?}"),
     }
 }
