@@ -71,7 +71,7 @@ is_of_planus w = starts_with nat_eq w (codes "planus")
 abbrev pub is_crate_name : List ℕ → Bool
 is_crate_name w = is_word w && not (is_reserved w || is_library w || is_of_planus w)
 
--- what a repository says of the crate: it stands on `planus`
+-- what a repository says of the crate: it stands on `planus` and `planus_views`
 abbrev pub crates_line : List ℕ → List ℕ
 crates_line name = line_of (codes "the line of crates.txt is `") name (codes ": planus planus_views`")
 
