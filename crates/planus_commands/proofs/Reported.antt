@@ -1,10 +1,14 @@
--- Reports one after another.
+-- Reports.
 use Rattle.std.proofs.Common.{ℕ, List, [], ◌∷◌, ◌++◌, refl, sym, ap, ◌∙◌}
 use Rattle.std.proofs.Common.{append-nil, append_assoc}
 use Rattle.planus_syntax.specs.Values.{Name}
+use Rattle.planus_syntax.specs.Parsed.{IsRefusal}
+use Rattle.planus_syntax.specs.declared.text.SchemaError.{SchemaError}
+use Rattle.planus_syntax.specs.declared.text.SchemaError.TheVariants as whole
 use Rattle.planus_schema.specs.declared.fault.Fault.{Fault}
 use Rattle.planus_commands.specs.declared.checking.File.{File}
 use Rattle.planus_commands.specs.Checks.{AreReports, IsReportAdded}
+use Rattle.planus_commands.specs.Outcomes.{ReportsError}
 
 pub reports_push : (names : List Name) (files : List File) (faults : List Fault) (fault : Fault) (old new : List ℕ)
     → AreReports names files faults old → IsReportAdded names files fault old new
@@ -27,3 +31,9 @@ reports_push names files (f ∷ fs) fault old new j a = record {
   });
   joined = a.added ∙ ap (λ x. x ++ a.report) j.joined ∙ append_assoc j.first j.rest a.report;
 }
+
+-- refused memory is not reported
+pub not_reported : (name text : List ℕ) (e : SchemaError) (report : List ℕ) → IsRefusal e → ReportsError name text e report → ⊥
+not_reported name text whole.OutOfMemory report h r = r
+not_reported name text (whole.Token fault at) report h r = h
+not_reported name text (whole.Declaration fault index at) report h r = h

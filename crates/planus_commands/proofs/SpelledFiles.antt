@@ -4,7 +4,7 @@ use Rattle.std.proofs.Common.{◌≡◌, ℕ, List, [], ◌∷◌, ◌++◌, len
 use Rattle.std.specs.List.{All}
 use Rattle.std.specs.Global.{Vec}
 use Rattle.planus_syntax.specs.declared.value.Declaration.{Declaration}
-use Rattle.planus_syntax.specs.Values.{schema_of, schema_pieces}
+use Rattle.planus_syntax.specs.Values.{SchemaV, declarations_of, schema_pieces}
 use Rattle.planus_syntax.proofs.Composed.{spelled_lexes}
 use Rattle.planus_schema.specs.declared.fault.Fault.{Fault}
 use Rattle.planus_schema.specs.declared.fault.Refusal.{Refusal}
@@ -20,7 +20,10 @@ use Rattle.std.specs.String.{string_bytes}
 use Rattle.std.proofs.lemmas.List.Elements.{All-append}
 
 pub spelled_tokens : (text : List ℕ) (ds : List Declaration) → IsSpelled text ds → HasTokens text
-spelled_tokens text ds h = (schema_pieces (schema_of ds), spelled_lexes text (schema_of ds) h.spelled)
+spelled_tokens text ds h = (schema_pieces schema, spelled_lexes text schema h.spelled)
+  where
+    schema : SchemaV
+    schema = record { declarations = declarations_of ds; trailing = h.trailing }
 
 pub spelled_length : (fs : List File) (ds : List (Vec Declaration)) → AreSpelled fs ds → length fs ≡ length ds
 spelled_length [] [] h = refl

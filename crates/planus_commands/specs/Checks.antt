@@ -9,7 +9,7 @@ use Rattle.std.specs.Io.KnownBytes.{Appends, Keeps}
 use Rattle.std.specs.Global.{Vec}
 use Rattle.planus_dump.specs.Writing.{WritesBeginning}
 use Rattle.planus_syntax.specs.Strings.{is_quote}
-use Rattle.planus_syntax.specs.Values.{Name, DeclarationV, schema_of}
+use Rattle.planus_syntax.specs.Values.{Name, DeclarationV, declarations_of}
 use Rattle.planus_syntax.specs.declared.value.Declaration.{Declaration}
 use Rattle.planus_schema.specs.Faults.{AreInOrder, faults_found}
 use Rattle.planus_commands.specs.declared.streams.RunError.{RunError}
@@ -77,7 +77,7 @@ AreReports names files (fault ∷ faults) out =
     Joins (IsReportIn names files fault) (AreReports names files faults) out
 
 abbrev pub schemas_of : List (Vec Declaration) → List (List DeclarationV)
-schemas_of declarations = map (λ f. schema_of f.items) declarations
+schemas_of declarations = map (λ f. declarations_of f.items) declarations
 
 -- these are the files' faults, at least one
 pub record AreTold (declarations : List (Vec Declaration)) (faults : List Fault) : Type 0 where

@@ -9,7 +9,7 @@ use Rattle.planus_syntax.specs.Tokens.{is_blank}
 use Rattle.planus_syntax.specs.Layout.{printed}
 use Rattle.planus_syntax.specs.Spelled.{Part, token, blank, comment, block, AreParts}
 use Rattle.planus_syntax.specs.Spelled.{spelled, tokens_in}
-use Rattle.planus_syntax.specs.Values.{DeclarationV, text_of}
+use Rattle.planus_syntax.specs.Values.{SchemaV, text_of}
 use Rattle.planus_syntax.specs.Parsed.{IsFaultOf, Spells}
 use Rattle.planus_commands.specs.declared.streams.RunError.{RunError}
 use Rattle.planus_commands.specs.declared.streams.RunError.TheVariants.{OutOfMemory, Read, Write}
@@ -24,7 +24,7 @@ use Rattle.planus_syntax.specs.Lexing.{lex_of}
 use Rattle.planus_syntax.specs.Placing.{StandsAt}
 use Rattle.planus_syntax.specs.Counting.{AreCounted}
 use Rattle.planus_syntax.specs.declared.value.Declaration.{Declaration}
-use Rattle.planus_syntax.specs.Values.{AreWhole, schema_of}
+use Rattle.planus_syntax.specs.Values.{AreWhole, declarations_of}
 use Rattle.planus_commands.specs.declared.outcome.Printed.TheVariants.{Text, Report}
 use Rattle.planus_commands.specs.Shown.{shown}
 use Rattle.planus_commands.specs.Reports.{report_text, lex_message, parse_message}
@@ -44,17 +44,22 @@ Reports name text report =
 -- The first spells a schema, whose canonical text is the second.
 abbrev pub Formats : List ℕ → List ℕ → Type 0
 Formats text out =
-    (schema : List DeclarationV) × Spells text schema × (out ≡ text_of schema)
+    (schema : SchemaV) × Spells text schema × (out ≡ text_of schema)
 
--- The text spells these declarations, each `left` of which counts the tokens from its word.
+-- The text spells these declarations, before the documentation that it ends with. Each `left` counts
+-- the tokens from its word.
 pub record IsSpelled (text : List ℕ) (declarations : List Declaration) : Type 0 where
-  pub spelled : Spells text (schema_of declarations)
-  pub counted : AreCounted declarations
+  pub trailing : List (List ℕ)
+  pub spelled : Spells text (record {
+    declarations = declarations_of declarations;
+    trailing = trailing;
+  })
+  pub counted : AreCounted declarations trailing
 
 -- the text's declarations, or the report of its first fault
 abbrev pub IsParsed : List ℕ → List ℕ → Parsed → Type 0
 IsParsed name text (parsed.Declarations ds) =
-    IsSpelled text ds.items × AreWhole (schema_of ds.items)
+    IsSpelled text ds.items × AreWhole (declarations_of ds.items)
 IsParsed name text (parsed.Faulty report) = Reports name text report.items
 
 -- the text is tokens, blanks and comments
@@ -77,7 +82,7 @@ IsOutcome name text (Formatted out) = Formats text out.items
 IsOutcome name text (Faulty report) = Reports name text report.items
 
 -- the outcome of a text that spells this schema
-abbrev pub IsTextOf : List DeclarationV → Outcome → Type 0
+abbrev pub IsTextOf : SchemaV → Outcome → Type 0
 IsTextOf schema (Formatted out) = out.items ≡ text_of schema
 IsTextOf schema (Faulty report) = ⊥
 

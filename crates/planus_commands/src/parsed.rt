@@ -20,7 +20,7 @@ pub fn parse_or_report(alloc: Global, name: &str, text: &[u8]) -> Result<Parsed,
     ensures { IfOk result (λ parsed. IsParsed name.now text.now parsed) }
 {
     match parse_text(alloc, text) {
-        Ok(declarations) => Ok(Parsed::Declarations(declarations)),
+        Ok(schema) => Ok(Parsed::Declarations(schema.declarations)),
         Err(error) => Ok(Parsed::Faulty(error_report(alloc, name, text, error)?)),
     }
 }

@@ -2,7 +2,7 @@
 
 ghost use Rattle.std.specs.Prelude.{◌≡◌, count_by, List, IfOk, IfErr, length, Result, Ok, Err};
 ghost use Rattle.std.specs.Io.KnownBytes.{Appends, Keeps};
-ghost use Rattle.planus_syntax.specs.Values.{AreWhole, DeclarationV};
+ghost use Rattle.planus_syntax.specs.Values.{AreWhole, SchemaV};
 ghost use Rattle.planus_syntax.specs.Parsed.{LiesIn, Spells};
 ghost use Rattle.planus_commands.specs.Outcomes.{IsOutcome, IsTextOf, Reports, ReportsError};
 ghost use Rattle.planus_commands.specs.Outcomes.{Prints, FailsPrinting};
@@ -47,7 +47,7 @@ pub(crate) fn error_report(
 pub fn outcome_of(alloc: Global, name: &str, text: &[u8]) -> Result<Outcome, AllocError>
     ensures outcome { IfOk result (λ outcome. IsOutcome name.now text.now outcome) }
     // A text that spells a schema is formatted.
-    ensures only { (schema : List DeclarationV) → AreWhole schema → Spells text.now schema
+    ensures only { (schema : SchemaV) → AreWhole schema.declarations → Spells text.now schema
         → IfOk result (λ outcome. IsTextOf schema outcome) }
 {
     match format_text(alloc, text) {

@@ -16,7 +16,7 @@ use Rattle.planus_schema.specs.Names.{is_set, head_of, heads_of}
 use Rattle.planus_schema.specs.Wrong.{Broken, when, first, Stops}
 use Rattle.planus_schema.specs.Faults.{IsExact, AreInOrder, first_twenty, Adds, fault_in, broken_in, is_index, measure_or_byte, placed_of, placed_from, name_faults, body_faults, file_faults, faults_found}
 use Rattle.std.specs.Global.{Vec}
-use Rattle.planus_syntax.specs.Values.{schema_of}
+use Rattle.planus_syntax.specs.Values.{declarations_of}
 use Rattle.planus_syntax.specs.declared.value.Declaration.{Declaration}
 use Rattle.planus_schema.specs.declared.head.Head.{Head}
 use Rattle.planus_schema.specs.Uses.{taken_otherwise}
@@ -132,10 +132,10 @@ pub refusal_told : (found : List Fault) (r : Refusal) → IsToldOf found r → I
 refusal_told found refusal.OutOfMemory h = tt
 refusal_told found (refusal.Faults v) h = h.1
 
-pub all_found : (files : List (Vec Declaration)) (hs : List Head) (start x y z w : List Fault) → start ≡ [] → map head_of hs ≡ heads_of (map (λ f. schema_of f.items) files) → map placed_of hs ≡ placed_from 0 files → Adds (name_faults (map head_of hs) 0 (map placed_of hs)) start x → Adds (body_faults (map head_of hs) [] (map placed_of hs)) x y → Adds (file_faults (map head_of hs) (known_attributes files) 0 0 files) y z → Adds (taken_otherwise (map head_of hs) files) z w → w ≡ faults_found files
+pub all_found : (files : List (Vec Declaration)) (hs : List Head) (start x y z w : List Fault) → start ≡ [] → map head_of hs ≡ heads_of (map (λ f. declarations_of f.items) files) → map placed_of hs ≡ placed_from 0 files → Adds (name_faults (map head_of hs) 0 (map placed_of hs)) start x → Adds (body_faults (map head_of hs) [] (map placed_of hs)) x y → Adds (file_faults (map head_of hs) (known_attributes files) 0 0 files) y z → Adds (taken_otherwise (map head_of hs) files) z w → w ≡ faults_found files
 all_found files hs start x y z w s h p a b c d =
     let names = name_faults (map head_of hs) 0 (map placed_of hs) in
     let first = subst (λ xs. Adds names xs x) s a in
     adds_four names (body_faults (map head_of hs) [] (map placed_of hs)) (file_faults (map head_of hs) (known_attributes files) 0 0 files) (taken_otherwise (map head_of hs) files) x y z w first b c d
     ∙ ap (λ gs. first_twenty (name_faults gs 0 (map placed_of hs) ++ (body_faults gs [] (map placed_of hs) ++ (file_faults gs (known_attributes files) 0 0 files ++ taken_otherwise gs files)))) h
-    ∙ ap (λ ps. first_twenty (name_faults (heads_of (map (λ f. schema_of f.items) files)) 0 ps ++ (body_faults (heads_of (map (λ f. schema_of f.items) files)) [] ps ++ (file_faults (heads_of (map (λ f. schema_of f.items) files)) (known_attributes files) 0 0 files ++ taken_otherwise (heads_of (map (λ f. schema_of f.items) files)) files)))) p
+    ∙ ap (λ ps. first_twenty (name_faults (heads_of (map (λ f. declarations_of f.items) files)) 0 ps ++ (body_faults (heads_of (map (λ f. declarations_of f.items) files)) [] ps ++ (file_faults (heads_of (map (λ f. declarations_of f.items) files)) (known_attributes files) 0 0 files ++ taken_otherwise (heads_of (map (λ f. declarations_of f.items) files)) files)))) p

@@ -5,7 +5,7 @@ use Rattle.std.specs.List.{All}
 use Rattle.std.specs.Global.{Vec}
 use Rattle.std.proofs.lemmas.List.Elements.{All-nil, All-cons, All-head, All-tail, All-append, All-take}
 use Rattle.std.proofs.lemmas.List.Sorted.{All-permutation}
-use Rattle.planus_syntax.specs.Values.{Name, PathV, DeclarationV, declaration_of, item_of, schema_of}
+use Rattle.planus_syntax.specs.Values.{Name, PathV, DeclarationV, declaration_of, item_of, declarations_of}
 use Rattle.planus_syntax.specs.declared.value.Declaration.{Declaration}
 use Rattle.planus_layout.specs.declared.measure.Measure.{Measure}
 use Rattle.planus_schema.specs.declared.fault.Fault.{Fault}
@@ -47,7 +47,7 @@ statements n hs known file b space (d ∷ ds) h =
 files_within : (n : ℕ) (hs : List HeadV) (known : List Name) (k b : ℕ) (fs : List (Vec Declaration)) → k + length fs ≤ n → All (Within n) (file_faults hs known k b fs)
 files_within n hs known k b [] h = All-nil (Within n)
 files_within n hs known k b (f ∷ fs) h =
-    let c = begun_in b (schema_of f.items) in
+    let c = begun_in b (declarations_of f.items) in
     All-append (Within n) (statement_faults hs known k b None f.items) (file_faults hs known (k + 1) c fs) (statements n hs known k b None f.items (omega (arith, h))) (files_within n hs known (k + 1) c fs (omega (arith, h)))
 
 head_begun : (n file : ℕ) (space : List Name) (v : DeclarationV) (d : Declaration) (o : Option Name) → file < n → All (Begun n) (placed_head d (named_head file space v o))
@@ -68,7 +68,7 @@ found_within : (files : List (Vec Declaration)) → All (Within (length files)) 
 unfolding first_twenty
 found_within files =
     let n = length files in
-    let hs = heads_of (map (λ f. schema_of f.items) files) in
+    let hs = heads_of (map (λ f. declarations_of f.items) files) in
     let ps = all_begun n 0 files (omega arith) in
     let said = file_faults hs (known_attributes files) 0 0 files in
     All-take (Within n) 20 _ (All-append (Within n) (name_faults hs 0 (placed_from 0 files)) (body_faults hs [] (placed_from 0 files) ++ (said ++ taken_otherwise hs files)) (names n hs 0 (placed_from 0 files) ps)

@@ -7,7 +7,7 @@ use Rattle.std.specs.Global.{Vec}
 use Rattle.std.specs.declared.cmp.Ordering.{Ordering}
 use Rattle.std.specs.Ordering.{nat_cmp, ordering_then}
 use Rattle.std.specs.List.Sorted.{IsPermutation, IsSortedByKey, IsStableByKey}
-use Rattle.planus_syntax.specs.Values.{Name, PathV, item_of, schema_of, declaration_of, path_of}
+use Rattle.planus_syntax.specs.Values.{Name, PathV, item_of, declarations_of, declaration_of, path_of}
 use Rattle.planus_syntax.specs.declared.value.Declaration.{Declaration}
 use Rattle.planus_syntax.specs.declared.value.Item.{Item}
 use Rattle.planus_syntax.specs.declared.value.Item.TheVariants as item
@@ -201,7 +201,7 @@ statement_faults hs known file n space (d ∷ ds) =
 abbrev pub file_faults : List HeadV → List Name → ℕ → ℕ → List (Vec Declaration) → List Fault
 file_faults hs known file n [] = []
 file_faults hs known file n (f ∷ fs) = statement_faults hs known file n None f.items
-    ++ file_faults hs known (file + 1) (begun_in n (schema_of f.items)) fs
+    ++ file_faults hs known (file + 1) (begun_in n (declarations_of f.items)) fs
 
 -- ---- the whole
 
@@ -209,7 +209,7 @@ file_faults hs known file n (f ∷ fs) = statement_faults hs known file n None f
 -- for another declaration, at most twenty
 abbrev pub faults_found : List (Vec Declaration) → List Fault
 faults_found files =
-    let hs = heads_of (map (λ f. schema_of f.items) files) in
+    let hs = heads_of (map (λ f. declarations_of f.items) files) in
     first_twenty (name_faults hs 0 (placed_from 0 files)
     ++ (body_faults hs [] (placed_from 0 files)
     ++ (file_faults hs (known_attributes files) 0 0 files ++ taken_otherwise hs files)))

@@ -2,7 +2,7 @@
 
 ghost use Rattle.std.specs.Prelude.{◌≡◌, ◌++◌, ◌∷◌, [], map, fold, take, length, IfOk, OnOk, ◌≤◌};
 ghost use Rattle.std.specs.Option.{option_map};
-ghost use Rattle.planus_syntax.specs.Values.{names_of, item_of, declaration_of, schema_of};
+ghost use Rattle.planus_syntax.specs.Values.{names_of, item_of, declaration_of, declarations_of};
 ghost use Rattle.planus_schema.specs.Names.{with_word, space_of, path_in, heads_at};
 ghost use Rattle.planus_schema.specs.Names.{heads_in};
 ghost use Rattle.planus_schema.specs.Faults.{placed_of, placed_at, placed_in, placed_from};
@@ -155,7 +155,7 @@ fn add_heads<'a>(
     declarations: &'a [Declaration],
 ) -> Result<(), AllocError>
     ensures heads { OnOk result (map head_of heads.new.items ≡ map head_of heads.old.items
-        ++ heads_in file None (schema_of declarations.now)) }
+        ++ heads_in file None (declarations_of declarations.now)) }
     ensures placed { OnOk result (map placed_of heads.new.items ≡ map placed_of heads.old.items
         ++ placed_in file None declarations.now) }
 {
@@ -169,7 +169,7 @@ fn add_heads<'a>(
 
 pub(crate) fn heads(alloc: Global, files: &[Vec<Declaration>]) -> Result<Vec<Head<'_>>, AllocError>
     ensures heads { IfOk result (λ v. map head_of v.items
-        ≡ heads_of (map (λ f. schema_of f.items) files.now)) }
+        ≡ heads_of (map (λ f. declarations_of f.items) files.now)) }
     ensures placed { IfOk result (λ v. map placed_of v.items ≡ placed_from 0 files.now) }
 {
     let mut heads = Vec::new(alloc);
@@ -195,7 +195,7 @@ fn copied_names(alloc: Global, heads: &[Head]) -> Result<Vec<Vec<u8>>, AllocErro
 /// Returns the full names of the tables, structs, enums and unions of these files, in order.
 pub fn full_names(alloc: Global, files: &[Vec<Declaration>]) -> Result<Vec<Vec<u8>>, AllocError>
     ensures { IfOk result (λ v. names_of v.items
-        ≡ map (λ h. h.name) (heads_of (map (λ f. schema_of f.items) files.now))) }
+        ≡ map (λ h. h.name) (heads_of (map (λ f. declarations_of f.items) files.now))) }
 {
     let heads = or_return!(heads(alloc, files));
     copied_names(alloc, &heads)

@@ -1,7 +1,7 @@
 //! The meaning of files.
 
 ghost use Rattle.std.specs.Prelude.{◌≡◌, [], ◌∷◌, ◌++◌, ◌≤◌, ◌+◌, map, length, Some, IfOk, IfErr, OnOk};
-ghost use Rattle.planus_syntax.specs.Values.{schema_of};
+ghost use Rattle.planus_syntax.specs.Values.{declarations_of};
 ghost use Rattle.planus_schema.specs.Names.{head_of, heads_of, space_of, space_at, index_of};
 ghost use Rattle.planus_layout.specs.Distinct.{AreDistinct};
 ghost use Rattle.planus_schema.specs.inner.Read.{IsBodyRead, IsToldOf};
@@ -216,9 +216,9 @@ fn refuse(mut faults: Vec<Fault>) -> Result<(), Refusal>
 
 /// Returns the meaning of files whose declarations are these.
 fn meaning_of(alloc: Global, heads: &Heads, files: &[Vec<Declaration>]) -> Result<Schema, Refusal>
-    requires heads { map head_of heads.now ≡ heads_of (map (λ f. schema_of f.items) files.now) }
+    requires heads { map head_of heads.now ≡ heads_of (map (λ f. declarations_of f.items) files.now) }
     requires placed { map placed_of heads.now ≡ placed_from 0 files.now }
-    ensures means { IfOk result (λ s. Means (map (λ f. schema_of f.items) files.now) s) }
+    ensures means { IfOk result (λ s. Means (map (λ f. declarations_of f.items) files.now) s) }
     ensures none { OnOk result (faults_found files.now ≡ []) }
     ensures faults { IfErr result (λ e. IsRefusal e) }
     ensures exact { IfErr result (λ e. IsExact files.now e) }
@@ -249,7 +249,7 @@ fn meaning_of(alloc: Global, heads: &Heads, files: &[Vec<Declaration>]) -> Resul
 ///
 /// Fails with up to twenty faults.
 pub fn resolve(alloc: Global, files: &[Vec<Declaration>]) -> Result<Schema, Refusal>
-    ensures means { IfOk result (λ s. Means (map (λ f. schema_of f.items) files.now) s) }
+    ensures means { IfOk result (λ s. Means (map (λ f. declarations_of f.items) files.now) s) }
     // A schema is sound, whatever it was read from.
     ensures sound { IfOk result (λ s. IsSound s) }
     // A good schema is returned, and a bad one fails with exactly its faults.

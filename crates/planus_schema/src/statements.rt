@@ -1,7 +1,7 @@
 //! The root, the identifier and the extension.
 
 ghost use Rattle.std.specs.Prelude.{◌≡◌, [], ◌≤◌, map, length, IfOk, OnOk, Some, None};
-ghost use Rattle.planus_syntax.specs.Values.{item_of, schema_of};
+ghost use Rattle.planus_syntax.specs.Values.{item_of, declarations_of};
 ghost use Rattle.planus_schema.specs.inner.Read.{AreStated};
 ghost use Rattle.planus_schema.specs.inner.Scopes.{scope_heads, scope_space};
 ghost use Rattle.planus_schema.specs.Names.{head_of, begun_in};
@@ -70,9 +70,9 @@ fn state_file(
     faults: &mut Vec<Fault>,
 ) -> Result<(), AllocError>
     requires { length faults.old.items ≤ 20 }
-    ensures begun { OnOk result (begun.new ≡ begun_in begun.old (schema_of declarations.now)) }
+    ensures begun { OnOk result (begun.new ≡ begun_in begun.old (declarations_of declarations.now)) }
     ensures stated { OnOk result (AreStated (after_file (map head_of heads.now) begun.old None
-        (said_of statements.old) (schema_of declarations.now)) (statement_faults
+        (said_of statements.old) (declarations_of declarations.now)) (statement_faults
         (map head_of heads.now) (names_of known.now) file begun.old None declarations.now)
         statements.old statements.new faults.old.items faults.new.items) }
 {
@@ -113,7 +113,7 @@ pub(crate) fn statements(
     requires { length faults.old.items ≤ 20 }
     ensures said { IfOk result (λ s. faults.new.items ≡ [] → said_of s
         ≡ after_files (map head_of heads.now) 0 no_statements
-        (map (λ f. schema_of f.items) files.now)) }
+        (map (λ f. declarations_of f.items) files.now)) }
     ensures four { IfOk result (λ s. faults.new.items ≡ [] → IsFour (said_of s).identifier) }
     ensures kept { OnOk result (faults.new.items ≡ [] → faults.old.items ≡ []) }
     ensures most { OnOk result (length faults.new.items ≤ 20) }

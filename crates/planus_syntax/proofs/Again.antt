@@ -2,8 +2,8 @@
 use Rattle.std.proofs.Common.{◌≡◌, ℕ, Bool, true, false, List, [], ◌∷◌, length, Option, Some, None, Result, Ok, refl, ap, ◌∙◌}
 use Rattle.std.specs.Prelude.{codes, ◌==◌, ◌||◌, not}
 use Rattle.planus_syntax.specs.Tokens.{Piece, word, text, doc, mark}
-use Rattle.planus_syntax.specs.Values.{closing_before, PathV, KindV, single, vector, LiteralV, numeral, named, quote, nothing, LabelV, AttributeV, FieldV, RecordV, VariantV, EnumerationV, MemberV, UnionV, MethodV, ServiceV, ItemV, include, native_include, namespace, attribute, table, struct, enumeration, union, service, root, identifier, extension, DeclarationV, Before, each_before, doc_before, docs_before, dotted_before, path_before, kind_before, literal_before, after_before, number_before, label_piece, label_before, attribute_before, next_before, attributes_before, field_before, record_before, variant_before, list_before, comma_before, enumeration_before, member_before, union_before, method_before, service_before, quoted_before, rooted_before, declared_before, namespace_before, item_before, declaration_before, schema_pieces}
-use Rattle.planus_syntax.specs.Reading.{begins_closing, closing_at, Fault, Reads, optional_at, ◌>>=◌, begins_mark, begins_doc, begins_next, is_some, inside, if_inside, mark_at, word_at, doc_at, number_at, label_at, list_at, with_items, docs_at, dotted_at, path_at, kind_at, brackets_at, name_at, literal_at, attribute_at, next_attribute_at, attributes_at, field_at, record_at, comma_at, variant_at, next_variant_at, variants_at, enumeration_at, member_at, next_member_at, members_at, union_at, method_at, service_at, quoted_at, rooted_at, namespace_at, declared_at, as_item, statement_at, item_at, declaration_at, schema_at}
+use Rattle.planus_syntax.specs.Values.{closing_before, PathV, KindV, single, vector, LiteralV, numeral, named, quote, nothing, LabelV, AttributeV, FieldV, RecordV, VariantV, EnumerationV, MemberV, UnionV, MethodV, ServiceV, ItemV, include, native_include, namespace, attribute, table, struct, enumeration, union, service, root, identifier, extension, DeclarationV, SchemaV, Before, each_before, doc_before, docs_before, dotted_before, path_before, kind_before, literal_before, after_before, number_before, label_piece, label_before, attribute_before, next_before, attributes_before, field_before, record_before, variant_before, list_before, comma_before, enumeration_before, member_before, union_before, method_before, service_before, quoted_before, rooted_before, declared_before, namespace_before, item_before, declaration_before, schema_pieces}
+use Rattle.planus_syntax.specs.Reading.{begins_closing, closing_at, Fault, Reads, optional_at, ◌>>=◌, begins_mark, begins_doc, begins_next, has_more, inside, if_inside, mark_at, word_at, doc_at, number_at, label_at, list_at, with_items, docs_at, dotted_at, path_at, kind_at, brackets_at, name_at, literal_at, attribute_at, next_attribute_at, attributes_at, field_at, record_at, comma_at, variant_at, next_variant_at, variants_at, enumeration_at, member_at, next_member_at, members_at, union_at, method_at, service_at, quoted_at, rooted_at, namespace_at, declared_at, as_item, statement_at, item_at, declaration_at, schema_at}
 use Rattle.planus_syntax.specs.Values.{is_whole, is_whole_item, is_comma_after, AreWhole}
 use Rattle.planus_syntax.proofs.Many.{Again, list_again, suits_all, always, all_always}
 use Rattle.planus_syntax.proofs.Loops.{dotted_looped, docs_looped, attributes_looped, fields_looped, variants_looped, members_looped, methods_looped, declarations_looped}
@@ -125,10 +125,6 @@ attributes_front n (a ∷ more) rest h k = h
 after_front : {A : Type 0} (m n : ℕ) (f : Before A) (x : Option A) (rest : List Piece) → (m == n) ≡ false → begins_mark n rest ≡ false → begins_mark n (after_before m f x rest) ≡ false
 after_front m n f None rest h k = k
 after_front m n f (Some x) rest h k = h
-
-docs_front : (p : List Piece → Bool) (docs : List (List ℕ)) (rest : List Piece) → ((d : List ℕ) (ps : List Piece) → p (doc d ∷ ps) ≡ true) → p rest ≡ true → p (docs_before docs rest) ≡ true
-docs_front p [] rest h k = k
-docs_front p (d ∷ docs) rest h k = h d (docs_before docs rest)
 
 field_again : (f : FieldV) (rest : List Piece) → field_at (field_before f rest) ≡ Ok (f, rest)
 unfolding field_at
@@ -406,19 +402,19 @@ item_begins_doc (enumeration v) rest = refl
 item_begins_doc (union v) rest = refl
 item_begins_doc (service v) rest = refl
 
-item_is_some : (i : ItemV) (rest : List Piece) → is_some (item_before i rest) ≡ true
-item_is_some (include v) rest = refl
-item_is_some (native_include v) rest = refl
-item_is_some (namespace v) rest = refl
-item_is_some (attribute v) rest = refl
-item_is_some (root v) rest = refl
-item_is_some (identifier v) rest = refl
-item_is_some (extension v) rest = refl
-item_is_some (table v) rest = refl
-item_is_some (struct v) rest = refl
-item_is_some (enumeration v) rest = refl
-item_is_some (union v) rest = refl
-item_is_some (service v) rest = refl
+item_has_more : (i : ItemV) (rest : List Piece) → has_more (item_before i rest) ≡ true
+item_has_more (include v) rest = refl
+item_has_more (native_include v) rest = refl
+item_has_more (namespace v) rest = refl
+item_has_more (attribute v) rest = refl
+item_has_more (root v) rest = refl
+item_has_more (identifier v) rest = refl
+item_has_more (extension v) rest = refl
+item_has_more (table v) rest = refl
+item_has_more (struct v) rest = refl
+item_has_more (enumeration v) rest = refl
+item_has_more (union v) rest = refl
+item_has_more (service v) rest = refl
 
 declaration_again : (d : DeclarationV) (rest : List Piece) → is_whole d ≡ true → declaration_at (declaration_before d rest) ≡ Ok (d, rest)
 unfolding declaration_at
@@ -427,12 +423,20 @@ declaration_again d rest w =
     step (docs_at (docs_before d.docs i)) (d.docs, i) _ (docs_again d.docs i (item_begins_doc d.item rest))
     ∙ items_again d.docs d.item rest w
 
-declarations_are_again : Again is_some declaration_at declaration_before any is_whole
+docs_more : (docs : List (List ℕ)) (rest : List Piece) → has_more (docs_before docs rest) ≡ has_more rest
+docs_more [] rest = refl
+docs_more (d ∷ docs) rest = docs_more docs rest
+
+declarations_are_again : Again has_more declaration_at declaration_before any is_whole
 declarations_are_again = record {
   again = λ d rest w s. declaration_again d rest w;
-  begins = λ d rest. (docs_front is_some d.docs (item_before d.item rest) (λ e ps. refl) (item_is_some d.item rest), refl);
+  begins = λ d rest. (docs_more d.docs (item_before d.item rest) ∙ item_has_more d.item rest, refl);
 }
 
-pub schema_again : (ds : List DeclarationV) → AreWhole ds → schema_at (schema_pieces ds) ≡ Ok (ds, [])
+pub schema_again : (s : SchemaV) → AreWhole s.declarations → schema_at (schema_pieces s) ≡ Ok (s, [])
 unfolding schema_at
-schema_again ds w = list_again is_some declaration_at declaration_before any is_whole declarations_looped declarations_are_again ds [] w refl refl
+schema_again s w =
+    let end = docs_before s.trailing [] in
+    step (list_at has_more declaration_at (schema_pieces s)) (s.declarations, end) _
+    (list_again has_more declaration_at declaration_before any is_whole declarations_looped declarations_are_again s.declarations end w (docs_more s.trailing []) refl)
+    ∙ step (docs_at end) (s.trailing, []) _ (docs_again s.trailing [] refl)

@@ -4,9 +4,9 @@ use Rattle.std.specs.Prelude.{codes, ◌==◌, ◌&&◌}
 use Rattle.std.specs.Str.{bytes_eq}
 use Rattle.std.proofs.lemmas.Bool.{eqb-true}
 use Rattle.planus_syntax.specs.Tokens.{Piece, word, number, text, doc, mark}
-use Rattle.planus_syntax.specs.Values.{closing_before, Name, PathV, KindV, single, vector, LiteralV, numeral, named, quote, nothing, LabelV, AttributeV, FieldV, RecordV, VariantV, EnumerationV, MemberV, UnionV, MethodV, ServiceV, ItemV, include, native_include, namespace, attribute, table, struct, enumeration, union, service, root, identifier, extension, DeclarationV, Before, each_before, doc_before, docs_before, dotted_before, path_before, kind_before, literal_before, after_before, number_before, label_before, attribute_before, next_before, attributes_before, field_before, record_before, variant_before, list_before, comma_before, enumeration_before, member_before, union_before, method_before, service_before, quoted_before, rooted_before, declared_before, namespace_before, item_before, declaration_before, schema_pieces}
+use Rattle.planus_syntax.specs.Values.{closing_before, Name, PathV, KindV, single, vector, LiteralV, numeral, named, quote, nothing, LabelV, AttributeV, FieldV, RecordV, VariantV, EnumerationV, MemberV, UnionV, MethodV, ServiceV, ItemV, include, native_include, namespace, attribute, table, struct, enumeration, union, service, root, identifier, extension, DeclarationV, SchemaV, Before, each_before, doc_before, docs_before, dotted_before, path_before, kind_before, literal_before, after_before, number_before, label_before, attribute_before, next_before, attributes_before, field_before, record_before, variant_before, list_before, comma_before, enumeration_before, member_before, union_before, method_before, service_before, quoted_before, rooted_before, declared_before, namespace_before, item_before, declaration_before, schema_pieces}
 use Rattle.planus_syntax.specs.declared.parse_fault.ParseFault.TheVariants as fault
-use Rattle.planus_syntax.specs.Reading.{closing_at, Looped, Takes, Fault, Reads, optional_at, begins_mark, begins_doc, begins_next, is_some, inside, if_inside, mark_at, word_at, doc_at, number_at, text_at, label_at, list_at, with_items, docs_at, dotted_at, path_at, kind_at, brackets_at, name_at, literal_at, attribute_at, next_attribute_at, attributes_at, field_at, record_at, comma_at, variant_at, next_variant_at, variants_at, enumeration_at, member_at, next_member_at, members_at, union_at, method_at, service_at, quoted_at, rooted_at, namespace_at, declared_at, as_item, statement_at, item_at, declaration_at, schema_at}
+use Rattle.planus_syntax.specs.Reading.{closing_at, Looped, Takes, Fault, Reads, optional_at, begins_mark, begins_doc, begins_next, has_more, inside, if_inside, mark_at, word_at, doc_at, number_at, text_at, label_at, list_at, with_items, docs_at, dotted_at, path_at, kind_at, brackets_at, name_at, literal_at, attribute_at, next_attribute_at, attributes_at, field_at, record_at, comma_at, variant_at, next_variant_at, variants_at, enumeration_at, member_at, next_member_at, members_at, union_at, method_at, service_at, quoted_at, rooted_at, namespace_at, declared_at, as_item, statement_at, item_at, declaration_at, schema_at}
 use Rattle.planus_syntax.proofs.Many.{bind_ok, ok_is, ok, list_takes}
 
 guard : {A : Type 0} (b : Bool) (x y : A) (e : Fault) → cond b (ok x) (Err e) ≡ Ok y → (b ≡ true) × (x ≡ y)
@@ -607,16 +607,30 @@ item_longer (root p) rest = omega (arith, path_longer p (mark 59 ∷ rest))
 item_longer (identifier w) rest = omega arith
 item_longer (extension w) rest = omega arith
 
-pub declarations_looped : Looped is_some declaration_at
+pub declarations_looped : Looped has_more declaration_at
 declarations_looped = record { none = refl; shrinks = λ ps x e. omega (arith, ap length (declaration_takes ps x e), docs_longer x.0.docs (item_before x.0.item x.1), item_longer x.0.item x.1) }
 
-pub nothing_left : (ps : List Piece) → is_some ps ≡ false → ps ≡ []
-nothing_left [] e = refl
-nothing_left (p ∷ ps) e = absurd cc
+nothing_left : (docs : List (List ℕ)) (rest : List Piece) → has_more (docs_before docs rest) ≡ false → begins_doc rest ≡ false → rest ≡ []
+nothing_left [] [] h k = refl
+nothing_left [] (word w ∷ ps) h k = absurd cc
+nothing_left [] (number w ∷ ps) h k = absurd cc
+nothing_left [] (text w ∷ ps) h k = absurd cc
+nothing_left [] (doc w ∷ ps) h k = absurd cc
+nothing_left [] (mark b ∷ ps) h k = absurd cc
+nothing_left (d ∷ docs) rest h k = nothing_left docs rest h k
 
-pub schema_takes : (ps : List Piece) (x : List DeclarationV × List Piece) → schema_at ps ≡ Ok x → (ps ≡ schema_pieces x.0) × (x.1 ≡ [])
+-- the documentation at the end is all that is left
+pub trailing_takes : (ps : List Piece) (x : List (List ℕ) × List Piece) → has_more ps ≡ false → docs_at ps ≡ Ok x → (ps ≡ docs_before x.0 []) × (x.1 ≡ [])
+trailing_takes ps x h e =
+    let t = list_takes begins_doc doc_at doc_before docs_looped doc_takes ps x e in
+    let n = nothing_left x.0 x.1 (subst (λ qs. has_more qs ≡ false) t.0 h) t.1 in
+    (t.0 ∙ ap (docs_before x.0) n, n)
+
+pub schema_takes : (ps : List Piece) (x : SchemaV × List Piece) → schema_at ps ≡ Ok x → (ps ≡ schema_pieces x.0) × (x.1 ≡ [])
 unfolding schema_at
 schema_takes ps x e =
-    let t = list_takes is_some declaration_at declaration_before declarations_looped declaration_takes ps x e in
-    let n = nothing_left x.1 t.1 in
-    (t.0 ∙ ap (λ r. each_before declaration_before x.0 r) n, n)
+    let y0 = bind_ok (list_at has_more declaration_at ps) _ x e in
+    let y1 = bind_ok (docs_at y0.0.1) _ x y0.2 in
+    let t = list_takes has_more declaration_at declaration_before declarations_looped declaration_takes ps y0.0 y0.1 in
+    let r = trailing_takes y0.0.1 y1.0 t.1 y1.1 in
+    subst (λ (y : SchemaV × List Piece). (ps ≡ schema_pieces y.0) × (y.1 ≡ [])) (ok_is _ x y1.2) (t.0 ∙ ap (λ q. each_before declaration_before y0.0.0 q) r.0, r.1)

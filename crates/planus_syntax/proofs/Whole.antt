@@ -6,8 +6,8 @@ use Rattle.std.proofs.Common.{arith}
 use Rattle.std.specs.List.{AllByRecursion}
 use Rattle.std.specs.Str.{bytes_eq}
 use Rattle.planus_syntax.specs.Tokens.{Piece, word, number, text, doc, mark}
-use Rattle.planus_syntax.specs.Values.{Name, EnumerationV, UnionV, ItemV, include, native_include, namespace, attribute, table, struct, enumeration, union, service, root, identifier, extension, DeclarationV, is_comma_after, is_whole_item, is_whole, AreWhole}
-use Rattle.planus_syntax.specs.Reading.{closing_at, Reads, ◌>>=◌, many, list_at, with_items, is_some, inside, if_inside, begins_next, docs_at, word_at, mark_at, path_at, attributes_at, comma_at, variant_at, next_variant_at, member_at, next_member_at, variants_at, members_at, enumeration_at, union_at, record_at, service_at, quoted_at, rooted_at, namespace_at, declared_at, as_item, statement_at, item_at, declaration_at, schema_at}
+use Rattle.planus_syntax.specs.Values.{Name, EnumerationV, UnionV, ItemV, include, native_include, namespace, attribute, table, struct, enumeration, union, service, root, identifier, extension, DeclarationV, SchemaV, is_comma_after, is_whole_item, is_whole, AreWhole}
+use Rattle.planus_syntax.specs.Reading.{closing_at, Reads, ◌>>=◌, many, list_at, with_items, has_more, inside, if_inside, begins_next, docs_at, word_at, mark_at, path_at, attributes_at, comma_at, variant_at, next_variant_at, member_at, next_member_at, variants_at, members_at, enumeration_at, union_at, record_at, service_at, quoted_at, rooted_at, namespace_at, declared_at, as_item, statement_at, item_at, declaration_at, schema_at}
 use Rattle.planus_syntax.proofs.Many.{bind_ok, ok_is, joined}
 use Rattle.planus_syntax.proofs.Loops.{chosen}
 
@@ -140,6 +140,9 @@ declaration_whole ps x e =
     let y2 = bind_ok (item_at y1.0.0 (length y0.0.1) y1.0.1) _ x y1.2 in
     subst (λ (y : DeclarationV × List Piece). is_whole y.0 ≡ true) (ok_is _ x y2.2) (item_whole y1.0.0 (length y0.0.1) y1.0.1 y2.0 y2.1)
 
-pub schema_whole : (ps : List Piece) (ds : List DeclarationV) (rest : List Piece) → schema_at ps ≡ Ok (ds, rest) → AreWhole ds
+pub schema_whole : (ps : List Piece) (s : SchemaV) (rest : List Piece) → schema_at ps ≡ Ok (s, rest) → AreWhole s.declarations
 unfolding schema_at
-schema_whole ps ds rest e = list_each is_some declaration_at is_whole declaration_whole ps (ds, rest) e
+schema_whole ps s rest e =
+    let y0 = bind_ok (list_at has_more declaration_at ps) _ (s, rest) e in
+    let y1 = bind_ok (docs_at y0.0.1) _ (s, rest) y0.2 in
+    subst (λ (y : SchemaV × List Piece). AreWhole y.0.declarations) (ok_is _ (s, rest) y1.2) (list_each has_more declaration_at is_whole declaration_whole ps y0.0 y0.1)

@@ -1,6 +1,6 @@
 -- The place of each word: how many tokens there are from it to the end, it included.
 -- `XCounted x rest`: so is each `left` in `x`, if the tokens `rest` follow those of `x`.
-use Rattle.std.specs.Prelude.{◌≡◌, List, [], ◌∷◌, map, length, Option, Some, None, Result, Ok}
+use Rattle.std.specs.Prelude.{◌≡◌, ℕ, List, [], ◌∷◌, map, length, Option, Some, None, Result, Ok}
 use Rattle.std.specs.Prelude.{Err}
 use Rattle.std.specs.Option.{option_map}
 use Rattle.planus_syntax.specs.declared.value.Path.{Path}
@@ -21,13 +21,14 @@ use Rattle.planus_syntax.specs.declared.value.Service.{Service}
 use Rattle.planus_syntax.specs.declared.value.Item.{Item}
 use Rattle.planus_syntax.specs.declared.value.Item.TheVariants as item
 use Rattle.planus_syntax.specs.declared.value.Declaration.{Declaration}
+use Rattle.planus_syntax.specs.declared.value.Schema.{Schema}
 use Rattle.planus_syntax.specs.declared.read_error.ReadError.{ReadError}
 use Rattle.planus_syntax.specs.Tokens.{Piece, word, mark}
 use Rattle.planus_syntax.specs.Values.{Before, each_before, path_before, kind_before, literal_before}
 use Rattle.planus_syntax.specs.Values.{after_before, number_before, label_before, next_before}
 use Rattle.planus_syntax.specs.Values.{attribute_before, attributes_before, field_before}
 use Rattle.planus_syntax.specs.Values.{variant_before, member_before, list_before, comma_before}
-use Rattle.planus_syntax.specs.Values.{method_before, item_before, declaration_before}
+use Rattle.planus_syntax.specs.Values.{method_before, item_before, declaration_before, docs_before}
 use Rattle.planus_syntax.specs.Values.{path_of, kind_of, literal_of, label_of, attribute_of}
 use Rattle.planus_syntax.specs.Values.{field_of, variant_of, digits_of, member_of, method_of}
 use Rattle.planus_syntax.specs.Values.{item_of, declaration_of, names_of, closing_before}
@@ -183,9 +184,13 @@ abbrev pub DeclarationCounted : Declaration → List Piece → Type 0
 DeclarationCounted d rest =
     (d.left ≡ length (item_before (item_of d.item) rest)) × ItemCounted d.item rest
 
--- the declarations of a whole text
-abbrev pub AreCounted : List Declaration → Type 0
-AreCounted ds = EachCounted DeclarationCounted declaration_of declaration_before ds []
+-- the declarations of a whole text, before the documentation that it ends with
+abbrev pub AreCounted : List Declaration → List (List ℕ) → Type 0
+AreCounted ds trailing =
+    EachCounted DeclarationCounted declaration_of declaration_before ds (docs_before trailing [])
+
+abbrev pub SchemaCounted : Schema → Type 0
+SchemaCounted s = AreCounted s.declarations.items (names_of s.trailing.items)
 
 -- The result equals what reading gives, with its places counted, or memory was refused.
 abbrev pub GivesCounted : {X Y : Type 0} → (X → Type 0) → (X → Y) → Result X ReadError

@@ -15,7 +15,7 @@ use Rattle.planus_syntax.specs.Values.{quote, nothing, LabelV, AttributeV, Field
 use Rattle.planus_syntax.specs.Values.{VariantV, EnumerationV, MemberV, UnionV, MethodV, ServiceV}
 use Rattle.planus_syntax.specs.Values.{ItemV, include, native_include, namespace, attribute, table, struct}
 use Rattle.planus_syntax.specs.Values.{enumeration, union, service, root, identifier, extension}
-use Rattle.planus_syntax.specs.Values.{DeclarationV, Before}
+use Rattle.planus_syntax.specs.Values.{DeclarationV, SchemaV, Before}
 
 abbrev pub Fault : Type 0
 Fault = ParseFault × ℕ
@@ -72,9 +72,14 @@ abbrev pub begins_next : List Piece → Bool
 begins_next [] = false
 begins_next (p ∷ ps) = is_mark_of 44 p && not (begins_closing ps)
 
-abbrev pub is_some : List Piece → Bool
-is_some [] = false
-is_some (p ∷ ps) = true
+-- more than documentation
+abbrev pub has_more : List Piece → Bool
+has_more [] = false
+has_more (word w ∷ ps) = true
+has_more (number w ∷ ps) = true
+has_more (text w ∷ ps) = true
+has_more (doc w ∷ ps) = has_more ps
+has_more (mark b ∷ ps) = true
 
 abbrev pub inside : List Piece → Bool
 inside [] = false
@@ -431,5 +436,8 @@ declaration_at ps = do
   item ← item_at key.0 (length docs.1) key.1
   Ok (record { docs = docs.0; item = item.0 }, item.1)
 
-unfoldable pub schema_at : List Piece → Reads (List DeclarationV)
-schema_at ps = list_at is_some declaration_at ps
+unfoldable pub schema_at : List Piece → Reads SchemaV
+schema_at ps = do
+  declarations ← list_at has_more declaration_at ps
+  trailing ← docs_at declarations.1
+  Ok (record { declarations = declarations.0; trailing = trailing.0 }, trailing.1)

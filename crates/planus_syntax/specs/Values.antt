@@ -22,6 +22,7 @@ use Rattle.planus_syntax.specs.declared.value.Service.{Service}
 use Rattle.planus_syntax.specs.declared.value.Item.{Item}
 use Rattle.planus_syntax.specs.declared.value.Item.TheVariants as item
 use Rattle.planus_syntax.specs.declared.value.Declaration.{Declaration}
+use Rattle.planus_syntax.specs.declared.value.Schema.{Schema}
 use Rattle.planus_syntax.specs.Tokens.{Piece, word, number, text, doc, mark, is_lawful}
 use Rattle.planus_syntax.specs.Layout.{printed}
 use Rattle.planus_syntax.specs.Strings.{between_quotes}
@@ -126,6 +127,11 @@ pub data ItemV : Type 0 where
 pub record DeclarationV : Type 0 where
   pub docs : List (List ℕ)
   pub item : ItemV
+
+-- `trailing`: documentation after the last declaration, which is of nothing
+pub record SchemaV : Type 0 where
+  pub declarations : List DeclarationV
+  pub trailing : List (List ℕ)
 
 -- the name of an attribute: of a string, what is between its quotes
 abbrev pub label_name : LabelV → Name
@@ -270,8 +276,11 @@ item_before (extension w) rest = word (codes "file_extension") ∷ quoted_before
 abbrev pub declaration_before : Before DeclarationV
 declaration_before d rest = docs_before d.docs (item_before d.item rest)
 
-abbrev pub schema_pieces : List DeclarationV → List Piece
-schema_pieces ds = each_before declaration_before ds []
+abbrev pub schema_before : Before SchemaV
+schema_before s rest = each_before declaration_before s.declarations (docs_before s.trailing rest)
+
+abbrev pub schema_pieces : SchemaV → List Piece
+schema_pieces s = schema_before s []
 
 -- no comma alone
 abbrev pub is_comma_after : {A : Type 0} → List A → Bool → Bool
@@ -300,12 +309,12 @@ abbrev pub AreWhole : List DeclarationV → Type 0
 AreWhole ds = AllByRecursion (λ d. is_whole d ≡ true) ds
 
 -- A schema that has a text: a last comma is after an item, and each token is lawful.
-abbrev pub IsSchema : List DeclarationV → Type 0
-IsSchema ds = AreWhole ds × AllByRecursion (λ p. is_lawful p ≡ true) (schema_pieces ds)
+abbrev pub IsSchema : SchemaV → Type 0
+IsSchema s = AreWhole s.declarations × AllByRecursion (λ p. is_lawful p ≡ true) (schema_pieces s)
 
 -- the canonical text
-abbrev pub text_of : List DeclarationV → List ℕ
-text_of ds = printed (schema_pieces ds)
+abbrev pub text_of : SchemaV → List ℕ
+text_of s = printed (schema_pieces s)
 
 -- ---- the code's values
 
@@ -419,5 +428,11 @@ item_of (item.FileExtension w) = extension w.items
 abbrev pub declaration_of : Declaration → DeclarationV
 declaration_of d = record { docs = names_of d.docs.items; item = item_of d.item }
 
-abbrev pub schema_of : List Declaration → List DeclarationV
-schema_of ds = map declaration_of ds
+abbrev pub declarations_of : List Declaration → List DeclarationV
+declarations_of ds = map declaration_of ds
+
+abbrev pub schema_of : Schema → SchemaV
+schema_of s = record {
+  declarations = declarations_of s.declarations.items;
+  trailing = names_of s.trailing.items;
+}

@@ -5,7 +5,7 @@ ghost use Rattle.std.specs.List.{AllByRecursion};
 ghost use Rattle.planus_syntax.specs.Tokens.{Piece, is_lawful};
 ghost use Rattle.planus_syntax.specs.Layout.{printed};
 ghost use Rattle.planus_syntax.specs.Lexing.{lex_of};
-ghost use Rattle.planus_syntax.specs.Values.{DeclarationV, IsSchema, AreWhole};
+ghost use Rattle.planus_syntax.specs.Values.{SchemaV, IsSchema, AreWhole};
 ghost use Rattle.planus_syntax.specs.Values.{schema_pieces, text_of};
 ghost use Rattle.planus_syntax.specs.Reading.{schema_at};
 ghost use Rattle.planus_syntax.specs.Placing.{StandsAt};
@@ -20,13 +20,13 @@ pub fn layout_spells()
 
 /// The declarations of the tokens that are written are those that were written.
 pub fn declarations_again()
-    ensures { (schema : List DeclarationV) → AreWhole schema
+    ensures { (schema : SchemaV) → AreWhole schema.declarations
         → schema_at (schema_pieces schema) ≡ Ok (schema, []) }
 {}
 
 /// No text is the canonical text of two schemas.
 pub fn one_schema()
-    ensures { (a b : List DeclarationV) → IsSchema a → IsSchema b → text_of a ≡ text_of b
+    ensures { (a b : SchemaV) → IsSchema a → IsSchema b → text_of a ≡ text_of b
         → a ≡ b }
 {}
 

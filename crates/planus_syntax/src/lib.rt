@@ -26,5 +26,5 @@ pub use strings::{between_quotes, label_name, string_text};
 pub use text::{SchemaError, after_order_mark, format_text, parse_text, place_from_end};
 pub use value::{
     Attribute, Declaration, Enumeration, Field, Item, Kind, Label, Literal, Member, Method, Path,
-    Record, Service, UnionBody, Variant,
+    Record, Schema, Service, UnionBody, Variant,
 };

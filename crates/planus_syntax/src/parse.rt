@@ -1,12 +1,12 @@
 //! Tokens to declarations.
 
-ghost use Rattle.std.specs.Prelude.{◌≡◌, [], List, length, IfOk};
-ghost use Rattle.planus_syntax.specs.Values.{DeclarationV, AreWhole, schema_pieces};
+ghost use Rattle.std.specs.Prelude.{◌≡◌, [], length, IfOk};
+ghost use Rattle.planus_syntax.specs.Values.{DeclarationV, SchemaV, AreWhole, schema_pieces};
 ghost use Rattle.planus_syntax.specs.Values.{declaration_of, schema_of};
 ghost use Rattle.planus_syntax.specs.Parsed.{ParsesTo, AnswersParse};
 ghost use Rattle.planus_syntax.specs.Tokens.{pieces_of};
-ghost use Rattle.planus_syntax.specs.Reading.{list_at, is_some as is_some_lem};
-ghost use Rattle.planus_syntax.specs.Counting.{AreCounted, DeclarationCounted, GivesCounted};
+ghost use Rattle.planus_syntax.specs.Reading.{has_more as has_more_lem};
+ghost use Rattle.planus_syntax.specs.Counting.{DeclarationCounted, GivesCounted, SchemaCounted};
 ghost use Rattle.planus_syntax.specs.Values.{declaration_before};
 ghost use Rattle.planus_syntax.specs.Reading.{declaration_at as declaration_at_lem};
 ghost use Rattle.planus_syntax.specs.Reading.{schema_at as schema_at_lem};
@@ -36,11 +36,11 @@ mod unions;
 use crate::parse::attributes::docs_at;
 use crate::parse::lists::{Items, list_of};
 use crate::parse::statements::item_at;
-use crate::parse::tokens::word_at;
+use crate::parse::tokens::{has_more, word_at};
 use crate::parse_fault::ParseFault;
 use crate::read_error::ReadError;
 use crate::token::Token;
-use crate::value::Declaration;
+use crate::value::{Declaration, Schema};
 use std::alloc::Global;
 
 /// The declarations of a text.
@@ -49,7 +49,7 @@ struct Declarations;
 impl Items for Declarations {
     ghost Value = { DeclarationV };
 
-    ghost goes_on = { is_some_lem };
+    ghost goes_on = { has_more_lem };
 
     ghost item_at = { declaration_at_lem };
 
@@ -62,7 +62,7 @@ impl Items for Declarations {
     type Item = Declaration;
 
     fn goes_on(tokens: &[Token]) -> bool {
-        !tokens.is_empty()
+        has_more(tokens)
     }
 
     fn item_at(alloc: Global, tokens: &[Token]) -> Result<(Declaration, &[Token]), ReadError> {
@@ -80,12 +80,16 @@ impl Items for Declarations {
     }
 }
 
-fn schema_at(alloc: Global, tokens: &[Token]) -> Result<Vec<Declaration>, ReadError>
-    ensures { GivesCounted (λ v. AreCounted v.items) (λ v. (schema_of v.items, [])) result
-        (list_at is_some_lem declaration_at_lem (pieces_of tokens.now)) }
+fn schema_at(alloc: Global, tokens: &[Token]) -> Result<Schema, ReadError>
+    ensures { GivesCounted SchemaCounted (λ s. (schema_of s, [])) result
+        (schema_at_lem (pieces_of tokens.now)) }
 {
-    let (items, _rest) = or_return!(list_of::<Declarations>(alloc, tokens));
-    Ok(items)
+    let (declarations, rest) = or_return!(list_of::<Declarations>(alloc, tokens));
+    let (trailing, _rest) = or_return!(docs_at(alloc, rest));
+    Ok(Schema {
+        declarations,
+        trailing,
+    })
 }
 
 #[derive(Clone, Copy)]
@@ -95,17 +99,17 @@ pub(crate) enum ParseError {
     Fault { fault: ParseFault, index: usize },
 }
 
-pub(crate) fn parse(alloc: Global, tokens: &[Token]) -> Result<Vec<Declaration>, ParseError>
-    ensures found { IfOk result (λ v. pieces_of tokens.now ≡ schema_pieces (schema_of v.items)) }
-    ensures whole { IfOk result (λ v. AreWhole (schema_of v.items)) }
-    ensures counted { IfOk result (λ v. AreCounted v.items) }
-    ensures only { (ds : List DeclarationV) → AreWhole ds
-        → pieces_of tokens.now ≡ schema_pieces ds → ParsesTo ds result }
+pub(crate) fn parse(alloc: Global, tokens: &[Token]) -> Result<Schema, ParseError>
+    ensures found { IfOk result (λ s. pieces_of tokens.now ≡ schema_pieces (schema_of s)) }
+    ensures whole { IfOk result (λ s. AreWhole (schema_of s).declarations) }
+    ensures counted { IfOk result (λ s. SchemaCounted s) }
+    ensures only { (schema : SchemaV) → AreWhole schema.declarations
+        → pieces_of tokens.now ≡ schema_pieces schema → ParsesTo schema result }
     ensures exact { AnswersParse (length tokens.now) result
         (schema_at_lem (pieces_of tokens.now)) }
 {
     match schema_at(alloc, tokens) {
-        Ok(declarations) => Ok(declarations),
+        Ok(schema) => Ok(schema),
         Err(ReadError::OutOfMemory) => Err(ParseError::OutOfMemory),
         Err(ReadError::Fault { fault, left }) => {
             let index = tokens.len().saturating_sub(left);

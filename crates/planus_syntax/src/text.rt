@@ -5,10 +5,10 @@ ghost use Rattle.planus_syntax.specs.Tokens.{Piece, pieces_of};
 ghost use Rattle.planus_syntax.specs.Placing.{StandsAt};
 ghost use Rattle.planus_syntax.specs.Lexing.{lex_of};
 ghost use Rattle.planus_syntax.specs.declared.text.SchemaError.TheVariants.{OutOfMemory};
-ghost use Rattle.planus_syntax.specs.Values.{AreWhole, DeclarationV, IsSchema, schema_of};
+ghost use Rattle.planus_syntax.specs.Values.{AreWhole, SchemaV, IsSchema, schema_of};
 ghost use Rattle.planus_syntax.specs.Values.{schema_pieces, text_of};
 ghost use Rattle.planus_syntax.specs.Spelled.{after_order_mark as after_order_mark_lem};
-ghost use Rattle.planus_syntax.specs.Counting.{AreCounted};
+ghost use Rattle.planus_syntax.specs.Counting.{SchemaCounted};
 ghost use Rattle.planus_syntax.specs.Parsed.{IsFaultOf, LiesIn, Spells};
 ghost use Rattle.planus_syntax.specs.Parsed.{TextFormatsTo, TextParsesTo, TextReadsTo};
 
@@ -17,7 +17,7 @@ use crate::lexer::{LexError, LexFault, lex, place_of};
 use crate::parse::{ParseError, parse};
 use crate::parse_fault::ParseFault;
 use crate::token::Token;
-use crate::value::Declaration;
+use crate::value::Schema;
 use std::alloc::{AllocError, Global};
 
 /// Why a text is no schema. `at` is a place in bytes from the text's start.
@@ -49,20 +49,20 @@ pub fn after_order_mark(text: &[u8]) -> &[u8]
     }
 }
 
-fn read(alloc: Global, text: &[u8]) -> Result<(Vec<Token>, Vec<Declaration>), SchemaError>
-    ensures found { IfOk result (λ x. lex_of text.now ≡ Ok (schema_pieces (schema_of x.1.items))) }
+fn read(alloc: Global, text: &[u8]) -> Result<(Vec<Token>, Schema), SchemaError>
+    ensures found { IfOk result (λ x. lex_of text.now ≡ Ok (schema_pieces (schema_of x.1))) }
     ensures tokens { IfOk result (λ x. pieces_of x.0.items
-        ≡ schema_pieces (schema_of x.1.items)) }
-    ensures whole { IfOk result (λ x. AreWhole (schema_of x.1.items)) }
-    ensures counted { IfOk result (λ x. AreCounted x.1.items) }
-    ensures only { (schema : List DeclarationV) → AreWhole schema
+        ≡ schema_pieces (schema_of x.1)) }
+    ensures whole { IfOk result (λ x. AreWhole (schema_of x.1).declarations) }
+    ensures counted { IfOk result (λ x. SchemaCounted x.1) }
+    ensures only { (schema : SchemaV) → AreWhole schema.declarations
         → lex_of text.now ≡ Ok (schema_pieces schema) → TextReadsTo schema result }
     ensures exact { IfErr result (λ error. IsFaultOf text.now error) }
     ensures within { IfErr result (λ error. LiesIn (length text.now) error) }
 {
     match lex(alloc, text) {
         Ok(tokens) => match parse(alloc, &tokens) {
-            Ok(declarations) => Ok((tokens, declarations)),
+            Ok(schema) => Ok((tokens, schema)),
             Err(ParseError::OutOfMemory) => Err(SchemaError::OutOfMemory),
             Err(ParseError::Fault { fault, index }) => {
                 let at = place_of(text, index);
@@ -74,28 +74,28 @@ fn read(alloc: Global, text: &[u8]) -> Result<(Vec<Token>, Vec<Declaration>), Sc
     }
 }
 
-/// Returns the declarations that a text spells.
+/// Returns the schema that a text spells.
 ///
 /// Fails with the first error from the left, and its place.
-pub fn parse_text(alloc: Global, text: &[u8]) -> Result<Vec<Declaration>, SchemaError>
+pub fn parse_text(alloc: Global, text: &[u8]) -> Result<Schema, SchemaError>
     // The text spells what is read.
-    ensures found { IfOk result (λ v. Spells text.now (schema_of v.items)) }
+    ensures found { IfOk result (λ s. Spells text.now (schema_of s)) }
     // It has no empty enum or union.
-    ensures whole { IfOk result (λ v. AreWhole (schema_of v.items)) }
+    ensures whole { IfOk result (λ s. AreWhole (schema_of s).declarations) }
     // Each `left` is the number of tokens from its word to the text's end, the word included.
-    ensures counted { IfOk result (λ v. AreCounted v.items) }
+    ensures counted { IfOk result (λ s. SchemaCounted s) }
     // A text that spells a schema is read as that schema, unless memory is refused.
-    ensures only { (schema : List DeclarationV) → AreWhole schema → Spells text.now schema
+    ensures only { (schema : SchemaV) → AreWhole schema.declarations → Spells text.now schema
         → TextParsesTo schema result }
     // So is its canonical text.
-    ensures canonical { (schema : List DeclarationV) → IsSchema schema
+    ensures canonical { (schema : SchemaV) → IsSchema schema
         → text.now ≡ text_of schema → TextParsesTo schema result }
     // Which error it is, and where.
     ensures exact { IfErr result (λ error. IsFaultOf text.now error) }
     ensures within { IfErr result (λ error. LiesIn (length text.now) error) }
 {
     match read(alloc, text) {
-        Ok((_, declarations)) => Ok(declarations),
+        Ok((_, schema)) => Ok(schema),
         Err(error) => Err(error),
     }
 }
@@ -106,13 +106,13 @@ pub fn parse_text(alloc: Global, text: &[u8]) -> Result<Vec<Declaration>, Schema
 /// The errors are those of [`parse_text`].
 pub fn format_text(alloc: Global, text: &[u8]) -> Result<Vec<u8>, SchemaError>
     // The text spells the schema whose text is returned.
-    ensures found { IfOk result (λ out. (schema : List DeclarationV)
-        × AreWhole schema × Spells text.now schema × (out.items ≡ text_of schema)) }
+    ensures found { IfOk result (λ out. (schema : SchemaV)
+        × AreWhole schema.declarations × Spells text.now schema × (out.items ≡ text_of schema)) }
     // A text that spells a schema gives the text of that schema, unless memory is refused.
-    ensures only { (schema : List DeclarationV) → AreWhole schema → Spells text.now schema
+    ensures only { (schema : SchemaV) → AreWhole schema.declarations → Spells text.now schema
         → TextFormatsTo schema result }
     // The canonical text stays as it is.
-    ensures canonical { (schema : List DeclarationV) → IsSchema schema
+    ensures canonical { (schema : SchemaV) → IsSchema schema
         → text.now ≡ text_of schema → TextFormatsTo schema result }
     // Which error it is, and where.
     ensures exact { IfErr result (λ error. IsFaultOf text.now error) }

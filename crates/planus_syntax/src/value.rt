@@ -166,3 +166,10 @@ pub struct Declaration {
     pub left: usize,
     pub item: Item,
 }
+
+/// The declarations of a text. `trailing`: documentation after the last.
+#[derive(Drop)]
+pub struct Schema {
+    pub declarations: Vec<Declaration>,
+    pub trailing: Vec<Vec<u8>>,
+}

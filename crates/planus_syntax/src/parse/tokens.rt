@@ -5,7 +5,7 @@ ghost use Rattle.planus_syntax.specs.Tokens.{pieces_of};
 ghost use Rattle.planus_syntax.specs.Values.{label_of};
 ghost use Rattle.planus_syntax.specs.Reading.{Gives, begins_mark as begins_mark_lem};
 ghost use Rattle.planus_syntax.specs.Reading.{begins_next as begins_next_lem};
-ghost use Rattle.planus_syntax.specs.Reading.{inside as inside_lem};
+ghost use Rattle.planus_syntax.specs.Reading.{inside as inside_lem, has_more as has_more_lem};
 ghost use Rattle.planus_syntax.specs.Reading.{begins_closing as begins_closing_lem};
 ghost use Rattle.planus_syntax.specs.Reading.{mark_at as mark_at_lem, word_at as word_at_lem};
 ghost use Rattle.planus_syntax.specs.Reading.{number_at as number_at_lem};
@@ -54,6 +54,20 @@ pub(crate) fn inside(tokens: &[Token]) -> bool
     ensures { result ≡ inside_lem (pieces_of tokens.now) }
 {
     !tokens.is_empty() && !begins_closing(tokens)
+}
+
+/// Returns whether there is more than documentation.
+pub(crate) fn has_more(tokens: &[Token]) -> bool
+    ensures { result ≡ has_more_lem (pieces_of tokens.now) }
+{
+    let mut rest = tokens;
+    'tokens: while let Some((token, after)) = rest.split_first() {
+        match token {
+            Token::Doc(_) => rest = after,
+            _ => return true,
+        }
+    }
+    false
 }
 
 pub(crate) fn mark_at(tokens: &[Token], mark: u8) -> Result<&[Token], ReadError>

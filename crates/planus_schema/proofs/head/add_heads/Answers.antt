@@ -1,6 +1,6 @@
 use Rattle.std.proofs.Common.{◌++◌, ap, sym, ◌∙◌, map, append_assoc}
 use Rattle.std.proofs.lemmas.List.{append-nil, drop_all}
-use Rattle.planus_syntax.specs.Values.{schema_of}
+use Rattle.planus_syntax.specs.Values.{declarations_of}
 use Rattle.planus_schema.specs.Names.{path_in, head_of, heads_in}
 use Rattle.planus_schema.specs.Faults.{placed_of, placed_in}
 use Rattle.planus_schema.proofs.StructLemmas.{drop_next}
@@ -14,7 +14,7 @@ declarations-preserved c =
     let r = drop_next c.args.declarations.now c.declarations.declaration-index c.declaration-item.result c.declarations-test.true c.declaration-item.is in
     record {
       heads = rw (c.in-Ok.ensures.heads, c.space_after-space.ensures) (append_assoc heads _ _
-          ∙ ap (λ ds. heads ++ heads_in c.args.file (path_in c.declarations.space) (schema_of ds)) (sym r) ∙ i.heads);
+          ∙ ap (λ ds. heads ++ heads_in c.args.file (path_in c.declarations.space) (declarations_of ds)) (sym r) ∙ i.heads);
       placed = rw (c.in-Ok.ensures.placed, c.space_after-space.ensures) (append_assoc placed _ _
           ∙ ap (λ ds. placed ++ placed_in c.args.file (path_in c.declarations.space) ds) (sym r) ∙ i.placed);
     }

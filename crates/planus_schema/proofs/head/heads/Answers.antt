@@ -1,7 +1,7 @@
 use Rattle.std.proofs.Common.{◌+◌, ◌++◌, ap, sym, ◌∙◌, map, append_assoc, arith}
 use Rattle.std.proofs.lemmas.List.{append-nil, drop_all}
 use Rattle.std.specs.Global.{Vec}
-use Rattle.planus_syntax.specs.Values.{schema_of}
+use Rattle.planus_syntax.specs.Values.{declarations_of}
 use Rattle.planus_syntax.specs.declared.value.Declaration.{Declaration}
 use Rattle.planus_schema.specs.Names.{head_of, heads_from}
 use Rattle.planus_schema.specs.Faults.{placed_of, placed_from}
@@ -20,7 +20,7 @@ files-preserved c =
     record {
       index = ap (λ n. n + 1) i.index;
       all = rw (c.in-Ok.ensures.heads, c.deref.ensures.value) (append_assoc heads _ _
-          ∙ ap (λ fs. heads ++ heads_from c.files.file (map (λ (f : Vec Declaration). schema_of f.items) fs)) (sym r) ∙ i.all);
+          ∙ ap (λ fs. heads ++ heads_from c.files.file (map (λ (f : Vec Declaration). declarations_of f.items) fs)) (sym r) ∙ i.all);
       placed = rw (c.in-Ok.ensures.placed, c.deref.ensures.value) (append_assoc placed _ _
           ∙ ap (λ fs. placed ++ placed_from c.files.file fs) (sym r) ∙ i.placed);
     }

@@ -1,6 +1,6 @@
 use Rattle.std.proofs.Common.{map, ap, sym, subst, ◌∙◌}
 use Rattle.std.specs.Global.{Vec}
-use Rattle.planus_syntax.specs.Values.{schema_of}
+use Rattle.planus_syntax.specs.Values.{declarations_of}
 use Rattle.planus_syntax.specs.declared.value.Declaration.{Declaration}
 use Rattle.planus_layout.specs.Distinct.{AreDistinct}
 use Rattle.planus_schema.specs.Schemas.{AreDeclared, after_files, no_statements}
@@ -34,6 +34,6 @@ returns-clause-means c =
     record {
       declared = subst (λ hs. AreDeclared hs hs c.in-Ok-declarations.value.items) c.requires.heads (c.in-Ok-declarations.ensures.says before);
       names = subst (λ hs. AreDistinct (map (λ (x : HeadV). x.name) hs)) c.requires.heads (c.in-Ok.ensures.distinct (c.in-Ok-declarations.ensures.kept before));
-      statements = c.in-Ok-statements.ensures.said none ∙ ap (λ hs. after_files hs 0 no_statements (map (λ (f : Vec Declaration). schema_of f.items) c.args.files.now)) c.requires.heads;
+      statements = c.in-Ok-statements.ensures.said none ∙ ap (λ hs. after_files hs 0 no_statements (map (λ (f : Vec Declaration). declarations_of f.items) c.args.files.now)) c.requires.heads;
       four = c.in-Ok-statements.ensures.four none;
     }

@@ -1,6 +1,6 @@
 use Rattle.std.proofs.Common.{ap, ◌∙◌, map}
 use Rattle.std.proofs.lemmas.Result.{IfOk-weaker, IfErr-weaker}
-use Rattle.planus_syntax.specs.Values.{schema_of}
+use Rattle.planus_syntax.specs.Values.{declarations_of}
 use Rattle.planus_schema.specs.Names.{head_of}
 use Rattle.planus_schema.specs.Faults.{placed_of}
 use Rattle.planus_schema.proofs.SoundLemmas.{sound}
@@ -15,7 +15,7 @@ meaning_of-requires-clause-placed c = ap (map placed_of) (c.in-Ok-new.ensures �
 
 pub returns-clause-sound : goal.returns-clause-sound
 returns-clause-sound c =
-    IfOk-weaker c.meaning_of.result _ _ (λ s m. sound (map (λ f. schema_of f.items) c.args.files.now) s m) c.meaning_of.ensures.means
+    IfOk-weaker c.meaning_of.result _ _ (λ s m. sound (map (λ f. declarations_of f.items) c.args.files.now) s m) c.meaning_of.ensures.means
 
 pub returns-clause-within : goal.returns-clause-within
 returns-clause-within c = IfErr-weaker c.meaning_of.result _ _ (λ e x. exact_within c.args.files.now e x) c.meaning_of.ensures.exact

@@ -1,6 +1,6 @@
 use Rattle.std.proofs.Common.{◌≡◌, subst, ◌+◌, ◌++◌, map, drop, ap, sym, ◌∙◌}
 use Rattle.std.proofs.lemmas.List.{drop_all}
-use Rattle.planus_syntax.specs.Values.{names_of, item_of, schema_of}
+use Rattle.planus_syntax.specs.Values.{names_of, item_of, declarations_of}
 use Rattle.std.specs.Global.{Vec}
 use Rattle.planus_schema.specs.declared.fault.Fault.{Fault}
 use Rattle.planus_schema.specs.inner.Read.{AreStated}
@@ -53,12 +53,12 @@ declarations-preserved c =
     ] in
     let more : c.in-Ok-begun_after.value ≡ begun_after b (item_of d.item) = c.in-Ok-begun_after.ensures in
     record {
-      begun = ap (λ m. begun_in m (schema_of (drop (n + 1) ds))) more
-          ∙ ap (λ ds'. begun_in b (schema_of ds')) (sym r) ∙ i.begun;
-      said = λ e. ap (λ m. after_file hs m (path_in c.space_after-space.result) (said_of c.state.new.statements) (schema_of (drop (n + 1) ds))) more
-          ∙ ap (λ sp. after_file hs (begun_after b (item_of d.item)) sp (said_of c.state.new.statements) (schema_of (drop (n + 1) ds))) c.space_after-space.ensures
-          ∙ ap (λ s. after_file hs (begun_after b (item_of d.item)) (space_after (path_in c.declarations.space) (item_of c.declaration-item.result.item)) s (schema_of (drop (n + 1) ds))) (a.said_now e)
-          ∙ ap (λ ds'. after_file hs b (path_in c.declarations.space) (said_of c.declarations.statements) (schema_of ds')) (sym r) ∙ i.said (a.noted.kept e);
+      begun = ap (λ m. begun_in m (declarations_of (drop (n + 1) ds))) more
+          ∙ ap (λ ds'. begun_in b (declarations_of ds')) (sym r) ∙ i.begun;
+      said = λ e. ap (λ m. after_file hs m (path_in c.space_after-space.result) (said_of c.state.new.statements) (declarations_of (drop (n + 1) ds))) more
+          ∙ ap (λ sp. after_file hs (begun_after b (item_of d.item)) sp (said_of c.state.new.statements) (declarations_of (drop (n + 1) ds))) c.space_after-space.ensures
+          ∙ ap (λ s. after_file hs (begun_after b (item_of d.item)) (space_after (path_in c.declarations.space) (item_of c.declaration-item.result.item)) s (declarations_of (drop (n + 1) ds))) (a.said_now e)
+          ∙ ap (λ ds'. after_file hs b (path_in c.declarations.space) (said_of c.declarations.statements) (declarations_of ds')) (sym r) ∙ i.said (a.noted.kept e);
       four = λ e f. a.four e (i.four (a.noted.kept e) f);
       kept = λ e. i.kept (a.noted.kept e);
       most = a.noted.most;

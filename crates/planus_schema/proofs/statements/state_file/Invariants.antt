@@ -1,6 +1,6 @@
 use Rattle.std.proofs.Common.{◌≡◌, ◌≤◌, ◌++◌, [], length, map, drop}
 use Rattle.std.specs.Prelude.{None}
-use Rattle.planus_syntax.specs.Values.{schema_of, names_of}
+use Rattle.planus_syntax.specs.Values.{declarations_of, names_of}
 use Rattle.planus_schema.specs.Faults.{first_twenty, statement_faults}
 use Rattle.planus_schema.specs.Names.{head_of, path_in, begun_in}
 use Rattle.planus_schema.specs.Schemas.{said_of, after_file, IsFour}
@@ -8,11 +8,11 @@ use Rattle.planus_schema.proofs.statements.state_file.Given as goal
 
 abbrev pub invariant-declarations : goal.invariant-declarations
 invariant-declarations l = record {
-  begun : begun_in l.begun (schema_of (drop l.declaration-index l.declarations))
-      ≡ begun_in l.fn.begun (schema_of l.declarations);
+  begun : begun_in l.begun (declarations_of (drop l.declaration-index l.declarations))
+      ≡ begun_in l.fn.begun (declarations_of l.declarations);
   said : l.faults.items ≡ [] → after_file (map head_of l.heads) l.begun (path_in l.space) (said_of l.statements)
-      (schema_of (drop l.declaration-index l.declarations))
-      ≡ after_file (map head_of l.heads) l.fn.begun None (said_of l.fn.statements) (schema_of l.declarations);
+      (declarations_of (drop l.declaration-index l.declarations))
+      ≡ after_file (map head_of l.heads) l.fn.begun None (said_of l.fn.statements) (declarations_of l.declarations);
   four : l.faults.items ≡ [] → IsFour (said_of l.fn.statements).identifier
       → IsFour (said_of l.statements).identifier;
   kept : l.faults.items ≡ [] → l.fn.faults.items ≡ [];

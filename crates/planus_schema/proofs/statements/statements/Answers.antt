@@ -2,7 +2,7 @@ use Rattle.std.proofs.Common.{◌≡◌, ◌+◌, ◌++◌, map, drop, ap, subst
 use Rattle.std.proofs.lemmas.List.{drop_all}
 use Rattle.std.specs.Prelude.{None}
 use Rattle.std.specs.Global.{Vec}
-use Rattle.planus_syntax.specs.Values.{names_of, schema_of}
+use Rattle.planus_syntax.specs.Values.{names_of, declarations_of}
 use Rattle.planus_syntax.specs.declared.value.Declaration.{Declaration}
 use Rattle.planus_schema.specs.Schemas.{StatementsV, said_of, after_file, after_files, no_statements, IsFour}
 use Rattle.planus_schema.specs.Names.{head_of, begun_in}
@@ -25,15 +25,15 @@ files-preserved c =
     let d = c.declarations-item.result in
     let a = subst (λ cs. Adds (statement_faults hs cs file b None d.items) old new) (ap names_of c.deref.ensures.value ∙ c.files.invariant.known)
     (subst (λ ds. Adds (statement_faults hs (names_of c.deref.result.now) file b None ds) old new) c.deref-in-files.ensures.value c.in-Ok-state_file.ensures.stated.noted.adds) in
-    let more : c.state_file.new.begun ≡ begun_in b (schema_of d.items) =
-    c.in-Ok-state_file.ensures.begun ∙ ap (λ ds. begun_in b (schema_of ds)) c.deref-in-files.ensures.value in
+    let more : c.state_file.new.begun ≡ begun_in b (declarations_of d.items) =
+    c.in-Ok-state_file.ensures.begun ∙ ap (λ ds. begun_in b (declarations_of ds)) c.deref-in-files.ensures.value in
     record {
       index = ap (λ n. n + 1) i.index;
-      said = λ e. ap (λ m. after_files hs m (said_of c.state_file.new.statements) (map (λ (f : Vec Declaration). schema_of f.items) (drop (c.files.declarations-index + 1) c.args.files.now))) more
-          ∙ ap (λ s. after_files hs (begun_in b (schema_of d.items)) s (map (λ (f : Vec Declaration). schema_of f.items) (drop (c.files.declarations-index + 1) c.args.files.now)))
-          (c.in-Ok-state_file.ensures.stated.said_now e ∙ ap (λ s. after_file hs b None s (schema_of c.deref-in-files.result.now)) none
-          ∙ ap (λ ds. after_file hs b None no_statements (schema_of ds)) c.deref-in-files.ensures.value)
-          ∙ ap (λ fs. after_files hs b (said_of c.files.statements) (map (λ (f : Vec Declaration). schema_of f.items) fs)) (sym r) ∙ i.said (c.in-Ok-state_file.ensures.stated.noted.kept e);
+      said = λ e. ap (λ m. after_files hs m (said_of c.state_file.new.statements) (map (λ (f : Vec Declaration). declarations_of f.items) (drop (c.files.declarations-index + 1) c.args.files.now))) more
+          ∙ ap (λ s. after_files hs (begun_in b (declarations_of d.items)) s (map (λ (f : Vec Declaration). declarations_of f.items) (drop (c.files.declarations-index + 1) c.args.files.now)))
+          (c.in-Ok-state_file.ensures.stated.said_now e ∙ ap (λ s. after_file hs b None s (declarations_of c.deref-in-files.result.now)) none
+          ∙ ap (λ ds. after_file hs b None no_statements (declarations_of ds)) c.deref-in-files.ensures.value)
+          ∙ ap (λ fs. after_files hs b (said_of c.files.statements) (map (λ (f : Vec Declaration). declarations_of f.items) fs)) (sym r) ∙ i.said (c.in-Ok-state_file.ensures.stated.noted.kept e);
       four = λ e. c.in-Ok-state_file.ensures.stated.four e (subst (λ (s : StatementsV). IsFour s.identifier) (sym none) tt);
       kept = λ e. i.kept (c.in-Ok-state_file.ensures.stated.noted.kept e);
       most = c.in-Ok-state_file.ensures.stated.noted.most;

@@ -1,5 +1,5 @@
 use Rattle.std.proofs.Common.{◌≡◌, ◌≤◌, ◌++◌, [], length, map, drop}
-use Rattle.planus_syntax.specs.Values.{schema_of, names_of}
+use Rattle.planus_syntax.specs.Values.{declarations_of, names_of}
 use Rattle.planus_schema.specs.WrongServices.{known_attributes}
 use Rattle.planus_schema.specs.Faults.{first_twenty, file_faults}
 use Rattle.planus_schema.specs.Names.{head_of}
@@ -10,8 +10,8 @@ abbrev pub invariant-files : goal.invariant-files
 invariant-files l = record {
   index : l.file ≡ l.declarations-index;
   said : l.faults.items ≡ [] → after_files (map head_of l.heads) l.begun (said_of l.statements)
-      (map (λ f. schema_of f.items) (drop l.declarations-index l.files))
-      ≡ after_files (map head_of l.heads) 0 no_statements (map (λ f. schema_of f.items) l.files);
+      (map (λ f. declarations_of f.items) (drop l.declarations-index l.files))
+      ≡ after_files (map head_of l.heads) 0 no_statements (map (λ f. declarations_of f.items) l.files);
   four : l.faults.items ≡ [] → IsFour (said_of l.statements).identifier;
   kept : l.faults.items ≡ [] → l.fn.faults.items ≡ [];
   most : length l.faults.items ≤ 20;

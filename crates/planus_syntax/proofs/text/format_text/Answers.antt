@@ -7,9 +7,9 @@ use Rattle.planus_syntax.proofs.text.format_text.Goals as goal
 
 pub returns-in-Ok-print_tokens-clause-found : goal.returns-in-Ok-print_tokens-clause-found
 returns-in-Ok-print_tokens-clause-found c = (
-  schema_of c.in-Ok.field-0-1.items,
+  schema_of c.in-Ok.field-0-1,
   c.in-Ok.ensures.whole,
-  lexed_spells c.args.text.now (schema_of c.in-Ok.field-0-1.items) c.in-Ok.ensures.found,
+  lexed_spells c.args.text.now (schema_of c.in-Ok.field-0-1) c.in-Ok.ensures.found,
   c.in-Ok-print_tokens.ensures ∙ ap (λ ts. printed (pieces_of ts)) c.deref.ensures.value
       ∙ ap printed c.in-Ok.ensures.tokens,
 )

@@ -4,7 +4,7 @@ use Rattle.planus_syntax.proofs.text.parse_text.Goals as goal
 
 pub returns-in-Ok-clause-found : goal.returns-in-Ok-clause-found
 returns-in-Ok-clause-found c =
-    lexed_spells c.args.text.now (schema_of c.in-Ok.declarations.items) c.in-Ok.ensures.found
+    lexed_spells c.args.text.now (schema_of c.in-Ok.schema) c.in-Ok.ensures.found
 
 pub returns-in-Ok-clause-only : goal.returns-in-Ok-clause-only
 returns-in-Ok-clause-only c = λ schema w s.
