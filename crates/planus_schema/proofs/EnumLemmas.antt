@@ -23,9 +23,9 @@ use Rattle.planus_layout.specs.declared.scalar.Scalar.TheVariants as scalar
 use Rattle.planus_layout.specs.declared.schema.EnumValue.{EnumValue}
 use Rattle.planus_layout.specs.Numbers.{fits, scalar_named}
 use Rattle.planus_schema.specs.Enums.{integer_in, integer_type, integer_type_of, is_integer_type, same_number, number_of_value, number_said, settled_said, value_said, values_said, none_variant, variants_or_none, AreValues, IsValueAdded}
-use Rattle.planus_layout.proofs.Lists.{distinct_push, distinct_none, list_any-map}
+use Rattle.planus_layout.proofs.Lists.{distinct_push, distinct_none}
 
-pub value_added : (s : Scalar) (v : VariantV) (n : Number) (old new : List EnumValue) (x : EnumValue) → new ≡ old ++ x ∷ [] → x.name.items ≡ v.name → names_of x.docs.items ≡ v.docs → x.number ≡ n → fits s n ≡ true → list_any (λ v. same_number v.number n) old ≡ false → IsValueAdded s v n old new
+pub value_added : (s : Scalar) (v : VariantV) (n : Number) (old new : List EnumValue) (x : EnumValue) → new ≡ old ++ x ∷ [] → x.name.items ≡ v.name → names_of x.docs.items ≡ v.docs → x.number ≡ n → fits s n ≡ true → list_any (λ m. same_number m n) (map number_of_value old) ≡ false → IsValueAdded s v n old new
 value_added s v n old new x e name docs number f h =
     let a : map number_of_value new ≡ map number_of_value old ++ n ∷ [] = ap (map number_of_value) e ∙ map_push number_of_value old x ∙ ap (λ w. map number_of_value old ++ w ∷ []) number in
     record {
@@ -33,14 +33,11 @@ value_added s v n old new x e name docs number f h =
       docs = ap (map (λ (y : EnumValue). names_of y.docs.items)) e ∙ map_push _ old x ∙ ap (λ w. map (λ (y : EnumValue). names_of y.docs.items) old ++ w ∷ []) docs;
       numbers = a;
       within = λ w. ap (list_all (λ (y : EnumValue). fits s y.number)) e ∙ list_all-append (λ (y : EnumValue). fits s y.number) old (x ∷ []) ∙ rw (w, number, f) refl;
-      distinct = λ d. rw a (distinct_push same_number (map number_of_value old) n (list_any-map (λ m. same_number m n) number_of_value old ∙ h) d);
+      distinct = λ d. rw a (distinct_push same_number (map number_of_value old) n h d);
     }
 
 pub no_values : (xs : List EnumValue) → xs ≡ [] → IsDistinct same_number (map number_of_value xs)
 no_values xs e = rw e (distinct_none same_number)
-
-pub numbers_any : (vs : List EnumValue) (n : Number) → list_any (λ m. same_number m n) (map number_of_value vs) ≡ list_any (λ v. same_number v.number n) vs
-numbers_any vs n = list_any-map (λ m. same_number m n) number_of_value vs
 
 pub before_none : {A : Type 0} (o : Option (List A)) → option_map (λ xs. [] ++ xs) o ≡ o
 before_none None = refl

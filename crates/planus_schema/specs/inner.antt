@@ -1,3 +1,4 @@
 pub mod Scopes
 pub mod Read
 pub mod Index
+pub mod Numbers

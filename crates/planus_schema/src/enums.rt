@@ -2,7 +2,6 @@
 
 ghost use Rattle.std.specs.Prelude.{◌≡◌, ◌^◌, ◌<◌, ◌∷◌, true, false, map, IfOk, [], Some, None};
 ghost use Rattle.std.specs.Prelude.{if◌then◌else◌};
-ghost use Rattle.std.specs.List.{list_any};
 ghost use Rattle.planus_syntax.specs.Values.{path_of, variant_of, enumeration_of};
 ghost use Rattle.planus_schema.specs.Enums.{same_number as same_number_lem, number_of_value};
 ghost use Rattle.planus_schema.specs.Enums.{SaysEnum, IsEnum};
@@ -10,6 +9,7 @@ ghost use Rattle.planus_schema.specs.Enums.{IsValueAdded, AreValues, number_said
 ghost use Rattle.planus_schema.specs.Enums.{none_variant, variants_or_none, is_integer_type};
 ghost use Rattle.planus_schema.specs.Enums.{settled_said, integer_type as integer_type_lem};
 ghost use Rattle.planus_schema.specs.Wrong.{Tells};
+ghost use Rattle.planus_schema.specs.inner.Numbers.{AreNumbers};
 ghost use Rattle.planus_schema.specs.WrongEnums.{wrong_value, wrong_names};
 ghost use Rattle.planus_schema.specs.WrongEnums.{wrong_values, wrong_enum};
 ghost use Rattle.planus_layout.specs.Distinct.{AreDistinct};
@@ -18,6 +18,7 @@ use crate::attributes::has;
 use crate::fault::{Problem, Stop, or_return, wrong};
 use crate::names::{copied, take_key};
 use crate::scalar_names::scalar_named;
+use crate::taken::Taken;
 use planus_layout::{Enum, EnumValue, Number, Scalar, following, integer};
 use planus_syntax::{Enumeration, Path, Variant};
 use std::alloc::{AllocError, Global};
@@ -71,27 +72,16 @@ pub(crate) fn same_number(a: Number, b: Number) -> bool
     (if a.negative { b.negative } else { !b.negative }) && a.magnitude == b.magnitude
 }
 
-fn has_number(values: &[EnumValue], number: Number) -> bool
-    ensures { result ≡ list_any (λ v. same_number_lem v.number number) values.now }
-{
-    let mut rest = values;
-    'values: while let Some((value, after)) = rest.split_first() {
-        if same_number(value.number, number) {
-            return true;
-        }
-        rest = after;
-    }
-    false
-}
-
-#[tactic(auto, using(crate::proofs::EnumLemmas::numbers_any))]
 fn add_value(
     alloc: Global,
     scalar: Scalar,
+    taken: &mut Taken,
     values: &mut Vec<EnumValue>,
     variant: &Variant,
     number: Number,
 ) -> Result<(), Stop>
+    requires { AreNumbers taken.old (map number_of_value values.old.items) }
+    ensures taken { IfOk result (λ _. AreNumbers taken.new (map number_of_value values.new.items)) }
     ensures added { IfOk result (λ _. IsValueAdded scalar (variant_of variant.now) number
         values.old.items values.new.items) }
     ensures wrong { Tells (wrong_value scalar (map number_of_value values.old.items) variant.now
@@ -100,7 +90,8 @@ fn add_value(
     if !scalar.fits(number) {
         return Err(wrong(Problem::ValueOutOfRange, variant.left));
     }
-    if has_number(values, number) {
+    let new = or_return!(taken.take(number), Stop::OutOfMemory);
+    if !new {
         return Err(wrong(Problem::ValueTaken, variant.left));
     }
     let name = or_return!(Vec::from_slice(alloc, &variant.name), Stop::OutOfMemory);
@@ -134,6 +125,7 @@ fn enum_values(
         values.items) }
     ensures wrong { Tells (wrong_values scalar flags None [] variants.now) result }
 {
+    let mut taken = Taken::new(alloc);
     let mut values = Vec::new(alloc);
     let mut previous = None;
     'variants: for variant in variants {
@@ -145,7 +137,7 @@ fn enum_values(
             Some(value) => value,
             None => return Err(wrong(Problem::ValueOutOfRange, variant.left)),
         };
-        or_return!(add_value(alloc, scalar, &mut values, variant, value));
+        or_return!(add_value(alloc, scalar, &mut taken, &mut values, variant, value));
         previous = Some(number);
     }
     Ok(values)

@@ -20,6 +20,7 @@ mod slots;
 mod statements;
 mod structs;
 mod tables;
+mod taken;
 mod unions;
 mod uses;
 mod waiting;

@@ -15,6 +15,7 @@ variants-init c = let e = c.new-values.ensures.items in record {
   wrong = rw e refl;
   within = rw e refl;
   distinct = no_values c.new-values.result.items e;
+  taken = rw e c.new-taken.ensures;
 }
 
 pub returns-clause-says : goal.returns-clause-says
@@ -48,6 +49,7 @@ variants-preserved c =
           c.in-Ok.ensures.wrong c.in-Some.ensures a.numbers;
       within = a.within i.within;
       distinct = a.distinct i.distinct;
+      taken = c.in-Ok.ensures.taken;
     }
 
 pub returns-in-None-clause-wrong : goal.returns-in-None-clause-wrong

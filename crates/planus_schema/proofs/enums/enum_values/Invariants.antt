@@ -5,6 +5,7 @@ use Rattle.std.specs.Option.{option_map}
 use Rattle.planus_syntax.specs.Values.{names_of, variant_of}
 use Rattle.planus_layout.specs.Numbers.{fits}
 use Rattle.planus_schema.specs.Enums.{number_of_value, values_said, same_number}
+use Rattle.planus_schema.specs.inner.Numbers.{AreNumbers}
 use Rattle.planus_schema.specs.WrongEnums.{wrong_values}
 use Rattle.planus_schema.proofs.enums.enum_values.Given as goal
 
@@ -21,4 +22,5 @@ invariant-variants l = record {
       (drop l.variant-index l.variants) ≡ wrong_values l.scalar l.flags None [] l.variants;
   within : list_all (λ x. fits l.scalar x.number) l.values.items ≡ true;
   distinct : IsDistinct same_number (map number_of_value l.values.items);
+  taken : AreNumbers l.taken (map number_of_value l.values.items);
 }
