@@ -12,13 +12,13 @@ ghost use Rattle.planus_schema.specs.WrongServices.{wrong_attributes};
 ghost use Rattle.planus_schema.specs.WrongServices.{wrong_in_fields};
 ghost use Rattle.planus_schema.specs.WrongServices.{wrong_method, wrong_methods, wrong_item};
 
+use crate::attribute_names::AttributeNames;
 use crate::fault::{Problem, Stop, or_return, wrong};
 use crate::kind::table_at;
 use crate::lookup::Wanted;
 use crate::names::take_key;
 use crate::scope::Scope;
 use crate::words::cut_words;
-use planus_layout::is_among;
 use planus_syntax::{Attribute, Declaration, Field, Item, Method, label_name};
 use std::alloc::{AllocError, Global};
 use std::collections::BTreeMap;
@@ -66,14 +66,14 @@ pub(crate) fn known_attributes(
     Ok(known)
 }
 
-fn is_known(known: &[Vec<u8>], name: &[u8]) -> bool
-    ensures { result ≡ is_known_lem (names_of known.now) name.now }
+fn is_known(known: &AttributeNames, name: &[u8]) -> bool
+    ensures { result ≡ is_known_lem known.now name.now }
 {
-    !name.contains(&b'\\') && is_among(known, name)
+    !name.contains(&b'\\') && known.has(name)
 }
 
-fn check_attributes(known: &[Vec<u8>], attributes: &[Attribute]) -> Result<(), Stop>
-    ensures { Tells (wrong_attributes (names_of known.now) attributes.now) result }
+fn check_attributes(known: &AttributeNames, attributes: &[Attribute]) -> Result<(), Stop>
+    ensures { Tells (wrong_attributes known.now attributes.now) result }
 {
     'attributes: for attribute in attributes {
         let label = &attribute.label;
@@ -84,8 +84,8 @@ fn check_attributes(known: &[Vec<u8>], attributes: &[Attribute]) -> Result<(), S
     Ok(())
 }
 
-fn check_fields(known: &[Vec<u8>], fields: &[Field]) -> Result<(), Stop>
-    ensures { Tells (wrong_in_fields (names_of known.now) fields.now) result }
+fn check_fields(known: &AttributeNames, fields: &[Field]) -> Result<(), Stop>
+    ensures { Tells (wrong_in_fields known.now fields.now) result }
 {
     'fields: for field in fields {
         or_return!(check_attributes(known, &field.attributes));
@@ -95,7 +95,7 @@ fn check_fields(known: &[Vec<u8>], fields: &[Field]) -> Result<(), Stop>
 
 fn check_method<'n>(
     scope: &Scope,
-    known: &[Vec<u8>],
+    known: &AttributeNames,
     names: &mut BTreeMap<&'n [u8], usize>,
     method: &'n Method,
 ) -> Result<(), Stop>
@@ -103,7 +103,7 @@ fn check_method<'n>(
         → OnOk result (IsTaken names.new (list ++ method.now.name.items ∷ [])) }
     ensures wrong { (list : List Name) → IsTaken names.old list
         → Tells (wrong_method (scope_heads scope.now) (scope_space scope.now)
-        (names_of known.now) list method.now) result }
+        known.now list method.now) result }
 {
     let new = or_return!(take_key(names, &method.name), Stop::OutOfMemory);
     if !new {
@@ -115,9 +115,9 @@ fn check_method<'n>(
     check_attributes(known, &method.attributes)
 }
 
-fn check_methods(scope: &Scope, known: &[Vec<u8>], methods: &[Method]) -> Result<(), Stop>
+fn check_methods(scope: &Scope, known: &AttributeNames, methods: &[Method]) -> Result<(), Stop>
     ensures { Tells (wrong_methods (scope_heads scope.now) (scope_space scope.now)
-        (names_of known.now) [] methods.now) result }
+        known.now [] methods.now) result }
 {
     let mut names = BTreeMap::new(scope.alloc);
     'methods: for method in methods {
@@ -126,9 +126,9 @@ fn check_methods(scope: &Scope, known: &[Vec<u8>], methods: &[Method]) -> Result
     Ok(())
 }
 
-pub(crate) fn check_item(scope: &Scope, known: &[Vec<u8>], item: &Item) -> Result<(), Stop>
+pub(crate) fn check_item(scope: &Scope, known: &AttributeNames, item: &Item) -> Result<(), Stop>
     ensures { Tells (wrong_item (scope_heads scope.now) (scope_space scope.now)
-        (names_of known.now) item.now) result }
+        known.now item.now) result }
 {
     match item {
         Item::Table(body) | Item::Struct(body) => {

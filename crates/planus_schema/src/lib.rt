@@ -2,6 +2,7 @@
 //! [`resolve`].
 #![tactic(auto)]
 
+mod attribute_names;
 mod attributes;
 mod awaited;
 mod checks;

@@ -7,12 +7,12 @@ ghost use Rattle.planus_schema.specs.inner.Scopes.{scope_heads, scope_space};
 ghost use Rattle.planus_schema.specs.Names.{head_of, begun_in};
 ghost use Rattle.planus_schema.specs.Schemas.{said_of, after, after_file, after_files, IsFour};
 ghost use Rattle.planus_schema.specs.Schemas.{no_statements};
-ghost use Rattle.planus_syntax.specs.Values.{names_of};
 ghost use Rattle.planus_schema.specs.Wrong.{Tells};
 ghost use Rattle.planus_schema.specs.WrongServices.{known_attributes as known_attributes_lem};
 ghost use Rattle.planus_schema.specs.Faults.{Adds, wrong_said, statement_faults};
 ghost use Rattle.planus_schema.specs.Faults.{file_faults};
 
+use crate::attribute_names::AttributeNames;
 use crate::checks::{check_item, known_attributes};
 use crate::fault::{Fault, Problem, Stop, note, or_return, wrong};
 use crate::head::{begun_after, space_after};
@@ -26,7 +26,7 @@ use std::alloc::{AllocError, Global};
 
 fn state(
     scope: &Scope,
-    known: &[Vec<u8>],
+    known: &AttributeNames,
     declaration: &Declaration,
     statements: &mut Statements,
 ) -> Result<(), Stop>
@@ -35,7 +35,7 @@ fn state(
         × (IsFour (said_of statements.old).identifier
         → IsFour (said_of statements.new).identifier)) }
     ensures wrong { Tells (wrong_said (scope_heads scope.now) (scope_space scope.now)
-        (names_of known.now) declaration.now) result }
+        known.now declaration.now) result }
 {
     or_return!(check_item(scope, known, &declaration.item));
     match &declaration.item {
@@ -62,7 +62,7 @@ fn state(
 fn state_file(
     alloc: Global,
     heads: &Heads,
-    known: &[Vec<u8>],
+    known: &AttributeNames,
     file: usize,
     begun: &mut usize,
     declarations: &[Declaration],
@@ -73,7 +73,7 @@ fn state_file(
     ensures begun { OnOk result (begun.new ≡ begun_in begun.old (declarations_of declarations.now)) }
     ensures stated { OnOk result (AreStated (after_file (map head_of heads.now) begun.old None
         (said_of statements.old) (declarations_of declarations.now)) (statement_faults
-        (map head_of heads.now) (names_of known.now) file begun.old None declarations.now)
+        (map head_of heads.now) known.now file begun.old None declarations.now)
         statements.old statements.new faults.old.items faults.new.items) }
 {
     let mut space = None;
@@ -120,7 +120,8 @@ pub(crate) fn statements(
     ensures adds { OnOk result (Adds (file_faults (map head_of heads.now)
         (known_attributes_lem files.now) 0 0 files.now) faults.old.items faults.new.items) }
 {
-    let known = or_return!(known_attributes(alloc, files));
+    let names = or_return!(known_attributes(alloc, files));
+    let known = or_return!(AttributeNames::new(alloc, &names));
     let mut statements = nothing_stated();
     let mut file = 0;
     let mut begun = 0;

@@ -1,7 +1,7 @@
 use Rattle.std.proofs.Common.{◌≡◌, true, false, refl, ap, sym, ◌∙◌}
 use Rattle.std.specs.Prelude.{not}
 use Rattle.std.proofs.lemmas.List.{drop_all}
-use Rattle.planus_syntax.specs.Values.{names_of, label_name, label_of}
+use Rattle.planus_syntax.specs.Values.{label_name, label_of}
 use Rattle.planus_schema.specs.declared.fault.Problem.TheVariants as problem
 use Rattle.planus_schema.specs.WrongServices.{is_known, wrong_attributes}
 use Rattle.planus_schema.proofs.StructLemmas.{drop_next}
@@ -10,7 +10,7 @@ use Rattle.planus_schema.proofs.checks.check_attributes.Goals as goal
 
 pub attributes-preserved : goal.attributes-preserved
 attributes-preserved c =
-    let known = names_of c.args.known.now in
+    let known = c.args.known.now in
     let a = c.attribute-item.result in
     let r = drop_next c.args.attributes.now c.attributes.attribute-index c.attribute-item.result c.attributes-test.true c.attribute-item.is in
     let found : is_known known (label_name (label_of a.label)) ≡ true = ap (is_known known) (sym c.label_name.ensures) ∙ sym c.if-not-is_known.ensures in
@@ -18,7 +18,7 @@ attributes-preserved c =
 
 pub returns-then-not-is_known : goal.returns-then-not-is_known
 returns-then-not-is_known c =
-    let known = names_of c.args.known.now in
+    let known = c.args.known.now in
     let a = c.attribute-item.result in
     let r = drop_next c.args.attributes.now c.attributes.attribute-index c.attribute-item.result c.attributes-test.true c.attribute-item.is in
     let found : is_known known (label_name (label_of a.label)) ≡ false = ap (is_known known) (sym c.label_name.ensures) ∙ sym c.if-not-is_known.ensures in

@@ -1,5 +1,4 @@
 use Rattle.std.proofs.Common.{◌≡◌, ◌++◌, ◌∷◌, [], true, false, ap, sym, subst, ◌∙◌}
-use Rattle.planus_syntax.specs.Values.{names_of}
 use Rattle.planus_layout.specs.Distinct.{is_in}
 use Rattle.planus_schema.specs.declared.fault.Problem.TheVariants as problem
 use Rattle.planus_schema.specs.Wrong.{Tells}
@@ -33,5 +32,5 @@ returns-clause-taken c = λ names h.
 pub returns-clause-wrong : goal.returns-clause-wrong
 returns-clause-wrong c = λ names h.
     let new : is_in names c.args.method.now.name.items ≡ false = ap (is_in names) (sym c.deref.ensures.value) ∙ name_new _ _ c.if-not-new.false (c.in-Ok.ensures.new names h) in
-    let left = skip _ _ (passes _ problem.MethodNameTaken c.args.method.now.left new) ∙ skip _ _ c.in-Ok-table_at.ensures.wrong ∙ skip _ _ c.in-Ok-table_at-2.ensures.wrong ∙ ap (wrong_attributes (names_of c.args.known.now)) (sym c.deref-2.ensures.value) in
+    let left = skip _ _ (passes _ problem.MethodNameTaken c.args.method.now.left new) ∙ skip _ _ c.in-Ok-table_at.ensures.wrong ∙ skip _ _ c.in-Ok-table_at-2.ensures.wrong ∙ ap (wrong_attributes c.args.known.now) (sym c.deref-2.ensures.value) in
     subst (λ o. Tells o c.check_attributes.result) (sym left) c.check_attributes.ensures

@@ -1,6 +1,5 @@
 use Rattle.std.proofs.Common.{rules, ◌+◌, refl, ap, sym, subst, ◌∙◌, drop, map, take}
 use Rattle.std.proofs.lemmas.List.{drop_all}
-use Rattle.planus_syntax.specs.Values.{names_of}
 use Rattle.planus_syntax.specs.declared.value.Method.{Method}
 use Rattle.planus_schema.specs.inner.Index.{IsTaken}
 use Rattle.planus_schema.specs.inner.Scopes.{scope_heads, scope_space}
@@ -20,8 +19,8 @@ methods-preserved c =
     let t = map_next (λ (m : Method). m.name.items) c.args.methods.now c.methods.method-index c.method-item.result c.methods-test.true c.method-item.is in
     record {
       taken = subst (IsTaken c.check_method.new.names) (sym t) (c.in-Ok.ensures.taken names i.taken);
-      wrong = ap (λ ns. wrong_methods (scope_heads c.args.scope.now) (scope_space c.args.scope.now) (names_of c.args.known.now) ns (drop (c.methods.method-index + 1) c.args.methods.now)) t
-          ∙ next_is (wrong_methods (scope_heads c.args.scope.now) (scope_space c.args.scope.now) (names_of c.args.known.now) names) _ _ _ c.method-item.result _ _ r refl i.wrong (c.in-Ok.ensures.wrong names i.taken);
+      wrong = ap (λ ns. wrong_methods (scope_heads c.args.scope.now) (scope_space c.args.scope.now) c.args.known.now ns (drop (c.methods.method-index + 1) c.args.methods.now)) t
+          ∙ next_is (wrong_methods (scope_heads c.args.scope.now) (scope_space c.args.scope.now) c.args.known.now names) _ _ _ c.method-item.result _ _ r refl i.wrong (c.in-Ok.ensures.wrong names i.taken);
     }
 
 pub returns-in-Err : goal.returns-in-Err
@@ -29,7 +28,7 @@ returns-in-Err c =
     let i = c.methods.invariant in
     let names = map (λ (m : Method). m.name.items) (take c.methods.method-index c.args.methods.now) in
     let r = drop_next c.args.methods.now c.methods.method-index c.method-item.result c.methods-test.true c.method-item.is in
-    first_stops (wrong_methods (scope_heads c.args.scope.now) (scope_space c.args.scope.now) (names_of c.args.known.now) names) _ _ _ c.method-item.result _ _ _ r refl i.wrong (c.in-Err.ensures.wrong names i.taken)
+    first_stops (wrong_methods (scope_heads c.args.scope.now) (scope_space c.args.scope.now) c.args.known.now names) _ _ _ c.method-item.result _ _ _ r refl i.wrong (c.in-Err.ensures.wrong names i.taken)
 
 pub returns : goal.returns
 returns c =

@@ -1,5 +1,4 @@
 use Rattle.std.proofs.Common.{◌≡◌, [], drop, map, take}
-use Rattle.planus_syntax.specs.Values.{names_of}
 use Rattle.planus_schema.specs.inner.Index.{IsTaken}
 use Rattle.planus_schema.specs.inner.Scopes.{scope_heads, scope_space}
 use Rattle.planus_schema.specs.WrongServices.{wrong_methods}
@@ -8,7 +7,7 @@ use Rattle.planus_schema.proofs.checks.check_methods.Given as goal
 abbrev pub invariant-methods : goal.invariant-methods
 invariant-methods l = record {
   taken : IsTaken l.names (map (λ m. m.name.items) (take l.method-index l.methods));
-  wrong : wrong_methods (scope_heads l.scope) (scope_space l.scope) (names_of l.known)
+  wrong : wrong_methods (scope_heads l.scope) (scope_space l.scope) l.known
       (map (λ m. m.name.items) (take l.method-index l.methods)) (drop l.method-index l.methods)
-      ≡ wrong_methods (scope_heads l.scope) (scope_space l.scope) (names_of l.known) [] l.methods;
+      ≡ wrong_methods (scope_heads l.scope) (scope_space l.scope) l.known [] l.methods;
 }

@@ -1,6 +1,6 @@
 use Rattle.std.proofs.Common.{◌≡◌, subst, ◌+◌, ◌++◌, map, drop, ap, sym, ◌∙◌}
 use Rattle.std.proofs.lemmas.List.{drop_all}
-use Rattle.planus_syntax.specs.Values.{names_of, item_of, declarations_of}
+use Rattle.planus_syntax.specs.Values.{item_of, declarations_of}
 use Rattle.std.specs.Global.{Vec}
 use Rattle.planus_schema.specs.declared.fault.Fault.{Fault}
 use Rattle.planus_schema.specs.inner.Read.{AreStated}
@@ -16,7 +16,7 @@ pub declarations-preserved : goal.declarations-preserved
 declarations-preserved c =
     let i = c.declarations.invariant in
     let hs = map head_of c.args.heads.now in
-    let known = names_of c.args.known.now in
+    let known = c.args.known.now in
     let ds = c.args.declarations.now in
     let n = c.declarations.declaration-index in
     let r = drop_next c.args.declarations.now c.declarations.declaration-index c.declaration-item.result c.declarations-test.true c.declaration-item.is in
@@ -84,6 +84,6 @@ returns-clause-stated c =
         kept = i.kept;
         most = i.most;
         adds = adds_none c.declarations.faults.items i.most
-            ∙ ap (λ ds. first_twenty (c.declarations.faults.items ++ statement_faults (map head_of c.args.heads.now) (names_of c.args.known.now) c.args.file c.declarations.begun (path_in c.declarations.space) ds)) (sym d) ∙ i.adds;
+            ∙ ap (λ ds. first_twenty (c.declarations.faults.items ++ statement_faults (map head_of c.args.heads.now) c.args.known.now c.args.file c.declarations.begun (path_in c.declarations.space) ds)) (sym d) ∙ i.adds;
       };
     }

@@ -1,6 +1,6 @@
 use Rattle.std.proofs.Common.{◌≡◌, ◌≤◌, ◌++◌, [], length, map, drop}
 use Rattle.std.specs.Prelude.{None}
-use Rattle.planus_syntax.specs.Values.{declarations_of, names_of}
+use Rattle.planus_syntax.specs.Values.{declarations_of}
 use Rattle.planus_schema.specs.Faults.{first_twenty, statement_faults}
 use Rattle.planus_schema.specs.Names.{head_of, path_in, begun_in}
 use Rattle.planus_schema.specs.Schemas.{said_of, after_file, IsFour}
@@ -17,8 +17,8 @@ invariant-declarations l = record {
       → IsFour (said_of l.statements).identifier;
   kept : l.faults.items ≡ [] → l.fn.faults.items ≡ [];
   most : length l.faults.items ≤ 20;
-  adds : first_twenty (l.faults.items ++ statement_faults (map head_of l.heads) (names_of l.known)
+  adds : first_twenty (l.faults.items ++ statement_faults (map head_of l.heads) l.known
       l.file l.begun (path_in l.space) (drop l.declaration-index l.declarations))
-      ≡ first_twenty (l.fn.faults.items ++ statement_faults (map head_of l.heads) (names_of l.known)
+      ≡ first_twenty (l.fn.faults.items ++ statement_faults (map head_of l.heads) l.known
       l.file l.fn.begun None l.declarations);
 }

@@ -23,8 +23,9 @@ files-preserved c =
     let file = c.files.file in
     let b = c.files.begun in
     let d = c.declarations-item.result in
-    let a = subst (λ cs. Adds (statement_faults hs cs file b None d.items) old new) (ap names_of c.deref.ensures.value ∙ c.files.invariant.known)
-    (subst (λ ds. Adds (statement_faults hs (names_of c.deref.result.now) file b None ds) old new) c.deref-in-files.ensures.value c.in-Ok-state_file.ensures.stated.noted.adds) in
+    let known : c.in-Ok-new.value ≡ known_attributes c.args.files.now = c.in-Ok-new.ensures ∙ ap names_of c.deref.ensures.value ∙ c.in-Ok.ensures in
+    let a = subst (λ cs. Adds (statement_faults hs cs file b None d.items) old new) known
+    (subst (λ ds. Adds (statement_faults hs c.in-Ok-new.value file b None ds) old new) c.deref-in-files.ensures.value c.in-Ok-state_file.ensures.stated.noted.adds) in
     let more : c.state_file.new.begun ≡ begun_in b (declarations_of d.items) =
     c.in-Ok-state_file.ensures.begun ∙ ap (λ ds. begun_in b (declarations_of ds)) c.deref-in-files.ensures.value in
     record {
@@ -40,7 +41,6 @@ files-preserved c =
       adds = ap (λ m. first_twenty (new ++ file_faults hs (known_attributes c.args.files.now) (file + 1) m (drop (c.files.declarations-index + 1) c.args.files.now))) more
           ∙ adds_next old (statement_faults hs (known_attributes c.args.files.now) file b None d.items) new _ _ a
           (ap (λ fs. first_twenty (old ++ file_faults hs (known_attributes c.args.files.now) file b fs)) (sym r) ∙ c.files.invariant.adds);
-      known = c.files.invariant.known;
     }
 
 pub overflow_add-file : goal.overflow_add-file

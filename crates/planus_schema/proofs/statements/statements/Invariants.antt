@@ -1,5 +1,5 @@
 use Rattle.std.proofs.Common.{◌≡◌, ◌≤◌, ◌++◌, [], length, map, drop}
-use Rattle.planus_syntax.specs.Values.{declarations_of, names_of}
+use Rattle.planus_syntax.specs.Values.{declarations_of}
 use Rattle.planus_schema.specs.WrongServices.{known_attributes}
 use Rattle.planus_schema.specs.Faults.{first_twenty, file_faults}
 use Rattle.planus_schema.specs.Names.{head_of}
@@ -18,5 +18,4 @@ invariant-files l = record {
   adds : first_twenty (l.faults.items ++ file_faults (map head_of l.heads) (known_attributes l.files)
       l.file l.begun (drop l.declarations-index l.files))
       ≡ first_twenty (l.fn.faults.items ++ file_faults (map head_of l.heads) (known_attributes l.files) 0 0 l.files);
-  known : names_of l.known.items ≡ known_attributes l.files;
 }
