@@ -19,7 +19,7 @@ use Rattle.planus_layout.specs.declared.schema.Base.TheVariants as base
 use Rattle.planus_layout.specs.declared.schema.FieldType.{FieldType}
 use Rattle.planus_layout.specs.Numbers.{integer_said, is_float, is_bool, fits, zero_number, is_hexadecimal, without_sign}
 use Rattle.planus_schema.specs.Names.{HeadV, item_at, cut_words}
-use Rattle.planus_schema.specs.Enums.{variants_or_none}
+use Rattle.planus_schema.specs.Enums.{integer_at, variants_or_none}
 use Rattle.planus_schema.specs.Enums.{is_flags}
 use Rattle.planus_schema.specs.Defaults.{ValueV, absent, integer, float, text, empty, lone_word, is_null, null_or, if_fits, whole_number, number_default, truth, bool_number, named_bool, named_float, has_exponent, float_number, scalar_number, scalar_quoted, scalar_word, scalar_named_by, scalar_default, enum_quoted, value_named, value_name, value_in, as_integer, enum_named, is_among_values, among_values, flags_named, with_flag, or_flag, as_flags, text_default, vector_default, enum_at, default_in, base_default, zero_in, zero_scalar, zero_default, some_default, default_said, is_scalar_value, is_enum_value, is_text_value, is_vector_value, is_value, is_default}
 
@@ -120,32 +120,32 @@ value_allowed : (e : EnumerationV) (o : Option Name) → Allowed is_enum_value (
 value_allowed e None = none_allowed is_enum_value
 value_allowed e (Some w) = integer_allowed (value_named w (is_flags e) None (variants_or_none e.variants))
 
-among_allowed : (e : EnumerationV) (n : Number) → Allowed is_enum_value (among_values e n)
-among_allowed e n = chosen is_enum_value (is_among_values e n) (Some (integer n)) None (λ _. one_allowed is_enum_value (integer n) refl) (λ _. none_allowed is_enum_value)
+among_allowed : (s : Option Scalar) (e : EnumerationV) (n : Number) → Allowed is_enum_value (among_values s e n)
+among_allowed s e n = chosen is_enum_value (is_among_values s e n) (Some (integer n)) None (λ _. one_allowed is_enum_value (integer n) refl) (λ _. none_allowed is_enum_value)
 
 flags_allowed : (o : Option ℕ) → Allowed is_enum_value (as_flags o)
 flags_allowed None = none_allowed is_enum_value
 flags_allowed (Some n) = one_allowed is_enum_value (integer (record { negative = false; magnitude = n })) refl
 
-number_allowed : (e : EnumerationV) (o : Option Number) → Allowed is_enum_value (number_default e o)
-number_allowed e None = none_allowed is_enum_value
-number_allowed e (Some n) = among_allowed e n
+number_allowed : (s : Option Scalar) (e : EnumerationV) (o : Option Number) → Allowed is_enum_value (number_default s e o)
+number_allowed s e None = none_allowed is_enum_value
+number_allowed s e (Some n) = among_allowed s e n
 
 null_or_allowed : (p : ValueV → Bool) (w : Option Name) (o : Option ValueV) → p absent ≡ true → Allowed p o → Allowed p (null_or w o)
 null_or_allowed p None o h a = a
 null_or_allowed p (Some w) o h a = null_allowed p w o h a
 
-enum_quoted_allowed : (e : EnumerationV) (w : List ℕ) → Allowed is_enum_value (enum_quoted e w)
-enum_quoted_allowed e w = chosen is_enum_value (is_number w) (number_default e (integer_said w)) _ (λ _. number_allowed e (integer_said w))
+enum_quoted_allowed : (s : Option Scalar) (e : EnumerationV) (w : List ℕ) → Allowed is_enum_value (enum_quoted s e w)
+enum_quoted_allowed s e w = chosen is_enum_value (is_number w) (number_default s e (integer_said w)) _ (λ _. number_allowed s e (integer_said w))
     (λ _. null_allowed is_enum_value w _ refl
     (chosen is_enum_value (is_flags e) (as_flags (flags_named e (cut_words [] w))) (value_in e (Some w)) (λ _. flags_allowed (flags_named e (cut_words [] w))) (λ _. value_allowed e (Some w))))
 
-enum_allowed : (o : Option EnumerationV) (l : LiteralV) → Allowed is_enum_value (default_in o l)
-enum_allowed None l = none_allowed is_enum_value
-enum_allowed (Some e) (numeral w) = number_allowed e (integer_said w)
-enum_allowed (Some e) (named p) = null_or_allowed is_enum_value (lone_word p) (enum_named e p) refl (value_allowed e (value_name e p))
-enum_allowed (Some e) (quote w) = enum_quoted_allowed e (between_quotes w)
-enum_allowed (Some e) nothing = none_allowed is_enum_value
+enum_allowed : (s : Option Scalar) (o : Option EnumerationV) (l : LiteralV) → Allowed is_enum_value (default_in s o l)
+enum_allowed s None l = none_allowed is_enum_value
+enum_allowed s (Some e) (numeral w) = number_allowed s e (integer_said w)
+enum_allowed s (Some e) (named p) = null_or_allowed is_enum_value (lone_word p) (enum_named e p) refl (value_allowed e (value_name e p))
+enum_allowed s (Some e) (quote w) = enum_quoted_allowed s e (between_quotes w)
+enum_allowed s (Some e) nothing = none_allowed is_enum_value
 
 text_allowed : (l : LiteralV) → Allowed is_text_value (text_default l)
 text_allowed (numeral w) = none_allowed is_text_value
@@ -162,7 +162,7 @@ vector_allowed nothing = one_allowed is_vector_value empty refl
 base_allowed : (hs : List HeadV) (b : Base) (l : LiteralV) → Allowed (is_value b) (base_default hs b l)
 base_allowed hs (base.Scalar s) l = record { each = (scalar_allowed s l).each }
 base_allowed hs base.Text l = record { each = (text_allowed l).each }
-base_allowed hs (base.Enum i) l = record { each = (enum_allowed (enum_at (item_at hs i)) l).each }
+base_allowed hs (base.Enum i) l = record { each = (enum_allowed (integer_at hs i) (enum_at (item_at hs i)) l).each }
 base_allowed hs (base.Struct i) l = none_allowed (is_value (base.Struct i))
 base_allowed hs (base.Table i) l = none_allowed (is_value (base.Table i))
 base_allowed hs (base.Union i) l = none_allowed (is_value (base.Union i))
@@ -195,14 +195,14 @@ zero_among : (q : Bool) (i : ℕ) (o : Option ValueV) → cond q (Some (Some (in
 zero_among true i o e = subst (λ y. is_default (record { vector = false; base = base.Enum i }) y ≡ true) (both (Some (integer zero_number)) o e) refl
 zero_among false i o e = absurd cc
 
-zero_enum : (x : Option EnumerationV) (i : ℕ) (o : Option ValueV) → zero_in x ≡ Some o → is_default (record { vector = false; base = base.Enum i }) o ≡ true
-zero_enum None i o e = absurd cc
-zero_enum (Some d) i o e = zero_among (is_among_values d zero_number) i o e
+zero_enum : (s : Option Scalar) (x : Option EnumerationV) (i : ℕ) (o : Option ValueV) → zero_in s x ≡ Some o → is_default (record { vector = false; base = base.Enum i }) o ≡ true
+zero_enum s None i o e = absurd cc
+zero_enum s (Some d) i o e = zero_among (is_among_values s d zero_number) i o e
 
 zero_lawful : (hs : List HeadV) (b : Base) (o : Option ValueV) → zero_default hs b ≡ Some o → is_default (record { vector = false; base = b }) o ≡ true
 zero_lawful hs (base.Scalar s) o e = subst (λ y. is_default (record { vector = false; base = base.Scalar s }) y ≡ true) (both (Some (zero_scalar s)) o e) (zero_value s)
 zero_lawful hs base.Text o e = subst (λ y. is_default (record { vector = false; base = base.Text }) y ≡ true) (both None o e) refl
-zero_lawful hs (base.Enum i) o e = zero_enum (enum_at (item_at hs i)) i o e
+zero_lawful hs (base.Enum i) o e = zero_enum (integer_at hs i) (enum_at (item_at hs i)) i o e
 zero_lawful hs (base.Struct i) o e = subst (λ y. is_default (record { vector = false; base = base.Struct i }) y ≡ true) (both None o e) refl
 zero_lawful hs (base.Table i) o e = subst (λ y. is_default (record { vector = false; base = base.Table i }) y ≡ true) (both None o e) refl
 zero_lawful hs (base.Union i) o e = subst (λ y. is_default (record { vector = false; base = base.Union i }) y ≡ true) (both None o e) refl

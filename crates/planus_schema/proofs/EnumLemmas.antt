@@ -5,7 +5,7 @@ use Rattle.std.specs.List.{list_any, list_all, IsDistinct}
 use Rattle.std.specs.Option.{option_map}
 use Rattle.std.proofs.lemmas.List.{map_push, append-nil}
 use Rattle.std.proofs.lemmas.List.Folds.{list_all-append}
-use Rattle.planus_syntax.specs.Values.{Name, VariantV, names_of, digits_of, path_of, attribute_of}
+use Rattle.planus_syntax.specs.Values.{Name, VariantV, names_of, digits_of, attribute_of}
 use Rattle.planus_syntax.specs.declared.value.Enumeration.{Enumeration}
 use Rattle.planus_syntax.specs.declared.value.Variant.{Variant}
 use Rattle.planus_layout.specs.Distinct.{is_in, AreDistinct}
@@ -21,8 +21,8 @@ use Rattle.planus_layout.specs.declared.number.Number.{Number}
 use Rattle.planus_layout.specs.declared.scalar.Scalar.{Scalar}
 use Rattle.planus_layout.specs.declared.scalar.Scalar.TheVariants as scalar
 use Rattle.planus_layout.specs.declared.schema.EnumValue.{EnumValue}
-use Rattle.planus_layout.specs.Numbers.{fits, scalar_named}
-use Rattle.planus_schema.specs.Enums.{integer_in, integer_type, integer_type_of, is_integer_type, same_number, number_of_value, number_said, settled_said, value_said, values_said, none_variant, variants_or_none, AreValues, IsValueAdded}
+use Rattle.planus_layout.specs.Numbers.{fits}
+use Rattle.planus_schema.specs.Enums.{is_integer_type, same_number, number_of_value, number_said, settled_said, value_said, values_said, none_variant, variants_or_none, AreValues, IsValueAdded}
 use Rattle.planus_layout.proofs.Lists.{distinct_push, distinct_none}
 
 pub value_added : (s : Scalar) (v : VariantV) (n : Number) (old new : List EnumValue) (x : EnumValue) → new ≡ old ++ x ∷ [] → x.name.items ≡ v.name → names_of x.docs.items ≡ v.docs → x.number ≡ n → fits s n ≡ true → list_any (λ m. same_number m n) (map number_of_value old) ≡ false → IsValueAdded s v n old new
@@ -87,33 +87,11 @@ value_names_next names vs v rest all names' here same new named =
     ∙ sym (skip (when (is_in names v.name.items) problem.ValueNameTaken v.left) _ (passes _ problem.ValueNameTaken v.left new))
     ∙ ap (wrong_names names) (sym here) ∙ same
 
-integer_if : (b : Bool) (t s : Scalar) → (if b then Some t else None) ≡ Some s → (b ≡ true) × (t ≡ s)
-integer_if true t s e = (refl, cc)
-integer_if false t s e = absurd cc
+pub untyped : (integer : Option Scalar) (e : Enumeration) → integer ≡ None → wrong_enum integer e ≡ broken problem.NoIntegerType e.base.left
+untyped integer e h = rw h refl
 
-integer_in_known : (o : Option Scalar) (s : Scalar) → integer_in o ≡ Some s → (o ≡ Some s) × (is_integer_type s ≡ true)
-integer_in_known None s e = absurd cc
-integer_in_known (Some t) s e =
-    let h = integer_if (is_integer_type t) t s e in
-    (ap Some h.1, ap is_integer_type (sym h.1) ∙ h.0)
-
--- the integer type of an enum
-pub record IsIntegerType (more : List Name) (first : Name) (s : Scalar) : Type 0 where
-  pub single : more ≡ []
-  pub named : scalar_named first ≡ Some s
-  pub integer : is_integer_type s ≡ true
-
-pub integer_known : (more : List Name) (first : Name) (s : Scalar) → integer_type_of more first ≡ Some s → IsIntegerType more first s
-integer_known [] first s e =
-    let h = integer_in_known (scalar_named first) s e in
-    record { single = refl; named = h.0; integer = h.1 }
-integer_known (n ∷ ns) first s e = absurd cc
-
-pub untyped : (e : Enumeration) → integer_type (path_of e.base) ≡ None → wrong_enum e ≡ broken problem.NoIntegerType e.base.left
-untyped e h = rw h refl
-
-pub typed : (e : Enumeration) (s : Scalar) → integer_type (path_of e.base) ≡ Some s → wrong_enum e ≡ first (wrong_names [] e.variants.items) (wrong_values s (has (codes "bit_flags") (map attribute_of e.attributes.items)) None [] e.variants.items)
-typed e s h = rw h refl
+pub typed : (integer : Option Scalar) (e : Enumeration) (s : Scalar) → integer ≡ Some s → wrong_enum integer e ≡ first (wrong_names [] e.variants.items) (wrong_values s (has (codes "bit_flags") (map attribute_of e.attributes.items)) None [] e.variants.items)
+typed integer e s h = rw h refl
 
 fits_flag : (s : Scalar) (flags : Bool) → is_integer_type s ≡ true → fits s (record { negative = false; magnitude = if flags then 1 else 0 }) ≡ true
 fits_flag scalar.Bool true h = absurd cc

@@ -1,5 +1,6 @@
 pub mod Lists
 pub mod EnumLemmas
+pub mod IntegerLemmas
 pub mod StructLemmas
 pub mod MeasureLemmas
 pub mod UnionLemmas

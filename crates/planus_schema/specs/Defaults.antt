@@ -21,10 +21,10 @@ use Rattle.planus_layout.specs.declared.schema.Value.{Value}
 use Rattle.planus_layout.specs.declared.schema.Value.TheVariants as value
 use Rattle.planus_layout.specs.Numbers.{integer_said, is_float, is_bool, fits}
 use Rattle.planus_layout.specs.Numbers.{zero_number}
-use Rattle.planus_layout.specs.Numbers.{is_hexadecimal, without_sign, scalar_named}
+use Rattle.planus_layout.specs.Numbers.{is_hexadecimal, without_sign}
 use Rattle.planus_schema.specs.Names.{HeadV, item_at, cut_words}
 use Rattle.planus_schema.specs.Enums.{number_said, settled_said, is_flags, numbers_said}
-use Rattle.planus_schema.specs.Enums.{same_number, variants_or_none}
+use Rattle.planus_schema.specs.Enums.{same_number, variants_or_none, integer_at}
 
 -- ---- values
 
@@ -141,16 +141,16 @@ abbrev pub enum_named : EnumerationV → PathV → Option ValueV
 enum_named e p = value_in e (value_name e p)
 
 -- one of the values, or with `bit_flags` any number of the type
-abbrev pub is_among_values : EnumerationV → Number → Bool
-is_among_values e n = if is_flags e then fits_in (scalar_named e.base.first)
+abbrev pub is_among_values : Option Scalar → EnumerationV → Number → Bool
+is_among_values s e n = if is_flags e then fits_in s
     else list_any (λ v. same_number v n) (numbers_said None (variants_or_none e.variants))
   where
     fits_in : Option Scalar → Bool
     fits_in None = false
-    fits_in (Some s) = fits s n
+    fits_in (Some t) = fits t n
 
-abbrev pub among_values : EnumerationV → Number → Option ValueV
-among_values e n = if is_among_values e n then Some (integer n) else None
+abbrev pub among_values : Option Scalar → EnumerationV → Number → Option ValueV
+among_values s e n = if is_among_values s e n then Some (integer n) else None
 
 abbrev pub or_flag : ℕ → Option Number → Option ℕ
 or_flag total None = None
@@ -168,13 +168,13 @@ abbrev pub as_flags : Option ℕ → Option ValueV
 as_flags None = None
 as_flags (Some n) = Some (integer (record { negative = false; magnitude = n }))
 
-abbrev pub number_default : EnumerationV → Option Number → Option ValueV
-number_default e None = None
-number_default e (Some n) = among_values e n
+abbrev pub number_default : Option Scalar → EnumerationV → Option Number → Option ValueV
+number_default s e None = None
+number_default s e (Some n) = among_values s e n
 
 -- in quotes stands a number, `null`, a value, or with `bit_flags` several
-abbrev pub enum_quoted : EnumerationV → List ℕ → Option ValueV
-enum_quoted e w = if is_number w then number_default e (integer_said w)
+abbrev pub enum_quoted : Option Scalar → EnumerationV → List ℕ → Option ValueV
+enum_quoted s e w = if is_number w then number_default s e (integer_said w)
     else if is_null w then Some absent
     else if is_flags e then as_flags (flags_named e (cut_words [] w))
     else value_in e (Some w)
@@ -183,11 +183,12 @@ abbrev pub null_or : Option Name → Option ValueV → Option ValueV
 null_or None o = o
 null_or (Some w) o = if is_null w then Some absent else o
 
-abbrev pub enum_default : EnumerationV → LiteralV → Option ValueV
-enum_default e (numeral w) = number_default e (integer_said w)
-enum_default e (named p) = null_or (lone_word p) (enum_named e p)
-enum_default e (quote w) = enum_quoted e (between_quotes w)
-enum_default e nothing = None
+-- the enum has this integer type
+abbrev pub enum_default : Option Scalar → EnumerationV → LiteralV → Option ValueV
+enum_default s e (numeral w) = number_default s e (integer_said w)
+enum_default s e (named p) = null_or (lone_word p) (enum_named e p)
+enum_default s e (quote w) = enum_quoted s e (between_quotes w)
+enum_default s e nothing = None
 
 abbrev pub text_default : LiteralV → Option ValueV
 text_default (numeral w) = None
@@ -216,21 +217,22 @@ enum_at (Some (root p)) = None
 enum_at (Some (identifier w)) = None
 enum_at (Some (extension w)) = None
 
-abbrev pub default_in : Option EnumerationV → LiteralV → Option ValueV
-default_in None l = None
-default_in (Some e) l = enum_default e l
+abbrev pub default_in : Option Scalar → Option EnumerationV → LiteralV → Option ValueV
+default_in s None l = None
+default_in s (Some e) l = enum_default s e l
 
 abbrev pub base_default : List HeadV → Base → LiteralV → Option ValueV
 base_default hs (base.Scalar s) l = scalar_default s l
 base_default hs base.Text l = text_default l
-base_default hs (base.Enum i) l = default_in (enum_at (item_at hs i)) l
+base_default hs (base.Enum i) l = default_in (integer_at hs i) (enum_at (item_at hs i)) l
 base_default hs (base.Struct i) l = None
 base_default hs (base.Table i) l = None
 base_default hs (base.Union i) l = None
 
-abbrev pub zero_in : Option EnumerationV → Option (Option ValueV)
-zero_in None = None
-zero_in (Some e) = if is_among_values e zero_number then Some (Some (integer zero_number)) else None
+abbrev pub zero_in : Option Scalar → Option EnumerationV → Option (Option ValueV)
+zero_in s None = None
+zero_in s (Some e) =
+    if is_among_values s e zero_number then Some (Some (integer zero_number)) else None
 
 abbrev pub zero_scalar : Scalar → ValueV
 zero_scalar s = if is_float s then float (codes "0") else integer zero_number
@@ -239,7 +241,7 @@ zero_scalar s = if is_float s then float (codes "0") else integer zero_number
 abbrev pub zero_default : List HeadV → Base → Option (Option ValueV)
 zero_default hs (base.Scalar s) = Some (Some (zero_scalar s))
 zero_default hs base.Text = Some None
-zero_default hs (base.Enum i) = zero_in (enum_at (item_at hs i))
+zero_default hs (base.Enum i) = zero_in (integer_at hs i) (enum_at (item_at hs i))
 zero_default hs (base.Struct i) = Some None
 zero_default hs (base.Table i) = Some None
 zero_default hs (base.Union i) = Some None

@@ -1,17 +1,22 @@
 -- Enums.
 use Rattle.std.specs.Prelude.{◌≡◌, ℕ, ◌^◌, Bool, true, false, ◌==◌, ◌&&◌, not, if◌then◌else◌}
-use Rattle.std.specs.Prelude.{nat_lt}
+use Rattle.std.specs.Prelude.{nat_lt, ◌+◌, length, slice_get}
 use Rattle.std.specs.Prelude.{List, [], ◌∷◌, ◌++◌, map, Option, Some, None, codes}
 use Rattle.std.specs.List.{IsDistinct, list_all}
-use Rattle.planus_syntax.specs.Values.{Name, PathV, VariantV, EnumerationV, names_of}
+use Rattle.planus_syntax.specs.Values.{Name, VariantV, EnumerationV, names_of}
+use Rattle.planus_syntax.specs.Values.{ItemV, include, namespace, attribute, table, struct}
+use Rattle.planus_syntax.specs.Values.{native_include}
+use Rattle.planus_syntax.specs.Values.{enumeration, union, service, root, identifier, extension}
+use Rattle.planus_layout.specs.declared.schema.Base.{Base}
+use Rattle.planus_layout.specs.declared.schema.Base.TheVariants as base
 use Rattle.planus_layout.specs.declared.number.Number.{Number}
 use Rattle.planus_layout.specs.declared.scalar.Scalar.{Scalar}
 use Rattle.planus_layout.specs.declared.schema.Enum.{Enum}
 use Rattle.planus_layout.specs.declared.schema.EnumValue.{EnumValue}
 use Rattle.planus_layout.specs.Numbers.{zero_number, fits}
 use Rattle.planus_layout.specs.Numbers.{integer_said, following_said}
-use Rattle.planus_layout.specs.Numbers.{scalar_named, is_float, is_bool}
-use Rattle.planus_schema.specs.Names.{has, also_said}
+use Rattle.planus_layout.specs.Numbers.{is_float, is_bool}
+use Rattle.planus_schema.specs.Names.{has, also_said, HeadV, base_named, space_at}
 use Rattle.planus_layout.specs.Distinct.{AreDistinct}
 
 -- ---- numbers
@@ -76,16 +81,47 @@ number_of_value v = v.number
 abbrev pub is_integer_type : Scalar → Bool
 is_integer_type s = not (is_float s) && not (is_bool s)
 
-abbrev pub integer_in : Option Scalar → Option Scalar
-integer_in None = None
-integer_in (Some s) = if is_integer_type s then Some s else None
+abbrev pub flattened : {A : Type 0} → Option (Option A) → Option A
+flattened None = None
+flattened (Some o) = o
 
-abbrev pub integer_type_of : List Name → Name → Option Scalar
-integer_type_of [] w = integer_in (scalar_named w)
-integer_type_of (n ∷ ns) w = None
+-- The integer type that an enum of this base has: the base itself, or that of an enum before it.
+-- `before`: those of the declarations before, `None` for what is no enum.
+abbrev pub integer_in : List (Option Scalar) → Option Base → Option Scalar
+integer_in before None = None
+integer_in before (Some (base.Scalar s)) = if is_integer_type s then Some s else None
+integer_in before (Some base.Text) = None
+integer_in before (Some (base.Enum i)) = flattened (slice_get before i)
+integer_in before (Some (base.Struct i)) = None
+integer_in before (Some (base.Table i)) = None
+integer_in before (Some (base.Union i)) = None
 
-abbrev pub integer_type : PathV → Option Scalar
-integer_type p = integer_type_of p.more p.first
+abbrev pub integer_of : List HeadV → List (Option Scalar) → List Name → ItemV → Option Scalar
+integer_of hs before space (include w) = None
+integer_of hs before space (native_include w) = None
+integer_of hs before space (namespace p) = None
+integer_of hs before space (attribute l) = None
+integer_of hs before space (table r) = None
+integer_of hs before space (struct r) = None
+integer_of hs before space (enumeration e) =
+    integer_in before (base_named hs (space_at space (length before + 1)) e.base)
+integer_of hs before space (union u) = None
+integer_of hs before space (service s) = None
+integer_of hs before space (root p) = None
+integer_of hs before space (identifier w) = None
+integer_of hs before space (extension w) = None
+
+abbrev pub integers_from : List HeadV → List (Option Scalar) → List HeadV → List (Option Scalar)
+integers_from hs before [] = before
+integers_from hs before (h ∷ rest) =
+    integers_from hs (before ++ integer_of hs before h.space h.declaration.item ∷ []) rest
+
+-- the integer types of the declarations, in order
+unfoldable pub integers_of : List HeadV → List (Option Scalar)
+integers_of hs = integers_from hs [] hs
+
+abbrev pub integer_at : List HeadV → ℕ → Option Scalar
+integer_at hs i = flattened (slice_get (integers_of hs) i)
 
 pub record IsValueAdded (s : Scalar) (v : VariantV) (n : Number) (old new : List EnumValue) : Type 0
   where
@@ -113,10 +149,9 @@ pub record IsEnum (e : Enum) : Type 0 where
   pub distinct : IsDistinct same_number (map number_of_value e.values.items)
   pub names : AreDistinct (map (λ v. v.name.items) e.values.items)
 
--- the enum is what is declared, with `NONE` alone for nothing in braces
-pub record SaysEnum (d : EnumerationV) (e : Enum) : Type 0 where
-  pub single : d.base.more ≡ []
-  pub scalar : scalar_named d.base.first ≡ Some e.scalar
+-- the enum is what is declared, of this integer type, with `NONE` alone for nothing in braces
+pub record SaysEnum (integer : Option Scalar) (d : EnumerationV) (e : Enum) : Type 0 where
+  pub scalar : integer ≡ Some e.scalar
   pub flags : e.flags ≡ is_flags d
   pub names : map (λ v. v.name.items) e.values.items
       ≡ map (λ v. v.name) (variants_or_none d.variants)

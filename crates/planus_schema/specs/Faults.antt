@@ -7,7 +7,7 @@ use Rattle.std.specs.Global.{Vec}
 use Rattle.std.specs.declared.cmp.Ordering.{Ordering}
 use Rattle.std.specs.Ordering.{nat_cmp, ordering_then}
 use Rattle.std.specs.List.Sorted.{IsPermutation, IsSortedByKey, IsStableByKey}
-use Rattle.planus_syntax.specs.Values.{Name, PathV, item_of, declarations_of, declaration_of, path_of}
+use Rattle.planus_syntax.specs.Values.{Name, PathV, item_of, declarations_of, declaration_of}
 use Rattle.planus_syntax.specs.declared.value.Declaration.{Declaration}
 use Rattle.planus_syntax.specs.declared.value.Item.{Item}
 use Rattle.planus_syntax.specs.declared.value.Item.TheVariants as item
@@ -25,7 +25,7 @@ use Rattle.planus_schema.specs.declared.head.Head.{Head}
 use Rattle.planus_schema.specs.Names.{HeadV, SpaceV, own_name, words_in, space_after, heads_of}
 use Rattle.planus_schema.specs.Names.{index_of, head_of, named_head, space_at, begun_after, begun_in}
 use Rattle.planus_schema.specs.Names.{as_root}
-use Rattle.planus_schema.specs.Enums.{integer_type}
+use Rattle.planus_schema.specs.Enums.{integer_at}
 use Rattle.planus_schema.specs.Wrong.{Broken, broken, when, first, wrong_table}
 use Rattle.planus_schema.specs.WrongEnums.{wrong_enum}
 use Rattle.planus_schema.specs.WrongStructs.{wrong_struct, struct_measure}
@@ -107,7 +107,7 @@ wrong_body hs space ms left (item.Namespace p) = broken problem.UnknownType left
 wrong_body hs space ms left (item.Attribute l) = broken problem.UnknownType left
 wrong_body hs space ms left (item.Table r) = wrong_table_body hs space r left
 wrong_body hs space ms left (item.Struct r) = wrong_struct hs space ms r left
-wrong_body hs space ms left (item.Enum e) = wrong_enum e
+wrong_body hs space ms left (item.Enum e) = wrong_enum (integer_at hs (length ms)) e
 wrong_body hs space ms left (item.Union u) = wrong_union hs space u
 wrong_body hs space ms left (item.Service s) = broken problem.UnknownType left
 wrong_body hs space ms left (item.RootType p) = broken problem.UnknownType left
@@ -126,7 +126,7 @@ sound_measure hs space ms (item.Namespace p) = None
 sound_measure hs space ms (item.Attribute l) = None
 sound_measure hs space ms (item.Table r) = None
 sound_measure hs space ms (item.Struct r) = struct_measure hs space ms r
-sound_measure hs space ms (item.Enum e) = scalar_measure (integer_type (path_of e.base))
+sound_measure hs space ms (item.Enum e) = scalar_measure (integer_at hs (length ms))
 sound_measure hs space ms (item.Union u) = None
 sound_measure hs space ms (item.Service s) = None
 sound_measure hs space ms (item.RootType p) = None

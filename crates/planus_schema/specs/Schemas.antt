@@ -20,7 +20,7 @@ use Rattle.planus_schema.specs.Names.{space_at, begun_after, begun_in}
 use Rattle.planus_schema.specs.Names.{table_in}
 use Rattle.planus_schema.specs.Names.{as_root}
 use Rattle.planus_layout.specs.Distinct.{AreDistinct, Each2}
-use Rattle.planus_schema.specs.Enums.{IsEnum, SaysEnum}
+use Rattle.planus_schema.specs.Enums.{IsEnum, SaysEnum, integer_at}
 use Rattle.planus_layout.specs.Layouts.{IsStruct, body_in}
 use Rattle.planus_schema.specs.Structs.{SaysStruct}
 use Rattle.planus_schema.specs.Unions.{IsUnion, SaysUnion}
@@ -38,7 +38,8 @@ IsBody (body.Union u) = IsUnion u
 abbrev pub SaysBody : List HeadV → SpaceV → List Body → ItemV → Body → Type 0
 SaysBody hs space before (table r) (body.Table t) = SaysTable hs space r t
 SaysBody hs space before (struct r) (body.Struct s) = SaysStruct hs space before r s
-SaysBody hs space before (enumeration e) (body.Enum t) = SaysEnum e t
+SaysBody hs space before (enumeration e) (body.Enum t) =
+    SaysEnum (integer_at hs (length before)) e t
 SaysBody hs space before (union u) (body.Union t) = SaysUnion hs space u t
 SaysBody hs space before i b = ⊥
 

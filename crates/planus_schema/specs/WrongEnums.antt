@@ -2,7 +2,7 @@
 use Rattle.std.specs.Prelude.{Bool, not, List, [], ◌∷◌, ◌++◌, map}
 use Rattle.std.specs.Prelude.{Option, Some, None, codes}
 use Rattle.std.specs.List.{list_any}
-use Rattle.planus_syntax.specs.Values.{Name, path_of, digits_of, attribute_of}
+use Rattle.planus_syntax.specs.Values.{Name, digits_of, attribute_of}
 use Rattle.planus_syntax.specs.declared.value.Path.{Path}
 use Rattle.planus_syntax.specs.declared.value.Variant.{Variant}
 use Rattle.planus_syntax.specs.declared.value.Enumeration.{Enumeration}
@@ -13,11 +13,11 @@ use Rattle.planus_layout.specs.Distinct.{is_in}
 use Rattle.planus_schema.specs.declared.fault.Problem.TheVariants as problem
 use Rattle.planus_schema.specs.Names.{is_set, has, listed}
 use Rattle.planus_schema.specs.Enums.{number_said, value_said, same_number}
-use Rattle.planus_schema.specs.Enums.{integer_type}
 use Rattle.planus_schema.specs.Wrong.{Broken, broken, when, first}
 
-abbrev pub wrong_integer : Path → Option Broken
-wrong_integer p = when (not (is_set (integer_type (path_of p)))) problem.NoIntegerType p.left
+-- a base by this name, of this integer type
+abbrev pub wrong_integer : Option Scalar → Path → Option Broken
+wrong_integer integer p = when (not (is_set integer)) problem.NoIntegerType p.left
 
 -- the variants after those of these names
 abbrev pub wrong_names : List Name → List Variant → Option Broken
@@ -43,7 +43,7 @@ wrong_values_in None flags vs = None
 wrong_values_in (Some s) flags vs = wrong_values s flags None [] vs
 
 -- the type, then the names, then the values
-abbrev pub wrong_enum : Enumeration → Option Broken
-wrong_enum e = first (wrong_integer e.base) (first (wrong_names [] e.variants.items)
-    (wrong_values_in (integer_type (path_of e.base))
+abbrev pub wrong_enum : Option Scalar → Enumeration → Option Broken
+wrong_enum integer e = first (wrong_integer integer e.base) (first (wrong_names [] e.variants.items)
+    (wrong_values_in integer
     (has (codes "bit_flags") (map attribute_of e.attributes.items)) e.variants.items))

@@ -4,13 +4,12 @@ ghost use Rattle.std.specs.Prelude.{◌≡◌, [], true, not, map, IfOk, Some, N
 ghost use Rattle.std.specs.Option.{option_map};
 ghost use Rattle.std.specs.List.{list_any};
 ghost use Rattle.planus_syntax.specs.Values.{path_of, literal_of, variant_of, enumeration_of};
-ghost use Rattle.planus_syntax.specs.Values.{named};
 ghost use Rattle.planus_schema.specs.Names.{head_of, item_at, is_set};
 ghost use Rattle.planus_schema.specs.Wrong.{Tells, when};
 ghost use Rattle.planus_schema.specs.WrongTables.{wrong_default};
 ghost use Rattle.planus_schema.specs.Defaults.{some_default};
 ghost use Rattle.planus_schema.specs.Enums.{same_number as same_number_lem, numbers_said, variants_or_none};
-ghost use Rattle.planus_schema.specs.Defaults.{value_of, float, number_default, as_flags};
+ghost use Rattle.planus_schema.specs.Defaults.{value_of, float, number_default, as_flags, null_or};
 ghost use Rattle.planus_schema.specs.Defaults.{lone_word as lone_word_lem, is_null as is_null_lem};
 ghost use Rattle.planus_schema.specs.Defaults.{bool_number as bool_number_lem};
 ghost use Rattle.planus_schema.specs.Defaults.{named_bool as named_bool_lem};
@@ -20,6 +19,7 @@ ghost use Rattle.planus_schema.specs.Defaults.{has_exponent as has_exponent_lem}
 ghost use Rattle.planus_schema.specs.Defaults.{scalar_quoted as scalar_quoted_lem};
 ghost use Rattle.planus_schema.specs.Defaults.{value_in as value_in_lem};
 ghost use Rattle.planus_schema.specs.Defaults.{enum_quoted as enum_quoted_lem};
+ghost use Rattle.planus_schema.specs.Enums.{integers_of};
 ghost use Rattle.planus_schema.specs.Names.{cut_words as cut_words_lem};
 ghost use Rattle.planus_layout.specs.Numbers.{integer_said};
 ghost use Rattle.planus_schema.specs.Defaults.{default_said};
@@ -38,8 +38,8 @@ use crate::attributes::has;
 use crate::enums::{number_of, same_number, value_of as settled};
 use crate::fault::{Problem, Stop, or_return, wrong};
 use crate::heads::Heads;
+use crate::integers::integer_at;
 use crate::kind::item_of_head;
-use crate::scalar_names::scalar_named;
 use crate::words::cut_words;
 use planus_layout::{
     Base, FieldType, Number, Scalar, Value, integer, is_hexadecimal, without_sign,
@@ -244,11 +244,12 @@ fn is_value(declared: &Enumeration, number: Number) -> bool
     }
 }
 
-fn is_among_values(declared: &Enumeration, number: Number) -> bool
-    ensures { result ≡ is_among_values_lem (enumeration_of declared.now) number }
+/// Of an enum of this integer type.
+fn is_among_values(scalar: Option<Scalar>, declared: &Enumeration, number: Number) -> bool
+    ensures { result ≡ is_among_values_lem scalar (enumeration_of declared.now) number }
 {
     if has(&declared.attributes, b"bit_flags") {
-        match scalar_named(&declared.base.first) {
+        match scalar {
             Some(scalar) => scalar.fits(number),
             None => false,
         }
@@ -289,12 +290,12 @@ fn enum_named(declared: &Enumeration, path: &Path) -> Option<Value>
     }
 }
 
-fn enum_number(declared: &Enumeration, digits: &[u8]) -> Option<Value>
+fn enum_number(scalar: Option<Scalar>, declared: &Enumeration, digits: &[u8]) -> Option<Value>
     ensures { option_map value_of result
-        ≡ number_default (enumeration_of declared.now) (integer_said digits.now) }
+        ≡ number_default scalar (enumeration_of declared.now) (integer_said digits.now) }
 {
     match integer(digits) {
-        Some(number) if is_among_values(declared, number) => Some(Value::Integer(number)),
+        Some(number) if is_among_values(scalar, declared, number) => Some(Value::Integer(number)),
         _ => None,
     }
 }
@@ -332,14 +333,15 @@ fn flags_default(
 
 fn enum_quoted(
     alloc: Global,
+    scalar: Option<Scalar>,
     declared: &Enumeration,
     text: &[u8],
 ) -> Result<Option<Value>, AllocError>
     ensures { IfOk result (λ o. option_map value_of o
-        ≡ enum_quoted_lem (enumeration_of declared.now) text.now) }
+        ≡ enum_quoted_lem scalar (enumeration_of declared.now) text.now) }
 {
     if is_number(text) {
-        Ok(enum_number(declared, text))
+        Ok(enum_number(scalar, declared, text))
     } else if is_null(text) {
         Ok(Some(Value::Absent))
     } else if has(&declared.attributes, b"bit_flags") {
@@ -351,7 +353,8 @@ fn enum_quoted(
 
 fn enum_word(declared: &Enumeration, path: &Path) -> Option<Value>
     ensures { option_map value_of result
-        ≡ enum_default_lem (enumeration_of declared.now) (named (path_of path.now)) }
+        ≡ null_or (lone_word_lem (path_of path.now))
+        (enum_named_lem (enumeration_of declared.now) (path_of path.now)) }
 {
     match lone_word(path) {
         Some(word) if is_null(word) => Some(Value::Absent),
@@ -361,16 +364,17 @@ fn enum_word(declared: &Enumeration, path: &Path) -> Option<Value>
 
 fn enum_default(
     alloc: Global,
+    scalar: Option<Scalar>,
     declared: &Enumeration,
     literal: &Literal,
 ) -> Result<Option<Value>, AllocError>
     ensures { IfOk result (λ o. option_map value_of o
-        ≡ enum_default_lem (enumeration_of declared.now) (literal_of literal.now)) }
+        ≡ enum_default_lem scalar (enumeration_of declared.now) (literal_of literal.now)) }
 {
     match literal {
-        Literal::Number(digits) => Ok(enum_number(declared, digits)),
+        Literal::Number(digits) => Ok(enum_number(scalar, declared, digits)),
         Literal::Name(path) => Ok(enum_word(declared, path)),
-        Literal::Text(string) => enum_quoted(alloc, declared, between_quotes(string)),
+        Literal::Text(string) => enum_quoted(alloc, scalar, declared, between_quotes(string)),
         Literal::EmptyVector => Ok(None),
     }
 }
@@ -388,9 +392,11 @@ fn enum_at<'b>(heads: &'b Heads, index: usize) -> Option<&'b Enumeration>
 pub(crate) fn literal_default(
     alloc: Global,
     heads: &Heads,
+    integers: &[Option<Scalar>],
     kind: FieldType,
     literal: &Literal,
 ) -> Result<Option<Value>, AllocError>
+    requires { integers.now ≡ integers_of (map head_of heads.now) }
     ensures { IfOk result (λ o. some_default (option_map value_of o)
         ≡ default_said (map head_of heads.now) kind (Some (literal_of literal.now))) }
 {
@@ -403,7 +409,7 @@ pub(crate) fn literal_default(
             Ok(Some(Value::Text(text)))
         }
         (Base::Enum(index), _) => match enum_at(heads, index) {
-            Some(declared) => enum_default(alloc, declared, literal),
+            Some(declared) => enum_default(alloc, integer_at(integers, index), declared, literal),
             None => Ok(None),
         },
         _ => Ok(None),
@@ -413,9 +419,11 @@ pub(crate) fn literal_default(
 fn zero_default(
     alloc: Global,
     heads: &Heads,
+    integers: &[Option<Scalar>],
     base: Base,
     left: usize,
 ) -> Result<Option<Value>, Stop>
+    requires { integers.now ≡ integers_of (map head_of heads.now) }
     ensures value { IfOk result (λ o. zero_default_lem (map head_of heads.now) base
         ≡ Some (option_map value_of o)) }
     ensures wrong { Tells (when (not (is_set (zero_default_lem (map head_of heads.now) base)))
@@ -432,7 +440,9 @@ fn zero_default(
         }
         Base::Scalar(_) => Ok(Some(Value::Integer(zero))),
         Base::Enum(index) => match enum_at(heads, index) {
-            Some(declared) if is_among_values(declared, zero) => Ok(Some(Value::Integer(zero))),
+            Some(declared) if is_among_values(integer_at(integers, index), declared, zero) => {
+                Ok(Some(Value::Integer(zero)))
+            }
             _ => Err(wrong(Problem::UnknownValue, left)),
         },
         _ => Ok(None),
@@ -442,10 +452,12 @@ fn zero_default(
 pub(crate) fn default_of(
     alloc: Global,
     heads: &Heads,
+    integers: &[Option<Scalar>],
     kind: FieldType,
     literal: &Option<Literal>,
     left: usize,
 ) -> Result<Option<Value>, Stop>
+    requires { integers.now ≡ integers_of (map head_of heads.now) }
     ensures value { IfOk result (λ o. default_said (map head_of heads.now) kind
         (option_map literal_of literal.now) ≡ Some (option_map value_of o)) }
     ensures wrong { Tells (wrong_default (map head_of heads.now) kind left literal.now) result }
@@ -453,7 +465,7 @@ pub(crate) fn default_of(
     match literal {
         Some(literal) => {
             let value = or_return!(
-                literal_default(alloc, heads, kind, literal),
+                literal_default(alloc, heads, integers, kind, literal),
                 Stop::OutOfMemory
             );
             match value {
@@ -462,6 +474,6 @@ pub(crate) fn default_of(
             }
         }
         None if kind.vector => Ok(None),
-        None => zero_default(alloc, heads, kind.base, left),
+        None => zero_default(alloc, heads, integers, kind.base, left),
     }
 }

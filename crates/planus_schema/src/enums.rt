@@ -1,13 +1,13 @@
 //! Enums.
 
-ghost use Rattle.std.specs.Prelude.{◌≡◌, ◌^◌, ◌<◌, ◌∷◌, true, false, map, IfOk, [], Some, None};
+ghost use Rattle.std.specs.Prelude.{◌≡◌, ◌^◌, ◌<◌, ◌∷◌, true, false, map, IfOk, IfSome, [], Some, None};
 ghost use Rattle.std.specs.Prelude.{if◌then◌else◌};
-ghost use Rattle.planus_syntax.specs.Values.{path_of, variant_of, enumeration_of};
+ghost use Rattle.planus_syntax.specs.Values.{variant_of, enumeration_of};
 ghost use Rattle.planus_schema.specs.Enums.{same_number as same_number_lem, number_of_value};
 ghost use Rattle.planus_schema.specs.Enums.{SaysEnum, IsEnum};
 ghost use Rattle.planus_schema.specs.Enums.{IsValueAdded, AreValues, number_said};
 ghost use Rattle.planus_schema.specs.Enums.{none_variant, variants_or_none, is_integer_type};
-ghost use Rattle.planus_schema.specs.Enums.{settled_said, integer_type as integer_type_lem};
+ghost use Rattle.planus_schema.specs.Enums.{settled_said};
 ghost use Rattle.planus_schema.specs.Wrong.{Tells};
 ghost use Rattle.planus_schema.specs.inner.Numbers.{AreNumbers};
 ghost use Rattle.planus_schema.specs.WrongEnums.{wrong_value, wrong_names};
@@ -17,24 +17,11 @@ ghost use Rattle.planus_layout.specs.Distinct.{AreDistinct};
 use crate::attributes::has;
 use crate::fault::{Problem, Stop, or_return, wrong};
 use crate::names::{copied, take_key};
-use crate::scalar_names::scalar_named;
 use crate::taken::Taken;
 use planus_layout::{Enum, EnumValue, Number, Scalar, following, integer};
-use planus_syntax::{Enumeration, Path, Variant};
+use planus_syntax::{Enumeration, Variant};
 use std::alloc::{AllocError, Global};
 use std::collections::BTreeMap;
-
-fn integer_type(path: &Path) -> Option<Scalar>
-    ensures { result ≡ integer_type_lem (path_of path.now) }
-{
-    if !path.more.is_empty() {
-        return None;
-    }
-    match scalar_named(&path.first) {
-        Some(scalar) if !scalar.is_float() && !scalar.is_bool() => Some(scalar),
-        _ => None,
-    }
-}
 
 pub(crate) fn number_of(previous: Option<Number>, variant: &Variant) -> Option<Number>
     ensures { result ≡ number_said previous (variant_of variant.now).value }
@@ -186,15 +173,19 @@ fn values_or_none(
     enum_values(alloc, scalar, flags, variants)
 }
 
-pub(crate) fn enum_of(alloc: Global, declared: &Enumeration) -> Result<Enum, Stop>
-    ensures says { IfOk result (λ e. SaysEnum (enumeration_of declared.now) e) }
+/// Returns an enum of this integer type.
+pub(crate) fn enum_of(
+    alloc: Global,
+    integer: Option<Scalar>,
+    declared: &Enumeration,
+) -> Result<Enum, Stop>
+    requires { IfSome integer (λ s. is_integer_type s ≡ true) }
+    ensures says { IfOk result (λ e. SaysEnum integer (enumeration_of declared.now) e) }
     ensures sound { IfOk result (λ e. IsEnum e) }
-    ensures scalar { IfOk result (λ e. integer_type_lem (path_of declared.now.base)
-        ≡ Some e.scalar) }
-    ensures wrong { Tells (wrong_enum declared.now) result }
+    ensures wrong { Tells (wrong_enum integer declared.now) result }
 {
     let flags = has(&declared.attributes, b"bit_flags");
-    let scalar = match integer_type(&declared.base) {
+    let scalar = match integer {
         Some(scalar) => scalar,
         None => return Err(wrong(Problem::NoIntegerType, declared.base.left)),
     };

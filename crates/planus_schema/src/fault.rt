@@ -23,7 +23,7 @@ pub enum Problem {
     ValueTaken,
     /// A member before it has this number.
     TagTaken,
-    /// The type of an enum is no integer type, or it is `bool`.
+    /// The type of an enum is no integer type and no enum before it, or it is `bool`.
     NoIntegerType,
     /// A value is no integer of the enum's type.
     ValueOutOfRange,

@@ -17,7 +17,7 @@ use crate::scalar_names::scalar_named;
 use crate::scope::Scope;
 use planus_layout::{Base, FieldType};
 use planus_syntax::{Item, Kind, Path};
-use std::alloc::Global;
+use std::alloc::{AllocError, Global};
 
 pub(crate) fn plain_base(path: &Path) -> Option<Base>
     ensures { result ≡ plain_base_lem (path_of path.now) }
@@ -55,24 +55,30 @@ pub(crate) fn head_base(heads: &Heads, index: usize) -> Option<Base>
     }
 }
 
+pub(crate) fn base_named(
+    scope: &Scope,
+    wanted: Wanted,
+    path: &Path,
+) -> Result<Option<Base>, AllocError>
+    ensures { IfOk result (λ o. o ≡ base_as (scope_heads scope.now) (used_as wanted)
+        (scope_space scope.now) (path_of path.now)) }
+{
+    if let Some(base) = plain_base(path) {
+        return Ok(Some(base));
+    }
+    match or_return!(found(scope, wanted, &path.first, &path.more)) {
+        Some(index) => Ok(head_base(scope.heads, index)),
+        None => Ok(None),
+    }
+}
+
 fn base_of(scope: &Scope, wanted: Wanted, path: &Path) -> Result<Base, Stop>
     ensures named { IfOk result (λ b. base_as (scope_heads scope.now) (used_as wanted)
         (scope_space scope.now) (path_of path.now) ≡ Some b) }
     ensures wrong { Tells (wrong_base (scope_heads scope.now) (used_as wanted) (scope_space scope.now)
         path.now) result }
 {
-    if let Some(base) = plain_base(path) {
-        return Ok(base);
-    }
-    let index = or_return!(
-        found(scope, wanted, &path.first, &path.more),
-        Stop::OutOfMemory
-    );
-    let base = match index {
-        Some(index) => head_base(scope.heads, index),
-        None => None,
-    };
-    match base {
+    match or_return!(base_named(scope, wanted, path), Stop::OutOfMemory) {
         Some(base) => Ok(base),
         None => Err(wrong(Problem::UnknownType, path.left)),
     }

@@ -11,6 +11,7 @@ mod enums;
 mod fault;
 mod head;
 mod heads;
+mod integers;
 mod kind;
 mod lookup;
 mod meaning;

@@ -10,6 +10,7 @@ ghost use Rattle.planus_schema.specs.Schemas.{IsRefusal, IsAppended};
 ghost use Rattle.planus_schema.specs.Sound.{IsSound};
 ghost use Rattle.planus_layout.specs.Layouts.{measure_of_body};
 ghost use Rattle.planus_schema.specs.Wrong.{Tells};
+ghost use Rattle.planus_schema.specs.Enums.{integers_of};
 ghost use Rattle.planus_schema.specs.WrongStructs.{measures_of};
 ghost use Rattle.planus_schema.specs.Faults.{placed_of, placed_from, Adds, wrong_body};
 ghost use Rattle.planus_schema.specs.Faults.{byte_measure, measure_placed, body_fault};
@@ -21,6 +22,7 @@ use crate::enums::enum_of;
 use crate::fault::{Fault, Problem, Refusal, Stop, note, or_return, wrong};
 use crate::head::{Head, heads};
 use crate::heads::Heads;
+use crate::integers::{integer_at, integers};
 use crate::names::copied;
 use crate::scope::Scope;
 use crate::statements::statements;
@@ -28,11 +30,18 @@ use crate::structs::struct_of;
 use crate::tables::table_of;
 use crate::unions::union_of;
 use crate::waiting::check_uses;
-use planus_layout::{Body, Declared, Schema, Struct, Table, is_first};
+use planus_layout::{Body, Declared, Scalar, Schema, Struct, Table, is_first};
 use planus_syntax::{Declaration, Item};
 use std::alloc::{AllocError, Global};
 
-fn body_of(alloc: Global, heads: &Heads, declared: &[Declared], head: &Head) -> Result<Body, Stop>
+fn body_of(
+    alloc: Global,
+    heads: &Heads,
+    integers: &[Option<Scalar>],
+    declared: &[Declared],
+    head: &Head,
+) -> Result<Body, Stop>
+    requires { integers.now ≡ integers_of (map head_of heads.now) }
     ensures read { IfOk result (λ b. IsBodyRead (map head_of heads.now)
         (space_at (space_of head.now.space) (length declared.now + 1)) declared.now
         head.now.declaration.now.item b) }
@@ -44,6 +53,7 @@ fn body_of(alloc: Global, heads: &Heads, declared: &[Declared], head: &Head) -> 
     let scope = Scope {
         alloc,
         heads,
+        integers,
         space: head.space,
         begun: declared.len() + 1,
     };
@@ -57,7 +67,8 @@ fn body_of(alloc: Global, heads: &Heads, declared: &[Declared], head: &Head) -> 
             Ok(Body::Struct(body))
         }
         Item::Enum(body) => {
-            let body = or_return!(enum_of(alloc, body));
+            let integer = integer_at(integers, declared.len());
+            let body = or_return!(enum_of(alloc, integer, body));
             Ok(Body::Enum(body))
         }
         Item::Union(body) => {
@@ -110,11 +121,13 @@ fn add_body(
 fn add_declared(
     alloc: Global,
     heads: &Heads,
+    integers: &[Option<Scalar>],
     declared: &mut Vec<Declared>,
     head: &Head,
     faults: &mut Vec<Fault>,
 ) -> Result<(), AllocError>
-    requires { length faults.old.items ≤ 20 }
+    requires few { length faults.old.items ≤ 20 }
+    requires integers { integers.now ≡ integers_of (map head_of heads.now) }
     ensures says { OnOk result (faults.new.items ≡ [] → IsDeclared (map head_of heads.now)
         (head_of head.now) declared.old.items declared.new.items) }
     ensures kept { OnOk result (faults.new.items ≡ [] → faults.old.items ≡ []) }
@@ -126,7 +139,7 @@ fn add_declared(
         (measures_of declared.old.items) (placed_of head.now)) faults.old.items
         faults.new.items) }
 {
-    match body_of(alloc, heads, declared, head) {
+    match body_of(alloc, heads, integers, declared, head) {
         Ok(body) => add_body(alloc, declared, head, body),
         Err(stop) => {
             or_return!(note(faults, head.file, stop));
@@ -139,9 +152,11 @@ fn add_declared(
 fn declarations(
     alloc: Global,
     heads: &Heads,
+    integers: &[Option<Scalar>],
     faults: &mut Vec<Fault>,
 ) -> Result<Vec<Declared>, AllocError>
-    requires { length faults.old.items ≤ 20 }
+    requires few { length faults.old.items ≤ 20 }
+    requires integers { integers.now ≡ integers_of (map head_of heads.now) }
     ensures says { IfOk result (λ v. faults.new.items ≡ [] → AreDeclared (map head_of heads.now)
         (map head_of heads.now) v.items) }
     ensures kept { OnOk result (faults.new.items ≡ [] → faults.old.items ≡ []) }
@@ -151,7 +166,7 @@ fn declarations(
 {
     let mut declared = Vec::new(alloc);
     'heads: for head in heads.as_slice() {
-        or_return!(add_declared(alloc, heads, &mut declared, head, faults));
+        or_return!(add_declared(alloc, heads, integers, &mut declared, head, faults));
     }
     Ok(declared)
 }
@@ -225,8 +240,9 @@ fn meaning_of(alloc: Global, heads: &Heads, files: &[Vec<Declaration>]) -> Resul
 {
     let mut faults = Vec::new(alloc);
     or_return!(check_names(heads, &mut faults), Refusal::OutOfMemory);
+    let integers = or_return!(integers(alloc, heads), Refusal::OutOfMemory);
     let declarations = or_return!(
-        declarations(alloc, heads, &mut faults),
+        declarations(alloc, heads, &integers, &mut faults),
         Refusal::OutOfMemory
     );
     let statements = or_return!(

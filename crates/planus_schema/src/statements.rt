@@ -81,6 +81,7 @@ fn state_file(
         let scope = Scope {
             alloc,
             heads,
+            integers: &[],
             space,
             begun: *begun,
         };

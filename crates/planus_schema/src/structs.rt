@@ -6,7 +6,7 @@ ghost use Rattle.std.specs.Option.{option_map};
 ghost use Rattle.planus_syntax.specs.Values.{field_of, attribute_of, literal_of};
 ghost use Rattle.planus_schema.specs.inner.Read.{IsMeasureRead, IsStructFieldRead};
 ghost use Rattle.planus_schema.specs.inner.Read.{IsLayoutRead, IsStructRead};
-ghost use Rattle.planus_schema.specs.inner.Scopes.{scope_heads, scope_space};
+ghost use Rattle.planus_schema.specs.inner.Scopes.{scope_heads, scope_space, HasIntegers};
 ghost use Rattle.planus_schema.specs.Names.{type_named, setting as setting_lem};
 ghost use Rattle.planus_layout.specs.Layouts.{is_alignment as is_alignment_lem};
 ghost use Rattle.planus_schema.specs.Defaults.{value_of, some_default};
@@ -49,6 +49,7 @@ fn check_zero(
     literal: &Option<Literal>,
     left: usize,
 ) -> Result<(), Stop>
+    requires { HasIntegers scope.now }
     ensures zero { IfOk result (λ _. is_zero_default (scope_heads scope.now) kind
         (option_map literal_of literal.now) ≡ true) }
     ensures wrong { Tells (when (not (is_zero_default (scope_heads scope.now) kind
@@ -59,7 +60,7 @@ fn check_zero(
         None => return Ok(()),
     };
     let value = or_return!(
-        literal_default(scope.alloc, scope.heads, kind, literal),
+        literal_default(scope.alloc, scope.heads, scope.integers, kind, literal),
         Stop::OutOfMemory
     );
     if is_zero(&value) {
@@ -70,6 +71,7 @@ fn check_zero(
 }
 
 fn base_in_struct(scope: &Scope, field: &Field) -> Result<Base, Stop>
+    requires { HasIntegers scope.now }
     ensures kind { IfOk result (λ b. type_named (scope_heads scope.now) (scope_space scope.now)
         (field_of field.now).kind ≡ Some (record { vector = false; base = b })) }
     ensures plain { IfOk result (λ _. is_plain (field_of field.now) ≡ true) }
@@ -114,7 +116,8 @@ fn struct_field(
     field: &Field,
     at: usize,
 ) -> Result<StructField, Stop>
-    requires { at ≤ 65535 }
+    requires at { at ≤ 65535 }
+    requires integers { HasIntegers scope.now }
     ensures read { IfOk result (λ f. IsStructFieldRead (scope_heads scope.now)
         (scope_space scope.now) bodies.now at field.now f) }
     ensures wrong { Tells (wrong_struct_field (scope_heads scope.now) (scope_space scope.now)
@@ -139,6 +142,7 @@ fn struct_field(
 }
 
 fn struct_fields(scope: &Scope, bodies: &[Declared], declared: &[Field]) -> Result<Layout, Stop>
+    requires { HasIntegers scope.now }
     ensures read { IfOk result (λ l. IsLayoutRead (scope_heads scope.now) (scope_space scope.now)
         bodies.now declared.now l) }
     ensures wrong { Tells (wrong_struct_fields (scope_heads scope.now) (scope_space scope.now)
@@ -215,6 +219,7 @@ pub(crate) fn struct_of(
     declared: &Record,
     left: usize,
 ) -> Result<Struct, Stop>
+    requires { HasIntegers scope.now }
     ensures read { IfOk result (λ s. IsStructRead (scope_heads scope.now) (scope_space scope.now)
         bodies.now declared.now s) }
     ensures wrong { Tells (wrong_struct (scope_heads scope.now) (scope_space scope.now)

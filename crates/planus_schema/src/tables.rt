@@ -4,7 +4,7 @@ ghost use Rattle.std.specs.Prelude.{◌≡◌, ◌≤◌, ◌+◌, ◌∷◌, []
 ghost use Rattle.std.specs.Prelude.{IfOk, List, Some, codes, ◌++◌};
 ghost use Rattle.planus_syntax.specs.Values.{names_of, field_of, record_of, attribute_of};
 ghost use Rattle.planus_schema.specs.inner.Read.{IsFieldRead, AreFieldsRead, AreNamesRead};
-ghost use Rattle.planus_schema.specs.inner.Scopes.{scope_heads, scope_space};
+ghost use Rattle.planus_schema.specs.inner.Scopes.{scope_heads, scope_space, HasIntegers};
 ghost use Rattle.planus_schema.specs.Names.{setting as setting_lem, base_found};
 ghost use Rattle.planus_schema.specs.Names.{found as found_lem, as_record};
 ghost use Rattle.planus_schema.specs.Tables.{NestedIs};
@@ -132,7 +132,8 @@ fn nested_of(scope: &Scope, attributes: &[Attribute]) -> Result<Option<usize>, S
 }
 
 fn table_field(scope: &Scope, field: &Field, ids: bool, next: usize) -> Result<TableField, Stop>
-    requires { next ≤ 65535 }
+    requires next { next ≤ 65535 }
+    requires integers { HasIntegers scope.now }
     ensures read { IfOk result (λ f. IsFieldRead (scope_heads scope.now) (scope_space scope.now)
         ids next field.now f) }
     ensures wrong { Tells (wrong_field (scope_heads scope.now) (scope_space scope.now) ids next
@@ -144,6 +145,7 @@ fn table_field(scope: &Scope, field: &Field, ids: bool, next: usize) -> Result<T
     let default = or_return!(default_of(
         scope.alloc,
         scope.heads,
+        scope.integers,
         kind,
         &field.default,
         field.left
@@ -234,6 +236,7 @@ fn add_names<'n>(
 }
 
 fn table_fields(scope: &Scope, declared: &[Field], ids: bool) -> Result<Vec<TableField>, Stop>
+    requires { HasIntegers scope.now }
     ensures read { IfOk result (λ v. AreFieldsRead (scope_heads scope.now) (scope_space scope.now)
         ids declared.now v.items) }
     ensures wrong { Tells (wrong_fields (scope_heads scope.now) (scope_space scope.now) ids 0 false
@@ -266,6 +269,7 @@ fn table_fields(scope: &Scope, declared: &[Field], ids: bool) -> Result<Vec<Tabl
 }
 
 pub(crate) fn table_of(scope: &Scope, declared: &Record, left: usize) -> Result<Table, Stop>
+    requires { HasIntegers scope.now }
     ensures says { IfOk result (λ t. SaysTable (scope_heads scope.now) (scope_space scope.now)
         (record_of declared.now) t) }
     ensures sound { IfOk result (λ t. IsTable t) }

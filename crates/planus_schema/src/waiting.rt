@@ -138,6 +138,7 @@ fn known(
     let scope = Scope {
         alloc,
         heads,
+        integers: &[],
         space: usage.spot.space,
         begun: waiting.begun,
     };
@@ -185,6 +186,7 @@ fn tells(alloc: Global, heads: &Heads, waiting: &Waiting, usage: &Use) -> Result
     let scope = Scope {
         alloc,
         heads,
+        integers: &[],
         space: usage.spot.space,
         begun: waiting.begun,
     };

@@ -102,6 +102,13 @@ enum E: int { A = 3, B, C = 10, D }
 enum E: uint { A = 0x10, B, C = 0xfF }
 => E of uint; E.A is 16; E.B is 17; E.C is 255
 
+namespace n; enum F: short (bit_flags) { A, B } namespace n.m; enum E: F { A, B = 7 } enum G: \
+    n.m.E (bit_flags) { A, B } struct S { a: byte; e: E; } table T { e: E = B; g: G = 9; }
+=> n.m.S size 4; n.m.S align 2; n.m.S.a at 0; n.m.S.a of byte; n.m.S.e at 2; n.m.S.e of n.m.E; \
+    n.m.T.e slot 0; n.m.T.e of n.m.E; n.m.T.e default 7; n.m.T.g slot 1; n.m.T.g of n.m.G; \
+    n.m.T.g default 9; n.F of short; n.F.A is 1; n.F.B is 2; n.m.E of short; n.m.E.A is 0; \
+    n.m.E.B is 7; n.m.G of short; n.m.G.A is 1; n.m.G.B is 2
+
 enum E: int8 { A = -3, B, C, D }
 => E of byte; E.A is -3; E.B is -2; E.C is -1; E.D is 0
 

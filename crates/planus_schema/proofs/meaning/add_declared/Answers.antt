@@ -28,13 +28,13 @@ returns-in-Ok-clause-adds c =
     let ds = c.args.declared.now.items in
     let n' = subst (λ ds. wrong_body hs (space_at (space_of h.space) (length ds + 1)) (measures_of ds) (name_left h.declaration.now) h.declaration.now.item ≡ None) c.deref.ensures.value c.in-Ok.ensures.wrong in
     let n = subst (λ k. wrong_body hs (space_at (space_of h.space) (k + 1)) (measures_of ds) (name_left h.declaration.now) h.declaration.now.item ≡ None) (as_many ds) n' in
-    ok_anyway c.add_body.result _ (adds_nothing c.args.faults.now.items _ c.requires (no_fault h.file _ n))
+    ok_anyway c.add_body.result _ (adds_nothing c.args.faults.now.items _ c.requires.few (no_fault h.file _ n))
 
 pub returns-in-Ok-clause-kept : goal.returns-in-Ok-clause-kept
 returns-in-Ok-clause-kept c = ok_anyway c.add_body.result _ (λ e. e)
 
 pub returns-in-Ok-clause-most : goal.returns-in-Ok-clause-most
-returns-in-Ok-clause-most c = ok_anyway c.add_body.result _ c.requires
+returns-in-Ok-clause-most c = ok_anyway c.add_body.result _ c.requires.few
 
 pub returns-in-Ok-clause-measures : goal.returns-in-Ok-clause-measures
 returns-in-Ok-clause-measures c =

@@ -1,4 +1,15 @@
-use Rattle.std.proofs.Common.{rules, refl, sym}
+use Rattle.std.proofs.Common.{◌≡◌, length, map, refl, sym, ap, subst, ◌∙◌}
+use Rattle.std.specs.Prelude.{None}
+use Rattle.std.proofs.Math.ListN.{length-map}
+use Rattle.planus_syntax.specs.Values.{enumeration_of}
+use Rattle.planus_layout.specs.Layouts.{body_in}
+use Rattle.planus_schema.specs.Names.{head_of}
+use Rattle.planus_schema.specs.Enums.{SaysEnum}
+use Rattle.planus_schema.specs.Wrong.{Stops}
+use Rattle.planus_schema.specs.WrongEnums.{wrong_enum}
+use Rattle.planus_schema.specs.Faults.{scalar_measure}
+use Rattle.planus_schema.proofs.IntegerLemmas.{IsInteger, integer_found, is_integer}
+use Rattle.planus_schema.proofs.SchemaLemmas.{as_many}
 use Rattle.planus_schema.proofs.meaning.body_of.Goals as goal
 
 pub returns-in-Err-clause-wrong : goal.returns-in-Err-clause-wrong
@@ -15,12 +26,24 @@ returns-in-Err-struct_of-clause-wrong c =
 pub returns-in-Ok-struct_of-clause-wrong : goal.returns-in-Ok-struct_of-clause-wrong
 returns-in-Ok-struct_of-clause-wrong c = rw c.in-Struct.is (rw c.saturating_sub-left.ensures at c.in-Ok-struct_of.ensures.wrong)
 
+pub enum_of-requires : goal.enum_of-requires
+enum_of-requires c =
+    let hs = map head_of c.args.heads.now in
+    let n = length c.args.declared.now in
+    let found = integer_found hs c.args.integers.now n n c.integer_at-integer.result c.requires refl c.integer_at-integer.ensures in
+    subst IsInteger (sym found) (is_integer hs n)
+
 pub returns-in-Err-enum_of-clause-wrong : goal.returns-in-Err-enum_of-clause-wrong
 returns-in-Err-enum_of-clause-wrong c =
-    rw c.in-Enum.is c.in-Err-enum_of.ensures.wrong
+    let ds = c.args.declared.now in
+    let found = integer_found (map head_of c.args.heads.now) c.args.integers.now (length ds) _ c.integer_at-integer.result c.requires (as_many ds) c.integer_at-integer.ensures in
+    rw c.in-Enum.is (subst (λ o. Stops (wrong_enum o c.in-Enum.body) c.in-Err-enum_of.error) found c.in-Err-enum_of.ensures.wrong)
 
 pub returns-in-Ok-enum_of-clause-wrong : goal.returns-in-Ok-enum_of-clause-wrong
-returns-in-Ok-enum_of-clause-wrong c = rw c.in-Enum.is c.in-Ok-enum_of.ensures.wrong
+returns-in-Ok-enum_of-clause-wrong c =
+    let ds = c.args.declared.now in
+    let found = integer_found (map head_of c.args.heads.now) c.args.integers.now (length ds) _ c.integer_at-integer.result c.requires (as_many ds) c.integer_at-integer.ensures in
+    rw c.in-Enum.is (subst (λ o. wrong_enum o c.in-Enum.body ≡ None) found c.in-Ok-enum_of.ensures.wrong)
 
 pub returns-in-Err-union_of-clause-wrong : goal.returns-in-Err-union_of-clause-wrong
 returns-in-Err-union_of-clause-wrong c = rw c.in-Union.is c.in-Err-union_of.ensures.wrong
@@ -43,11 +66,18 @@ returns-in-Ok-struct_of-clause-read c = record {
 }
 
 pub returns-in-Ok-enum_of-clause-read : goal.returns-in-Ok-enum_of-clause-read
-returns-in-Ok-enum_of-clause-read c = record {
-  says = rw c.in-Enum.is c.in-Ok-enum_of.ensures.says;
-  sound = c.in-Ok-enum_of.ensures.sound;
-  measure = search rules;
-}
+returns-in-Ok-enum_of-clause-read c =
+    let ds = c.args.declared.now in
+    let hs = map head_of c.args.heads.now in
+    let e = c.in-Ok-enum_of.value in
+    let says = c.in-Ok-enum_of.ensures.says in
+    let among = integer_found hs c.args.integers.now (length ds) _ c.integer_at-integer.result c.requires (sym (length-map ds body_in)) c.integer_at-integer.ensures in
+    let measured = integer_found hs c.args.integers.now (length ds) _ c.integer_at-integer.result c.requires (as_many ds) c.integer_at-integer.ensures in
+    record {
+      says = rw c.in-Enum.is (subst (λ o. SaysEnum o (enumeration_of c.in-Enum.body) e) among says);
+      sound = c.in-Ok-enum_of.ensures.sound;
+      measure = rw c.in-Enum.is (ap scalar_measure (sym says.scalar ∙ measured));
+    }
 
 pub returns-in-Ok-union_of-clause-read : goal.returns-in-Ok-union_of-clause-read
 returns-in-Ok-union_of-clause-read c = record {
