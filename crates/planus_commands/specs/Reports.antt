@@ -66,7 +66,7 @@ report_text name text at message =
 abbrev pub lex_message : LexFault → List ℕ
 lex_message lex.BadNumber = codes "the number that ends here is malformed"
 lex_message lex.OpenString = codes "the string has no end on its line"
-lex_message lex.Escape = codes "the escape in the string is malformed; `\\x` above `7f` is not supported"
+lex_message lex.Escape = codes "the escape in the string is malformed, or its bytes are no UTF-8"
 lex_message lex.Control = codes "a control character, as a tab, is in the string"
 lex_message lex.NotUtf8 = codes "the string that ends here is not UTF-8"
 lex_message lex.OpenComment = codes "the comment has no end"

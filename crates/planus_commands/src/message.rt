@@ -14,8 +14,7 @@ pub fn lex_message(fault: LexFault) -> &'static str
     match fault {
         LexFault::BadNumber => "the number that ends here is malformed",
         LexFault::OpenString => "the string has no end on its line",
-        LexFault::Escape =>
-            "the escape in the string is malformed; `\\x` above `7f` is not supported",
+        LexFault::Escape => { "the escape in the string is malformed, or its bytes are no UTF-8" }
         LexFault::Control => "a control character, as a tab, is in the string",
         LexFault::NotUtf8 => "the string that ends here is not UTF-8",
         LexFault::OpenComment => "the comment has no end",

@@ -328,8 +328,8 @@ attribute \"priority\"; table T (original_order) { x: ulong (hash: \"fnv1_64\", 
     T.y of int
 
 table T {} root_type T; file_identifier '\\x41B\\u0043\\\"'; file_extension \
-    \"\\u00e9\\ud83d\\ude00\\\\'\\/\";
-=> schema root T; schema identifier ABC\"; schema extension é😀\\'/
+    \"\\u00e9\\ud83d\\ude00\\\\'\\/\\xE2\\x82\\xac\";
+=> schema root T; schema identifier ABC\"; schema extension é😀\\'/€
 
 table T {} root_type T; file_identifier \"ABCD\"; file_identifier \"EFGH\";
 => schema root T; schema identifier EFGH";

@@ -1,7 +1,7 @@
 -- What is written is read again.
 use Rattle.std.proofs.Common.{◌≡◌, ℕ, Bool, true, false, List, [], ◌∷◌, length, Option, Some, None, Result, Ok, refl, ap, ◌∙◌}
 use Rattle.std.specs.Prelude.{codes, ◌==◌, ◌||◌, not}
-use Rattle.planus_syntax.specs.Tokens.{Piece, word, text, doc, mark}
+use Rattle.planus_syntax.specs.Tokens.{Piece, word, text, mark}
 use Rattle.planus_syntax.specs.Values.{closing_before, PathV, KindV, single, vector, LiteralV, numeral, named, quote, nothing, LabelV, AttributeV, FieldV, RecordV, VariantV, EnumerationV, MemberV, UnionV, MethodV, ServiceV, ItemV, include, native_include, namespace, attribute, table, struct, enumeration, union, service, root, identifier, extension, DeclarationV, SchemaV, Before, each_before, doc_before, docs_before, dotted_before, path_before, kind_before, literal_before, after_before, number_before, label_piece, label_before, attribute_before, next_before, attributes_before, field_before, record_before, variant_before, list_before, comma_before, enumeration_before, member_before, union_before, method_before, service_before, quoted_before, rooted_before, declared_before, namespace_before, item_before, declaration_before, schema_pieces}
 use Rattle.planus_syntax.specs.Reading.{begins_closing, closing_at, Fault, Reads, optional_at, ◌>>=◌, begins_mark, begins_doc, begins_next, has_more, inside, if_inside, mark_at, word_at, doc_at, number_at, label_at, list_at, with_items, docs_at, dotted_at, path_at, kind_at, brackets_at, name_at, literal_at, attribute_at, next_attribute_at, attributes_at, field_at, record_at, comma_at, variant_at, next_variant_at, variants_at, enumeration_at, member_at, next_member_at, members_at, union_at, method_at, service_at, quoted_at, rooted_at, namespace_at, declared_at, as_item, statement_at, item_at, declaration_at, schema_at}
 use Rattle.planus_syntax.specs.Values.{is_whole, is_whole_item, is_comma_after, AreWhole}

@@ -8,8 +8,7 @@ use Rattle.std.proofs.lemmas.Bool.{eqb-true}
 use Rattle.planus_syntax.specs.declared.layout.Place.{Place}
 use Rattle.planus_syntax.specs.Tokens.{Piece, word, number, text, doc, mark, begins, is_word_byte, is_number_start, is_number_byte, is_line_byte, is_blank, is_mark, is_lawful, bytes_of}
 use Rattle.planus_syntax.specs.Layout.{is_doc, is_mark_of, place_after, outside, is_tight, is_open, is_number_piece, is_glued, is_grouped, new_line, between_declarations, after_mark, spaced, apart, gap_before, laid_out, printed}
-use Rattle.planus_syntax.specs.declared.strings.StringState.TheVariants.{Plain}
-use Rattle.planus_syntax.specs.Strings.{is_quote, is_string, is_closed, string_step}
+use Rattle.planus_syntax.specs.Strings.{start, is_quote, is_string, is_closed, string_step}
 use Rattle.planus_syntax.specs.Spelled.{Part, token, blank, goes_on, spelled, tokens_in, AreParts}
 use Rattle.planus_syntax.proofs.Marks.{one_of, never, neither, not_true}
 use Rattle.planus_syntax.proofs.Quotes.{of_quotes}
@@ -122,7 +121,7 @@ text_digit : (w rest : List ℕ) → is_lawful (text w) ≡ true → Stops is_as
 text_digit [] rest h = absurd cc
 text_digit (q ∷ w) rest h =
     let a = both (is_string (q ∷ w)) (is_utf8 (q ∷ w)) h in
-    let b = both (is_quote q) (is_closed (fold (string_step q) (Plain 0) w)) a.0 in
+    let b = both (is_quote q) (is_closed (fold (string_step q) start w)) a.0 in
     of_quotes (λ x. is_ascii_digit x ≡ false) q b.0 refl refl
 
 no_digit_first : (q : Piece) (rest : List ℕ) → is_lawful q ≡ true → is_number_piece q ≡ false → Stops is_ascii_digit (bytes_of q ++ rest)

@@ -7,8 +7,8 @@ use Rattle.std.proofs.lemmas.List.{length-append}
 use Rattle.planus_syntax.specs.declared.lexer.LexFault.{LexFault}
 use Rattle.planus_syntax.specs.declared.lexer.LexFault.TheVariants.{NotUtf8}
 use Rattle.planus_syntax.specs.declared.strings.StringState.{StringState}
-use Rattle.planus_syntax.specs.declared.strings.StringState.TheVariants.{Plain, Escape, HexMark, Digits, End, Wrong}
-use Rattle.planus_syntax.specs.Strings.{is_quote, string_step, is_closed, is_wrong}
+use Rattle.planus_syntax.specs.declared.strings.StringState.TheVariants.{Plain, Escape, HexMark, HexDigit, Digits, End, Wrong}
+use Rattle.planus_syntax.specs.Strings.{start, is_quote, string_step, is_closed, is_wrong}
 use Rattle.planus_syntax.specs.Tokens.{Piece, text, begins, is_lawful}
 use Rattle.planus_syntax.specs.Spelled.{token}
 use Rattle.planus_syntax.specs.Lexing.{Read, between, quoted, text_piece, string_fault, closed, with_front, going, lex_from, lex_of}
@@ -17,17 +17,19 @@ use Rattle.planus_syntax.proofs.Scanning.{no_front}
 use Rattle.planus_syntax.proofs.Marks.{never}
 
 closed_wrong : (q b : ℕ) (s : StringState) → is_closed s ≡ true → string_step q s b ≡ Wrong
-closed_wrong q b (Plain high) h = absurd cc
-closed_wrong q b (Escape high) h = absurd cc
-closed_wrong q b HexMark h = absurd cc
+closed_wrong q b (Plain due) h = absurd cc
+closed_wrong q b (Escape due) h = absurd cc
+closed_wrong q b (HexMark due) h = absurd cc
+closed_wrong q b (HexDigit due value) h = absurd cc
 closed_wrong q b (Digits high left value) h = absurd cc
 closed_wrong q b End h = refl
 closed_wrong q b Wrong h = refl
 
 wrong_is : (s : StringState) → is_wrong s ≡ true → s ≡ Wrong
-wrong_is (Plain high) h = absurd cc
-wrong_is (Escape high) h = absurd cc
-wrong_is HexMark h = absurd cc
+wrong_is (Plain due) h = absurd cc
+wrong_is (Escape due) h = absurd cc
+wrong_is (HexMark due) h = absurd cc
+wrong_is (HexDigit due value) h = absurd cc
 wrong_is (Digits high left value) h = absurd cc
 wrong_is End h = absurd cc
 wrong_is Wrong h = refl
@@ -136,24 +138,24 @@ quote_at P q false false e f h a b = absurd cc
 pub of_quotes : (P : ℕ → Type 0) (q : ℕ) → is_quote q ≡ true → P 34 → P 39 → P q
 of_quotes P q h a b = quote_at P q (q == 34) (q == 39) refl refl h a b
 
-opens : (q : ℕ) (bs : List ℕ) → is_quote q ≡ true → lex_of (q ∷ bs) ≡ lex_from (quoted q (Plain 0) (q ∷ [])) bs
-opens q bs h = of_quotes (λ x. lex_of (x ∷ bs) ≡ lex_from (quoted x (Plain 0) (x ∷ [])) bs) q h
-    (no_front (lex_from (quoted 34 (Plain 0) (34 ∷ [])) bs)) (no_front (lex_from (quoted 39 (Plain 0) (39 ∷ [])) bs))
+opens : (q : ℕ) (bs : List ℕ) → is_quote q ≡ true → lex_of (q ∷ bs) ≡ lex_from (quoted q start (q ∷ [])) bs
+opens q bs h = of_quotes (λ x. lex_of (x ∷ bs) ≡ lex_from (quoted x start (x ∷ [])) bs) q h
+    (no_front (lex_from (quoted 34 start (34 ∷ [])) bs)) (no_front (lex_from (quoted 39 start (39 ∷ [])) bs))
 
-string_read : (q : ℕ) (bs rest : List ℕ) (s : Quoted q (Plain 0) bs rest) → is_quote q ≡ true → lex_of (q ∷ bs) ≡ after_text (text_piece (q ∷ s.front)) rest
+string_read : (q : ℕ) (bs rest : List ℕ) (s : Quoted q start bs rest) → is_quote q ≡ true → lex_of (q ∷ bs) ≡ after_text (text_piece (q ∷ s.front)) rest
 string_read q bs rest s h =
-    opens q bs h ∙ ap (lex_from (quoted q (Plain 0) (q ∷ []))) s.whole ∙ closed_read q (Plain 0) (q ∷ []) s.front rest refl s.ends
+    opens q bs h ∙ ap (lex_from (quoted q start (q ∷ []))) s.whole ∙ closed_read q start (q ∷ []) s.front rest refl s.ends
 
-pub a_string : (q : ℕ) (bs rest : List ℕ) (s : Quoted q (Plain 0) bs rest) → is_quote q ≡ true → is_utf8 (q ∷ s.front) ≡ true → lex_of (q ∷ bs) ≡ with_front (text (q ∷ s.front) ∷ []) (lex_of rest)
+pub a_string : (q : ℕ) (bs rest : List ℕ) (s : Quoted q start bs rest) → is_quote q ≡ true → is_utf8 (q ∷ s.front) ≡ true → lex_of (q ∷ bs) ≡ with_front (text (q ∷ s.front) ∷ []) (lex_of rest)
 a_string q bs rest s h u = string_read q bs rest s h ∙ ap (λ b. after_text (cond b (Ok (text (q ∷ s.front))) (Err NotUtf8)) rest) u
 
-pub bad_string : (q : ℕ) (bs rest : List ℕ) (s : Quoted q (Plain 0) bs rest) → is_quote q ≡ true → is_utf8 (q ∷ s.front) ≡ false → lex_of (q ∷ bs) ≡ Err (NotUtf8, suc (length rest))
+pub bad_string : (q : ℕ) (bs rest : List ℕ) (s : Quoted q start bs rest) → is_quote q ≡ true → is_utf8 (q ∷ s.front) ≡ false → lex_of (q ∷ bs) ≡ Err (NotUtf8, suc (length rest))
 bad_string q bs rest s h u = string_read q bs rest s h ∙ ap (λ b. after_text (cond b (Ok (text (q ∷ s.front))) (Err NotUtf8)) rest) u
 
-pub no_string : (q : ℕ) (bs : List ℕ) (e : LexFault × ℕ) → is_quote q ≡ true → string_end q (Plain 0) bs ≡ Err e → lex_of (q ∷ bs) ≡ Err e
-no_string q bs e h o = opens q bs h ∙ open_read q (Plain 0) (q ∷ []) bs e o
+pub no_string : (q : ℕ) (bs : List ℕ) (e : LexFault × ℕ) → is_quote q ≡ true → string_end q start bs ≡ Err e → lex_of (q ∷ bs) ≡ Err e
+no_string q bs e h o = opens q bs h ∙ open_read q start (q ∷ []) bs e o
 
-pub string_lawful : (q : ℕ) (bs rest : List ℕ) (s : Quoted q (Plain 0) bs rest) → is_quote q ≡ true → is_utf8 (q ∷ s.front) ≡ true → is_lawful (text (q ∷ s.front)) ≡ true
+pub string_lawful : (q : ℕ) (bs rest : List ℕ) (s : Quoted q start bs rest) → is_quote q ≡ true → is_utf8 (q ∷ s.front) ≡ true → is_lawful (text (q ∷ s.front)) ≡ true
 string_lawful q bs rest s h u = let e = s.ends in rw (h, e, u) refl
 
 abbrev left_of : Result (List ℕ) (LexFault × ℕ) → ℕ
@@ -192,12 +194,12 @@ pub record CutOff (bytes t rest : List ℕ) : Type 0 where
   pub more : List ℕ
   pub first : bytes ≡ quote ∷ more
   pub opens : is_quote quote ≡ true
-  pub quoted : Quoted quote (Plain 0) more rest
+  pub quoted : Quoted quote start more rest
   pub cut : t ≡ quote ∷ quoted.front
 
-pub cut_off : (q : ℕ) (bytes bs rest t : List ℕ) → bytes ≡ q ∷ bs → begins is_quote bytes ≡ true → string_end q (Plain 0) bs ≡ Ok rest → t ≡ take (length bytes - length rest) bytes → CutOff bytes t rest
+pub cut_off : (q : ℕ) (bytes bs rest t : List ℕ) → bytes ≡ q ∷ bs → begins is_quote bytes ≡ true → string_end q start bs ≡ Ok rest → t ≡ take (length bytes - length rest) bytes → CutOff bytes t rest
 cut_off q bytes bs rest t e h o c =
-    let s = string_found q (Plain 0) bs rest o in
+    let s = string_found q start bs rest o in
     let whole : bytes ≡ (q ∷ s.front) ++ rest = e ∙ ap (λ r. q ∷ r) s.whole in
     record {
       quote = q;
@@ -208,9 +210,9 @@ cut_off q bytes bs rest t e h o c =
       cut = c ∙ ap (λ x. take (length x - length rest) x) whole ∙ cut_front (q ∷ s.front) rest;
     }
 
-pub cut_shorter : (q : ℕ) (bytes bs rest : List ℕ) → bytes ≡ q ∷ bs → string_end q (Plain 0) bs ≡ Ok rest → length rest < length bytes
+pub cut_shorter : (q : ℕ) (bytes bs rest : List ℕ) → bytes ≡ q ∷ bs → string_end q start bs ≡ Ok rest → length rest < length bytes
 cut_shorter q bytes bs rest e o =
-    let s = string_found q (Plain 0) bs rest o in omega (arith, ap length e, ap length s.whole, length-append s.front rest)
+    let s = string_found q start bs rest o in omega (arith, ap length e, ap length s.whole, length-append s.front rest)
 
 pub cut_read : (bytes t rest : List ℕ) → CutOff bytes t rest → is_utf8 t ≡ true → lex_of bytes ≡ with_front (text t ∷ []) (lex_of rest)
 cut_read bytes t rest c u =
@@ -223,11 +225,11 @@ cut_refused bytes t rest c u =
     let fails : ℕ → Read = λ n. Err (NotUtf8, n) in
     ap lex_of c.first ∙ bad_string c.quote c.more rest c.quoted c.opens (sym (ap is_utf8 c.cut) ∙ u) ∙ ap fails e
 
-pub none_cut : (q : ℕ) (bytes bs : List ℕ) (f : LexFault) (n : ℕ) → bytes ≡ q ∷ bs → begins is_quote bytes ≡ true → string_end q (Plain 0) bs ≡ Err (f, n) → lex_of bytes ≡ Err (f, n)
+pub none_cut : (q : ℕ) (bytes bs : List ℕ) (f : LexFault) (n : ℕ) → bytes ≡ q ∷ bs → begins is_quote bytes ≡ true → string_end q start bs ≡ Err (f, n) → lex_of bytes ≡ Err (f, n)
 none_cut q bytes bs f n e h o = ap lex_of e ∙ no_string q bs (f, n) (sym (ap (begins is_quote) e) ∙ h) o
 
-pub none_left : (q : ℕ) (bytes bs : List ℕ) (f : LexFault) (n : ℕ) → bytes ≡ q ∷ bs → string_end q (Plain 0) bs ≡ Err (f, n) → n ≤ length bytes
-none_left q bytes bs f n e o = let h = string_left q (Plain 0) bs f n o in omega (arith, ap length e)
+pub none_left : (q : ℕ) (bytes bs : List ℕ) (f : LexFault) (n : ℕ) → bytes ≡ q ∷ bs → string_end q start bs ≡ Err (f, n) → n ≤ length bytes
+none_left q bytes bs f n e o = let h = string_left q start bs f n o in omega (arith, ap length e)
 
 pub cut_leads : (bytes t rest : List ℕ) → CutOff bytes t rest → is_utf8 t ≡ true → Leads bytes (token (text t)) rest
 cut_leads bytes t rest c u = record {

@@ -12,8 +12,7 @@ use Rattle.planus_syntax.proofs.Runs.{end, splits}
 use Rattle.planus_syntax.specs.Tokens.{Piece, word, number, text, doc, mark, begins, is_word_byte, is_number_start, starts_number, is_number_byte, is_number, is_line_byte, is_blank, is_mark, is_some, is_lawful, bytes_of}
 use Rattle.planus_syntax.specs.Lexing.{State, between, run, slash, slashes, Read, opened, going, with_front, lex_from, lex_of}
 use Rattle.planus_syntax.specs.Lexing as machine
-use Rattle.planus_syntax.specs.declared.strings.StringState.TheVariants.{Plain}
-use Rattle.planus_syntax.specs.Strings.{is_quote, is_string, is_closed, string_step}
+use Rattle.planus_syntax.specs.Strings.{start, is_quote, is_string, is_closed, string_step}
 use Rattle.planus_syntax.specs.Cutting.{Splits, string_end}
 use Rattle.planus_syntax.proofs.Quotes.{Quoted, string_found, string_lawful, a_string, bad_string, no_string}
 use Rattle.planus_syntax.specs.Spelled.{Part, token, blank, comment, block, part_bytes, is_part, goes_on, spelled, tokens_in, AreParts, closes, stays_open}
@@ -64,7 +63,7 @@ one_part (number w) rest h s =
 one_part (text []) rest h s = absurd cc
 one_part (text (q ∷ w)) rest h s =
     let a = both (is_string (q ∷ w)) (is_utf8 (q ∷ w)) h in
-    let b = both (is_quote q) (is_closed (fold (string_step q) (Plain 0) w)) a.0 in
+    let b = both (is_quote q) (is_closed (fold (string_step q) start w)) a.0 in
     a_string q (w ++ rest) rest (record { front = w; whole = refl; ends = b.1 }) b.0 a.1
 one_part (doc w) rest h s =
     slash_slash (47 ∷ (w ++ rest))
@@ -181,16 +180,16 @@ front_is : (m : ℕ) (bs : List ℕ) → begins (λ b. b == m) bs ≡ true → (
 front_is m [] h = absurd cc
 front_is m (b ∷ bs) h = (bs, ap (λ x. x ∷ bs) (eqb-true b m h))
 
-closed_found : (n q : ℕ) (bs rest : List ℕ) (ps : List Piece) (s : Quoted q (Plain 0) bs rest) (u : Bool) → is_utf8 (q ∷ s.front) ≡ u → is_quote q ≡ true → length bs ≤ n → lex_of (q ∷ bs) ≡ Ok ps → Below n → Found (q ∷ bs) ps
+closed_found : (n q : ℕ) (bs rest : List ℕ) (ps : List Piece) (s : Quoted q start bs rest) (u : Bool) → is_utf8 (q ∷ s.front) ≡ u → is_quote q ≡ true → length bs ≤ n → lex_of (q ∷ bs) ≡ Ok ps → Below n → Found (q ∷ bs) ps
 closed_found n q bs rest ps s true u h le o below =
     token_found (text (q ∷ s.front)) (q ∷ bs) rest ps (string_lawful q bs rest s h u) (never rest) (ap (λ r. q ∷ r) s.whole) (a_string q bs rest s h u) o
     (λ qs r. below rest qs (omega (arith, ap length s.whole, length-append s.front rest)) r)
 closed_found n q bs rest ps s false u h le o below =
     absurd (err_not_ok (q ∷ bs) _ ps (bad_string q bs rest s h u) o)
 
-text_found : (n q : ℕ) (bs : List ℕ) (ps : List Piece) (r : Result (List ℕ) (LexFault × ℕ)) → string_end q (Plain 0) bs ≡ r → is_quote q ≡ true → length bs ≤ n → lex_of (q ∷ bs) ≡ Ok ps → Below n → Found (q ∷ bs) ps
+text_found : (n q : ℕ) (bs : List ℕ) (ps : List Piece) (r : Result (List ℕ) (LexFault × ℕ)) → string_end q start bs ≡ r → is_quote q ≡ true → length bs ≤ n → lex_of (q ∷ bs) ≡ Ok ps → Below n → Found (q ∷ bs) ps
 text_found n q bs ps (Ok rest) e h le o below =
-    let s = string_found q (Plain 0) bs rest e in
+    let s = string_found q start bs rest e in
     closed_found n q bs rest ps s (is_utf8 (q ∷ s.front)) refl h le o below
 text_found n q bs ps (Err f) e h le o below = absurd (err_not_ok (q ∷ bs) f ps (no_string q bs f h e) o)
 
@@ -278,7 +277,7 @@ class_found n b bs ps false false true x y z eu ev ew ex ey ez le o below =
 class_found n b bs ps false false false true y z eu ev ew ex ey ez le o below =
     token_found (mark b) (b ∷ bs) bs ps ex (point_stops b bs eu) refl (a_mark b bs ex (point_stops b bs eu)) o (λ qs q. below bs qs le q)
 class_found n b bs ps false false false false true z eu ev ew ex ey ez le o below =
-    text_found n b bs ps (string_end b (Plain 0) bs) refl ey le o below
+    text_found n b bs ps (string_end b start bs) refl ey le o below
 class_found n b bs ps false false false false false true eu ev ew ex ey ez le o below =
     subst (λ c. Found (c ∷ bs) ps) (sym (eqb-true b 47 ez)) (slash_found n bs ps _ _ refl refl le (sym (ap (λ c. lex_of (c ∷ bs)) (eqb-true b 47 ez)) ∙ o) below)
 class_found n b bs ps false false false false false false eu ev ew ex ey ez le o below =

@@ -9,8 +9,7 @@ use Rattle.planus_syntax.specs.Tokens.{Piece, word, number, text, doc, mark, beg
 use Rattle.planus_syntax.specs.Spelled.{Part, token, blank, comment, block, part_bytes, is_part, goes_on, spelled, tokens_in, AreParts, closes, stays_open}
 use Rattle.planus_syntax.specs.Placing.{TokenFirst, StandsAt}
 use Rattle.planus_syntax.specs.declared.lexer.LexFault.{LexFault}
-use Rattle.planus_syntax.specs.declared.strings.StringState.TheVariants.{Plain}
-use Rattle.planus_syntax.specs.Strings.{is_quote, is_string, is_closed, string_step}
+use Rattle.planus_syntax.specs.Strings.{start, is_quote, is_string, is_closed, string_step}
 use Rattle.planus_syntax.specs.Cutting.{string_end}
 use Rattle.planus_syntax.proofs.Quotes.{of_quotes, string_ends, cut_front}
 use Rattle.planus_syntax.proofs.Scanning.{both}
@@ -52,7 +51,7 @@ first_part (b ∷ bs) =
     else if is_word_byte b then cut (λ w. token (word w)) (span is_word_byte (b ∷ bs))
     else if is_blank b then (blank b, bs)
     else if is_mark b then (token (mark b), bs)
-    else if is_quote b then text_cut b bs (string_end b (Plain 0) bs)
+    else if is_quote b then text_cut b bs (string_end b start bs)
     else after_slash bs
 
 span_is : (p : ℕ → Bool) (w r : List ℕ) → list_all p w ≡ true → begins p r ≡ false → span p (w ++ r) ≡ (w, r)
@@ -104,10 +103,10 @@ text_first : (w r : List ℕ) → is_part (token (text w)) ≡ true → First (t
 text_first [] r h = absurd cc
 text_first (q ∷ w) r h =
     let a = both (is_string (q ∷ w)) (is_utf8 (q ∷ w)) h in
-    let b = both (is_quote q) (is_closed (fold (string_step q) (Plain 0) w)) a.0 in
-    let cuts : first_part (q ∷ (w ++ r)) ≡ text_cut q (w ++ r) (string_end q (Plain 0) (w ++ r)) =
-    of_quotes (λ x. first_part (x ∷ (w ++ r)) ≡ text_cut x (w ++ r) (string_end x (Plain 0) (w ++ r))) q b.0 refl refl in
-    cuts ∙ ap (text_cut q (w ++ r)) (string_ends q (Plain 0) w r refl b.1)
+    let b = both (is_quote q) (is_closed (fold (string_step q) start w)) a.0 in
+    let cuts : first_part (q ∷ (w ++ r)) ≡ text_cut q (w ++ r) (string_end q start (w ++ r)) =
+    of_quotes (λ x. first_part (x ∷ (w ++ r)) ≡ text_cut x (w ++ r) (string_end x start (w ++ r))) q b.0 refl refl in
+    cuts ∙ ap (text_cut q (w ++ r)) (string_ends q start w r refl b.1)
     ∙ ap (λ v. (token (text (q ∷ v)), r)) (cut_front w r)
 
 doc_first : (w r : List ℕ) → list_all is_line_byte w ≡ true → begins is_line_byte r ≡ false → First (token (doc w)) r

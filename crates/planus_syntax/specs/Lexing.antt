@@ -15,6 +15,7 @@ use Rattle.planus_syntax.specs.Tokens.{Piece, word, number, text, doc, mark, pie
 use Rattle.planus_syntax.specs.Tokens.{is_word_byte, is_number_start, is_number_byte, is_number}
 use Rattle.planus_syntax.specs.Tokens.{is_blank, is_mark}
 use Rattle.planus_syntax.specs.Strings.{is_quote, string_step, is_closed, is_wrong}
+use Rattle.planus_syntax.specs.Strings.{start, is_nothing}
 use Rattle.planus_syntax.specs.declared.strings.StringState.{StringState}
 use Rattle.planus_syntax.specs.declared.strings.StringState.TheVariants as string
 
@@ -51,7 +52,7 @@ opened b =
     else if is_blank b then Ok ([], between)
     else if b == 46 then Ok ([], point)
     else if is_mark b then Ok (mark b ∷ [], between)
-    else if is_quote b then Ok ([], quoted b (string.Plain 0) (b ∷ []))
+    else if is_quote b then Ok ([], quoted b start (b ∷ []))
     else if b == 47 then Ok ([], slash)
     else Err Strange
 
@@ -65,10 +66,11 @@ closed (Err f) next = Err f
 
 -- why a string does not go on
 abbrev pub string_fault : StringState → ℕ → LexFault
-string_fault (string.Plain high) b =
-    if not (high == 0) then Escape else if b == 10 then OpenString else Control
-string_fault (string.Escape high) b = Escape
-string_fault string.HexMark b = Escape
+string_fault (string.Plain due) b =
+    if not (is_nothing due) then Escape else if b == 10 then OpenString else Control
+string_fault (string.Escape due) b = Escape
+string_fault (string.HexMark due) b = Escape
+string_fault (string.HexDigit due value) b = Escape
 string_fault (string.Digits high left value) b = Escape
 string_fault string.End b = Escape
 string_fault string.Wrong b = Escape

@@ -18,12 +18,12 @@ ghost use Rattle.planus_syntax.specs.Placing.{StandsAt};
 ghost use Rattle.planus_syntax.specs.Tokens.{Piece};
 ghost use Rattle.planus_syntax.specs.Cutting.{string_end as string_end_lem, Ends};
 ghost use Rattle.planus_syntax.specs.Lexing.{string_fault as string_fault_lem};
-ghost use Rattle.planus_syntax.specs.Strings.{is_quote as is_quote_lem};
+ghost use Rattle.planus_syntax.specs.Strings.{is_quote as is_quote_lem, start as start_lem};
 ghost use Rattle.planus_syntax.specs.Spelled.{closes};
 
 use crate::number::is_number;
 use crate::run::Run;
-use crate::strings::{StringState, is_closed, is_quote, is_wrong, string_step};
+use crate::strings::{StringState, is_closed, is_nothing, is_quote, is_wrong, start, string_step};
 use crate::token::{Lexeme, Token};
 use std::alloc::{AllocError, AllocFailed, Global};
 
@@ -34,8 +34,8 @@ pub enum LexFault {
     BadNumber,
     /// A string has no end on its line.
     OpenString,
-    /// An escape in a string is none of those that there are, or half of one. The place is in it,
-    /// or after it.
+    /// An escape in a string is none of those that there are, or half of one, or a byte that is no
+    /// UTF-8 with those beside it. The place is in it, or after it.
     Escape,
     /// A control character, as a tab, is in a string.
     Control,
@@ -201,7 +201,7 @@ fn string_fault(state: StringState, b: u8) -> LexFault
     ensures { result ≡ string_fault_lem state b }
 {
     match state {
-        StringState::Plain { high } if high == 0 => {
+        StringState::Plain { due } if is_nothing(due) => {
             if b == b'\n' {
                 LexFault::OpenString
             } else {
@@ -214,9 +214,9 @@ fn string_fault(state: StringState, b: u8) -> LexFault
 
 /// Returns what follows the closing quote of a string.
 fn string_end(quote: u8, bytes: &[u8]) -> Result<&[u8], Stop>
-    ensures { Ends (string_end_lem quote (StringState.Plain 0) bytes.now) result }
+    ensures { Ends (string_end_lem quote start_lem bytes.now) result }
 {
-    let mut state = StringState::Plain { high: 0 };
+    let mut state = start();
     let mut rest = bytes;
     'bytes: while let Some((b, after)) = rest.split_first() {
         let next = string_step(quote, state, *b);

@@ -1,7 +1,12 @@
 //! How strings are written, and the text that they mean.
 
-ghost use Rattle.std.specs.Prelude.{◌≡◌, ◌++◌, ◌<◌, OnOk, IfOk};
+ghost use Rattle.std.specs.Prelude.{◌≡◌, ◌++◌, ◌<◌, OnOk, IfOk, IfSome};
 ghost use Rattle.planus_syntax.specs.Strings.{after_backslash as after_backslash_lem};
+ghost use Rattle.planus_syntax.specs.Strings.{after_byte as after_byte_lem};
+ghost use Rattle.planus_syntax.specs.Strings.{after_first as after_first_lem};
+ghost use Rattle.planus_syntax.specs.Strings.{after_next as after_next_lem};
+ghost use Rattle.planus_syntax.specs.Strings.{byte_of as byte_of_lem};
+ghost use Rattle.planus_syntax.specs.Strings.{is_nothing as is_nothing_lem, start as start_lem};
 ghost use Rattle.planus_syntax.specs.Strings.{after_code as after_code_lem};
 ghost use Rattle.planus_syntax.specs.Strings.{after_digit as after_digit_lem};
 ghost use Rattle.planus_syntax.specs.Strings.{between_quotes as between_quotes_lem};
@@ -18,21 +23,45 @@ ghost use Rattle.planus_syntax.specs.Values.{label_name as label_name_lem, label
 use crate::value::Label;
 use std::alloc::{AllocError, Global};
 
-/// The part of a string that was read. `high` is the first half of a character above `\uffff`, of
-/// which the second has to follow, or 0.
+/// What has to follow in a string.
+#[derive(Clone, Copy)]
+pub(crate) enum Due {
+    Nothing,
+    /// By `\u`, the second half of a character above `\uffff`, of which this is the first.
+    SecondHalf { high: u32 },
+    /// By `\x`, the next byte of a character, in this range, before so many more.
+    NextByte { least: u8, greatest: u8, more: u8 },
+}
+
+/// The part of a string that was read.
 #[derive(Clone, Copy)]
 pub(crate) enum StringState {
-    /// Between characters.
-    Plain { high: u32 },
+    /// Between characters, or escapes that are one together.
+    Plain { due: Due },
     /// After a backslash.
-    Escape { high: u32 },
+    Escape { due: Due },
     /// After `\x`.
-    HexMark,
-    /// In the hexadecimal digits of an escape, of which so many are left.
+    HexMark { due: Due },
+    /// After `\x` and a digit.
+    HexDigit { due: Due, value: u8 },
+    /// In the digits after `\u`, of which so many are left; `high` is the first half of the
+    /// character, or 0.
     Digits { high: u32, left: u8, value: u32 },
     /// After the closing quote.
     End,
     Wrong,
+}
+
+pub(crate) fn start() -> StringState
+    ensures { result ≡ start_lem }
+{
+    StringState::Plain { due: Due::Nothing }
+}
+
+pub(crate) fn is_nothing(due: Due) -> bool
+    ensures { result ≡ is_nothing_lem due }
+{
+    matches!(due, Due::Nothing)
 }
 
 pub(crate) fn is_quote(b: u8) -> bool
@@ -68,7 +97,8 @@ fn escaped(b: u8) -> Option<u8>
 }
 
 fn hex_digit(b: u8) -> Option<u8>
-    ensures { result ≡ hex_digit_lem b }
+    ensures digit { result ≡ hex_digit_lem b }
+    ensures below { IfSome result (λ digit. digit < 16) }
 {
     match b {
         b'0'..=b'9' => Some(b - b'0'),
@@ -95,14 +125,16 @@ fn after_code(high: u32, code: u32) -> StringState
 {
     if high == 0 {
         if is_high(code) {
-            StringState::Plain { high: code }
+            StringState::Plain {
+                due: Due::SecondHalf { high: code },
+            }
         } else if is_low(code) {
             StringState::Wrong
         } else {
-            StringState::Plain { high: 0 }
+            start()
         }
     } else if is_low(code) {
-        StringState::Plain { high: 0 }
+        start()
     } else {
         StringState::Wrong
     }
@@ -122,23 +154,80 @@ fn after_digit(high: u32, left: u8, value: u32) -> StringState
     }
 }
 
-fn after_backslash(high: u32, b: u8) -> StringState
-    ensures { result ≡ after_backslash_lem high b }
+fn next_byte(least: u8, greatest: u8, more: u8) -> StringState
+    ensures { result ≡ StringState.Plain (Due.NextByte least greatest more) }
 {
-    if b == b'u' {
-        StringState::Digits {
-            high,
-            left: 4,
-            value: 0,
-        }
-    } else if high != 0 {
+    StringState::Plain {
+        due: Due::NextByte {
+            least,
+            greatest,
+            more,
+        },
+    }
+}
+
+// After the first byte of a character in UTF-8.
+fn after_first(b: u8) -> StringState
+    ensures { result ≡ after_first_lem b }
+{
+    match b {
+        0..=0x7f => start(),
+        0xc2..=0xdf => next_byte(0x80, 0xbf, 0),
+        0xe0 => next_byte(0xa0, 0xbf, 1),
+        0xed => next_byte(0x80, 0x9f, 1),
+        0xe1..=0xef => next_byte(0x80, 0xbf, 1),
+        0xf0 => next_byte(0x90, 0xbf, 2),
+        0xf1..=0xf3 => next_byte(0x80, 0xbf, 2),
+        0xf4 => next_byte(0x80, 0x8f, 2),
+        _ => StringState::Wrong,
+    }
+}
+
+fn after_next(least: u8, greatest: u8, more: u8, b: u8) -> StringState
+    ensures { result ≡ after_next_lem least greatest more b }
+{
+    if !(least <= b && b <= greatest) {
         StringState::Wrong
-    } else if b == b'x' {
-        StringState::HexMark
-    } else if escaped(b).is_some() {
-        StringState::Plain { high: 0 }
+    } else if more == 0 {
+        start()
     } else {
-        StringState::Wrong
+        next_byte(0x80, 0xbf, more - 1)
+    }
+}
+
+fn after_byte(due: Due, b: u8) -> StringState
+    ensures { result ≡ after_byte_lem due b }
+{
+    match due {
+        Due::Nothing => after_first(b),
+        Due::SecondHalf { high: _ } => StringState::Wrong,
+        Due::NextByte {
+            least,
+            greatest,
+            more,
+        } => after_next(least, greatest, more, b),
+    }
+}
+
+fn digits(high: u32) -> StringState
+    ensures { result ≡ StringState.Digits high 4 0 }
+{
+    StringState::Digits {
+        high,
+        left: 4,
+        value: 0,
+    }
+}
+
+fn after_backslash(due: Due, b: u8) -> StringState
+    ensures { result ≡ after_backslash_lem due b }
+{
+    match (b, due) {
+        (b'u', Due::Nothing) => digits(0),
+        (b'u', Due::SecondHalf { high }) => digits(high),
+        (b'x', Due::Nothing | Due::NextByte { .. }) => StringState::HexMark { due },
+        (_, Due::Nothing) if escaped(b).is_some() => start(),
+        _ => StringState::Wrong,
     }
 }
 
@@ -148,35 +237,42 @@ fn with_digit(value: u32, digit: u8) -> u32
     16 * (value % 4096) + digit as u32
 }
 
-fn plain_step(quote: u8, high: u32, b: u8) -> StringState
-    ensures { result ≡ string_step_lem quote (StringState.Plain high) b }
+fn plain_step(quote: u8, due: Due, b: u8) -> StringState
+    ensures { result ≡ string_step_lem quote (StringState.Plain due) b }
 {
     if b == b'\\' {
-        StringState::Escape { high }
-    } else if high != 0 {
+        StringState::Escape { due }
+    } else if !is_nothing(due) {
         StringState::Wrong
     } else if b == quote {
         StringState::End
     } else if b < b' ' {
         StringState::Wrong
     } else {
-        StringState::Plain { high: 0 }
+        start()
     }
+}
+
+fn byte_of(value: u8, digit: u8) -> u8
+    requires { digit < 16 }
+    ensures { result ≡ byte_of_lem value digit }
+{
+    16 * (value % 16) + digit
 }
 
 pub(crate) fn string_step(quote: u8, state: StringState, b: u8) -> StringState
     ensures { result ≡ string_step_lem quote state b }
 {
     match state {
-        StringState::Plain { high } => plain_step(quote, high, b),
-        StringState::Escape { high } => after_backslash(high, b),
-        StringState::HexMark => match b {
-            b'0'..=b'7' => StringState::Digits {
-                high: 0,
-                left: 1,
-                value: (b - b'0') as u32,
-            },
-            _ => StringState::Wrong,
+        StringState::Plain { due } => plain_step(quote, due, b),
+        StringState::Escape { due } => after_backslash(due, b),
+        StringState::HexMark { due } => match hex_digit(b) {
+            Some(value) => StringState::HexDigit { due, value },
+            None => StringState::Wrong,
+        },
+        StringState::HexDigit { due, value } => match hex_digit(b) {
+            Some(digit) => after_byte(due, byte_of(value, digit)),
+            None => StringState::Wrong,
         },
         StringState::Digits { high, left, value } => match hex_digit(b) {
             Some(digit) => after_digit(high, left, with_digit(value, digit)),
@@ -249,14 +345,14 @@ fn put_written(out: &mut Vec<u8>, quote: u8, state: StringState, b: u8) -> Resul
     ensures { OnOk result (out.new.items ≡ out.old.items ++ written quote state b) }
 {
     match state {
-        StringState::Plain { high: _ } => {
+        StringState::Plain { due: _ } => {
             if b == quote || b == b'\\' {
                 return Ok(());
             }
             out.push(b)?;
             Ok(())
         }
-        StringState::Escape { high: _ } => match escaped(b) {
+        StringState::Escape { due: _ } => match escaped(b) {
             Some(meant) => {
                 out.push(meant)?;
                 Ok(())
@@ -264,7 +360,14 @@ fn put_written(out: &mut Vec<u8>, quote: u8, state: StringState, b: u8) -> Resul
             None => Ok(()),
         },
         StringState::Digits { high, left, value } => put_digit(out, high, left, value, b),
-        StringState::HexMark | StringState::End | StringState::Wrong => Ok(()),
+        StringState::HexDigit { due: _, value } => match hex_digit(b) {
+            Some(digit) => {
+                out.push(byte_of(value, digit))?;
+                Ok(())
+            }
+            None => Ok(()),
+        },
+        StringState::HexMark { due: _ } | StringState::End | StringState::Wrong => Ok(()),
     }
 }
 
@@ -276,7 +379,7 @@ pub fn string_text(alloc: Global, string: &[u8]) -> Result<Vec<u8>, AllocError>
     let Some((quote, body)) = string.split_first() else {
         return Ok(out);
     };
-    let mut state = StringState::Plain { high: 0 };
+    let mut state = start();
     let mut rest = body;
     'bytes: while let Some((b, after)) = rest.split_first() {
         put_written(&mut out, *quote, state, *b)?;

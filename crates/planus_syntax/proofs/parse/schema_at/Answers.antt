@@ -1,5 +1,5 @@
-use Rattle.std.proofs.Common.{refl, subst, ap, ◌∙◌}
-use Rattle.planus_syntax.specs.Values.{SchemaV, declaration_before, declaration_of, declarations_of, names_of}
+use Rattle.std.proofs.Common.{subst, ap}
+use Rattle.planus_syntax.specs.Values.{declaration_before, declaration_of, declarations_of, names_of}
 use Rattle.planus_syntax.specs.Counting.{DeclarationCounted, EachCounted}
 use Rattle.planus_syntax.specs.Tokens.{pieces_of}
 use Rattle.planus_syntax.specs.Reading.{schema_at}
