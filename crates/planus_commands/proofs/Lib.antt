@@ -5,3 +5,4 @@ pub mod SpelledFiles
 pub mod Sized
 pub mod LoadedFiles
 pub mod Seen
+mod ViewedBuffer

@@ -1,17 +1,13 @@
 //! Buffers, shown by a schema.
 
-ghost use Rattle.std.specs.Prelude.{◌≡◌, map, IfOk, IfErr, OnOk, ◌++◌};
-ghost use Rattle.std.specs.List.{list_any};
-ghost use Rattle.std.specs.String.{string_bytes};
-ghost use Rattle.planus_dump.specs.FaultLines.{is_fault_line as is_fault_line_lem, begins_with};
-ghost use Rattle.planus_commands.specs.Viewing.{end_text as end_lem, lines_text, lines_of};
-ghost use Rattle.planus_commands.specs.Viewing.{view_text as view_lem};
+ghost use Rattle.std.specs.Prelude.{◌≡◌, IfOk, IfErr};
+ghost use Rattle.planus_commands.specs.Viewing.{end_text as end_lem};
 ghost use Rattle.planus_commands.specs.Viewing.{is_clean as is_clean_lem, WritesView};
 ghost use Rattle.planus_commands.specs.Viewing.{FailsViewing};
 
 use crate::streams::{RunError, write_out};
-use planus_dump::{DumpError, End, FirstLines, Schema, view};
-use std::alloc::{AllocError, Global};
+use planus_dump::{End, Schema, Seen, ViewError, view};
+use std::alloc::Global;
 use std::io::Write;
 
 /// How much of a buffer is shown.
@@ -21,6 +17,21 @@ pub struct Limits {
     pub lines: usize,
     /// The greatest number of their bytes.
     pub bytes: usize,
+}
+
+impl From<ViewError> for RunError {
+    ghost use Rattle.std.specs.Prelude.{◌≡◌};
+    ghost use Rattle.planus_commands.specs.Viewing.{run_error};
+
+    ghost from_gives = { λ error e. e ≡ run_error error };
+
+    fn from(error: ViewError) -> RunError {
+        match error {
+            ViewError::OutOfMemory => RunError::OutOfMemory,
+            ViewError::BadSchema => RunError::BadSchema,
+            ViewError::Write => RunError::Write,
+        }
+    }
 }
 
 fn end_text(end: End) -> &'static str
@@ -34,70 +45,17 @@ fn end_text(end: End) -> &'static str
     }
 }
 
-fn push_lines(text: &mut Vec<u8>, lines: &[String]) -> Result<(), AllocError>
-    ensures { OnOk result (text.new.items
-        ≡ text.old.items ++ lines_text (map string_bytes lines.now)) }
+fn is_clean(seen: Seen) -> bool
+    ensures { result ≡ is_clean_lem seen.end seen.has_fault }
 {
-    for line in lines {
-        text.extend_from_slice(line.as_bytes())?;
-        text.push(b'\n')?;
-    }
-    Ok(())
+    matches!(seen.end, End::Whole) && !seen.has_fault
 }
 
-fn view_text(alloc: Global, view: &FirstLines) -> Result<Vec<u8>, AllocError>
-    ensures { IfOk result (λ text. text.items ≡ view_lem view.now) }
-{
-    let mut text = Vec::new(alloc);
-    push_lines(&mut text, &view.lines)?;
-    text.extend_from_slice(end_text(view.end).as_bytes())?;
-    Ok(text)
-}
-
-fn is_fault_line(line: &[u8]) -> bool
-    ensures { result ≡ is_fault_line_lem line.now }
-{
-    let mut rest = line;
-    while let Some((byte, after)) = rest.split_first() {
-        if *byte == b' ' {
-            return begins_with_mark(after);
-        }
-        rest = after;
-    }
-    false
-}
-
-fn begins_with_mark(bytes: &[u8]) -> bool
-    ensures { result ≡ begins_with 33 bytes.now }
-{
-    match bytes.split_first() {
-        Some((byte, _)) => *byte == b'!',
-        None => false,
-    }
-}
-
-fn has_fault(lines: &[String]) -> bool
-    ensures { result ≡ list_any is_fault_line_lem (map string_bytes lines.now) }
-{
-    for line in lines {
-        if is_fault_line(line.as_bytes()) {
-            return true;
-        }
-    }
-    false
-}
-
-fn is_clean(view: &FirstLines) -> bool
-    ensures { result ≡ is_clean_lem view.now }
-{
-    matches!(view.end, End::Whole) && !has_fault(&view.lines)
-}
-
-/// Writes the first lines of a buffer, and why more are left out. Returns whether all is shown and
-/// no line states an error.
+/// Writes the first lines of a buffer as they are made, and why more are left out. Returns whether
+/// all is shown and no line states an error.
 ///
-/// Fails where memory is refused or writing fails, and with [`RunError::BadSchema`] for a schema
-/// that isn't good (a sound one's is).
+/// Fails where memory is refused or writing fails, after a beginning of them, and with
+/// [`RunError::BadSchema`] for a schema that isn't good (a sound one's is).
 pub fn view_buffer<W: Write>(
     alloc: Global,
     schema: &Schema,
@@ -110,12 +68,7 @@ pub fn view_buffer<W: Write>(
     ensures failed { IfErr result (λ error. FailsViewing schema.now bytes.now limits.lines
         limits.bytes error (W.contents writer.old) (W.contents writer.new)) }
 {
-    let view = match view(alloc, schema, bytes, limits.lines, limits.bytes) {
-        Ok(view) => view,
-        Err(DumpError::BadSchema) => return Err(RunError::BadSchema),
-        Err(_) => return Err(RunError::OutOfMemory),
-    };
-    let text = view_text(alloc, &view)?;
-    write_out(writer, &text)?;
-    Ok(is_clean(&view))
+    let seen = view(alloc, schema, bytes, limits.lines, limits.bytes, writer)?;
+    write_out(writer, end_text(seen.end).as_bytes())?;
+    Ok(is_clean(seen))
 }

@@ -2,11 +2,7 @@
 use Rattle.std.proofs.Common.{◌≡◌, ℕ, List, [], ◌++◌, take, drop, refl, sym, ap, ◌∙◌, subst, Option, append_assoc, append-nil, take-append-drop}
 use Rattle.std.specs.Io.KnownBytes.{Appends, Keeps}
 use Rattle.std.proofs.KnownBytes.{Appends-nil, Appends-trans, Appends-kept}
-use Rattle.planus_dump.specs.Writing.{WritesBeginning}
-
--- some of the bytes were written, and these are left
-abbrev pub Leaves : List ℕ → List ℕ → Option (List ℕ) → Option (List ℕ) → Type 0
-Leaves bytes rest before after = (written : List ℕ) × (bytes ≡ written ++ rest) × Appends before after written
+use Rattle.planus_dump.specs.Writing.{WritesBeginning, Leaves}
 
 pub all_are_left : (bytes : List ℕ) (known : Option (List ℕ)) → Leaves bytes bytes known known
 all_are_left bytes known = ([], refl, Appends-nil known)

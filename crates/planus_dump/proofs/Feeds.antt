@@ -1,7 +1,7 @@
 -- How events are fed one after another.
-use Rattle.std.proofs.Common.{◌≡◌, ◌≢◌, ℕ, zero, suc, ◌+◌, ◌-◌, ◌*◌, ◌<◌, ◌≤◌, List, [], ◌∷◌, ◌++◌, map, length, drop, get_or, Option, Some, None, slice_get, refl, sym, ap, ◌∙◌, subst, arith, length-append, Bool, true, false, ◌==◌, inl, inr}
+use Rattle.std.proofs.Common.{◌≡◌, ◌≢◌, ℕ, zero, suc, ◌+◌, ◌-◌, ◌*◌, ◌<◌, ◌≤◌, List, [], ◌∷◌, ◌++◌, map, length, drop, get_or, Option, Some, None, Ok, slice_get, refl, sym, ap, ◌∙◌, subst, arith, length-append, Bool, true, false, ◌==◌, inl, inr}
 use Rattle.std.specs.Prelude.{if◌then◌else◌, slice_index}
-use Rattle.std.specs.Prelude.{Vec, String, codes, nat_lt, ⊤}
+use Rattle.std.specs.Prelude.{Vec, String, codes, nat_lt}
 use Rattle.std.specs.Fmt.{decimal}
 use Rattle.std.specs.List.{AllByRecursion}
 use Rattle.std.specs.declared.alloc.Global.{Global}
@@ -10,20 +10,20 @@ use Rattle.planus_dump.specs.Tests.{fault_text}
 use Rattle.std.specs.String.{string_bytes}
 use Rattle.std.proofs.lemmas.List.{append_assoc, append-nil, drop_more, length-map}
 use Rattle.std.proofs.lemmas.Bool.{eqb-true, eqb-false, ltb-true, ltb-false}
-use Rattle.planus_dump.specs.Lines.{item_path, field_path, value_line}
-use Rattle.planus_dump.specs.Answers.{Seen, SeenUnions}
-use Rattle.planus_dump.specs.Events.{variant_of, variant_events, fault_event, Event, line, deep, float, field_label, events, TableEvents, shape_events, fields_events, kind_events, item_events, items_events, union_events, union_items_events, stride_of}
+use Rattle.planus_dump.specs.Lines.{item_path, field_path, list_line, union_line, value_line}
+use Rattle.planus_dump.specs.Answers.{Seen, SeenItems, SeenUnions, vector_at}
+use Rattle.planus_dump.specs.Events.{variant_of, variant_events, fault_event, Event, line, deep, float, field_label, events, TableEvents, shape_events, fields_events, kind_events, item_events, items_events, list_events, union_events, union_items_events, stride_of}
 use Rattle.planus_dump.specs.ReadingViews.{IsFound, found_events, IsUnionIn}
 use Rattle.planus_read.specs.declared.place.TaggedPlace.{TaggedPlace}
 use Rattle.planus_read.specs.Places.{place_bytes, place_offset, tagged_tag, tagged_place}
 use Rattle.planus_dump.specs.declared.readings.Found.{Found}
-use Rattle.planus_dump.specs.inner.Shown.{begin, shown, event_of, Shown, by_room, added, step_at, step, feed}
+use Rattle.planus_dump.specs.inner.Shown.{begin, Shown, by_room, added, step_at, step, feed}
+use Rattle.planus_dump.specs.inner.Feeding.{Fits, left_in}
 use Rattle.planus_dump.specs.Dumped.{Shows, AreShown, Begin}
 use Rattle.planus_dump.specs.Floats.{number_of, magnitude, infinite_magnitude, infinity_text, PrintsFloat}
 use Rattle.planus_dump.specs.Views.{cost, costs}
 use Rattle.planus_dump.specs.declared.line.Bits.{Bits}
 use Rattle.planus_dump.specs.declared.line_sink.Stop.{Stop}
-use Rattle.planus_dump.specs.declared.line_sink.LineSink.{LineSink}
 use Rattle.planus_dump.specs.declared.line_sink.Stop.TheVariants.{Going, TooDeep, TooMany, TooLong}
 use Rattle.planus_dump.specs.declared.schemas.Schema.{Schema}
 use Rattle.planus_dump.specs.declared.schemas.FieldSchema.{FieldSchema}
@@ -45,12 +45,6 @@ pub feed-stopped : (s : Shown) (es : List Event) → s.stop ≢ Going → feed s
 feed-stopped s [] h = refl
 feed-stopped s (e ∷ es) h = ap (λ t. feed t es) (stay s s.stop e h) ∙ feed-stopped s es h
 
-pub stopped_done : (s : Shown) (rest : List Event) (done : Shown) → s.stop ≢ Going → feed s rest ≡ done → s ≡ done
-stopped_done s rest done h e = sym (feed-stopped s rest h) ∙ e
-
-pub all_done : (s : Shown) (rest : List Event) (done : Shown) → rest ≡ [] → feed s rest ≡ done → s ≡ done
-all_done s rest done h e = ap (feed s) (sym h) ∙ e
-
 pub events-more : (schema : Schema) (left index : ℕ) (S : List ℕ) (f : ℕ) (path : List ℕ) → left ≢ 0
     → events schema left index S f path ≡ shape_events (events schema (left - 1)) schema (slice_get schema.tables.items index) S f path
 unfolding events
@@ -62,12 +56,11 @@ unfolding events
 events-none schema zero index S f path h = refl
 events-none schema (suc left) index S f path h = absurd (omega (arith, h))
 
-pub fed_on : (s t : Shown) (xs ys all : List Event) (done : Shown) → all ≡ xs ++ ys → t ≡ feed s xs → feed s all ≡ done → feed t ys ≡ done
-fed_on s t xs ys all done split fed whole = ap (λ u. feed u ys) fed ∙ sym (feed-append s xs ys) ∙ ap (feed s) (sym split) ∙ whole
-
-fields-split : (E : TableEvents) (schema : Schema) (table : Seen) (path : List ℕ) (fields : List FieldSchema) (i : ℕ) (field : FieldSchema) → i < length fields
-    → fields_events E schema table path (drop i fields) ≡ kind_events E schema (get_or fields i field).required (get_or fields i field).kind (get_or fields i field).slot table (field_path path (field_label (get_or fields i field))) ++ fields_events E schema table path (drop (i + 1) fields)
-fields-split E schema table path fields i field h = ap (fields_events E schema table path) (drop_more fields i field h)
+pub fields-split : (E : TableEvents) (schema : Schema) (table : Seen) (path : List ℕ) (fields : List FieldSchema) (i : ℕ) (field : FieldSchema) → i < length fields → field ≡ get_or fields i field
+    → fields_events E schema table path (drop i fields) ≡ kind_events E schema field.required field.kind field.slot table (field_path path (field_label field)) ++ fields_events E schema table path (drop (i + 1) fields)
+fields-split E schema table path fields i field h is =
+    ap (fields_events E schema table path) (drop_more fields i field h)
+    ∙ ap (λ (x : FieldSchema). kind_events E schema x.required x.kind x.slot table (field_path path (field_label x)) ++ fields_events E schema table path (drop (i + 1) fields)) (sym is)
 
 pub fields-none : (E : TableEvents) (schema : Schema) (table : Seen) (path : List ℕ) (fields : List FieldSchema) (i : ℕ) → length fields ≤ i → fields_events E schema table path (drop i fields) ≡ []
 fields-none E schema table path [] zero h = refl
@@ -75,70 +68,54 @@ fields-none E schema table path [] (suc i) h = refl
 fields-none E schema table path (field ∷ fields) zero h = absurd (omega (arith, h))
 fields-none E schema table path (field ∷ fields) (suc i) h = fields-none E schema table path fields i (omega (arith, h))
 
-pub field_fed : (E : TableEvents) (schema : Schema) (table : Seen) (path : List ℕ) (fields : List FieldSchema) (i : ℕ) (field : FieldSchema) (s t done : Shown) → i < length fields
-    → field ≡ get_or fields i field
-    → t ≡ feed s (kind_events E schema field.required field.kind field.slot table (field_path path (field_label field)))
-    → feed s (fields_events E schema table path (drop i fields)) ≡ done
-    → feed t (fields_events E schema table path (drop (i + 1) fields)) ≡ done
-field_fed E schema table path fields i field s t done h is fed whole =
-    let first : List Event = kind_events E schema (get_or fields i field).required (get_or fields i field).kind (get_or fields i field).slot table (field_path path (field_label (get_or fields i field))) in
-    fed_on s t first (fields_events E schema table path (drop (i + 1) fields)) (fields_events E schema table path (drop i fields)) done (fields-split E schema table path fields i field h)
-    (fed ∙ ap (λ (x : FieldSchema). feed s (kind_events E schema x.required x.kind x.slot table (field_path path (field_label x)))) is) whole
-
-items-split : (E : TableEvents) (item : Item) (S path : List ℕ) (n i : ℕ) → 0 < n
+items-more : (E : TableEvents) (item : Item) (S path : List ℕ) (n i : ℕ) → 0 < n
     → items_events E item S path n i ≡ item_events E item S (i * stride_of item) (item_path path i) ++ items_events E item S path (n - 1) (i + 1)
-items-split E item S path zero i h = absurd (omega (arith, h))
-items-split E item S path (suc n) i h = let e : suc n - 1 ≡ n = omega arith in ap (λ k. item_events E item S (i * stride_of item) (item_path path i) ++ items_events E item S path k (i + 1)) (sym e)
+items-more E item S path zero i h = absurd (omega (arith, h))
+items-more E item S path (suc n) i h = let e : suc n - 1 ≡ n = omega arith in ap (λ k. item_events E item S (i * stride_of item) (item_path path i) ++ items_events E item S path k (i + 1)) (sym e)
 
-pub item_fed : (E : TableEvents) (item : Item) (S path : List ℕ) (n i : ℕ) (s t done : Shown) → i < n
-    → t ≡ feed s (item_events E item S (i * stride_of item) (item_path path i))
-    → feed s (items_events E item S path (n - i) i) ≡ done
-    → feed t (items_events E item S path (n - (i + 1)) (i + 1)) ≡ done
-item_fed E item S path n i s t done h fed whole =
+pub items-split : (E : TableEvents) (item : Item) (S path : List ℕ) (n i : ℕ) → i < n
+    → items_events E item S path (n - i) i ≡ item_events E item S (i * stride_of item) (item_path path i) ++ items_events E item S path (n - (i + 1)) (i + 1)
+items-split E item S path n i h =
     let e : n - i - 1 ≡ n - (i + 1) = omega (arith, h) in let some : 0 < n - i = omega (arith, h) in
-    fed_on s t (item_events E item S (i * stride_of item) (item_path path i)) (items_events E item S path (n - (i + 1)) (i + 1)) (items_events E item S path (n - i) i) done
-    (items-split E item S path (n - i) i some ∙ ap (λ k. item_events E item S (i * stride_of item) (item_path path i) ++ items_events E item S path k (i + 1)) e) fed whole
+    items-more E item S path (n - i) i some ∙ ap (λ k. item_events E item S (i * stride_of item) (item_path path i) ++ items_events E item S path k (i + 1)) e
 
-pub found_fed : (E : TableEvents) (item : Item) (S path at : List ℕ) (n i : ℕ) (found : Found) (s t done : Shown) → i < n
-    → IsFound item S (i * stride_of item) found → at ≡ item_path path i → t ≡ feed s (found_events E at found)
-    → feed s (items_events E item S path (n - i) i) ≡ done
-    → feed t (items_events E item S path (n - (i + 1)) (i + 1)) ≡ done
-found_fed E item S path at n i found s t done h is along fed whole =
-    item_fed E item S path n i s t done h (fed ∙ ap (feed s) (is E at ∙ ap (item_events E item S (i * stride_of item)) along)) whole
+pub found-at : (E : TableEvents) (item : Item) (S xs : List ℕ) (i stride n : ℕ) (path at : List ℕ) (found : Found) → IsFound item xs n found → xs ≡ S → n ≡ i * stride → stride ≡ stride_of item → at ≡ item_path path i
+    → item_events E item S (i * stride_of item) (item_path path i) ≡ found_events E at found
+found-at E item S xs i stride n path at found is same here each along =
+    sym (is E at ∙ ap (λ bytes. item_events E item bytes n at) same ∙ ap (λ k. item_events E item S k at) (here ∙ ap (λ k. i * k) each) ∙ ap (item_events E item S (i * stride_of item)) along)
+
+pub list-read : (E : TableEvents) (item : Item) (S : List ℕ) (f stride : ℕ) (path : List ℕ) (items : SeenItems) → Ok items ≡ vector_at stride S f → stride ≡ stride_of item
+    → list_events E item path (vector_at (stride_of item) S f) ≡ line (list_line path items.count) ∷ items_events E item items.bytes path items.count 0
+list-read E item S f stride path items read is = ap (list_events E item path) (sym (read ∙ ap (λ n. vector_at n S f) is))
 
 pub items-none : (E : TableEvents) (item : Item) (S path : List ℕ) (n i : ℕ) → n ≡ 0 → items_events E item S path n i ≡ []
 items-none E item S path zero i h = refl
 items-none E item S path (suc n) i h = absurd (omega (arith, h))
 
-union_items-split : (E : TableEvents) (schema : Schema) (index : ℕ) (items : SeenUnions) (path : List ℕ) (n i : ℕ) → 0 < n
+union_items-more : (E : TableEvents) (schema : Schema) (index : ℕ) (items : SeenUnions) (path : List ℕ) (n i : ℕ) → 0 < n
     → union_items_events E schema index items path n i
     ≡ union_events E (slice_get schema.unions.items index) (slice_index items.tags i) items.references (i * 4) (item_path path i) ++ union_items_events E schema index items path (n - 1) (i + 1)
-union_items-split E schema index items path zero i h = absurd (omega (arith, h))
-union_items-split E schema index items path (suc n) i h = let e : suc n - 1 ≡ n = omega arith in
+union_items-more E schema index items path zero i h = absurd (omega (arith, h))
+union_items-more E schema index items path (suc n) i h = let e : suc n - 1 ≡ n = omega arith in
     ap (λ k. union_events E (slice_get schema.unions.items index) (slice_index items.tags i) items.references (i * 4) (item_path path i) ++ union_items_events E schema index items path k (i + 1)) (sym e)
 
-pub union_item_fed : (E : TableEvents) (schema : Schema) (index : ℕ) (items : SeenUnions) (path : List ℕ) (n i : ℕ) (s t done : Shown) → i < n
-    → t ≡ feed s (union_events E (slice_get schema.unions.items index) (slice_index items.tags i) items.references (i * 4) (item_path path i))
-    → feed s (union_items_events E schema index items path (n - i) i) ≡ done
-    → feed t (union_items_events E schema index items path (n - (i + 1)) (i + 1)) ≡ done
-union_item_fed E schema index items path n i s t done h fed whole =
+pub union_items-split : (E : TableEvents) (schema : Schema) (index : ℕ) (items : SeenUnions) (path : List ℕ) (n i : ℕ) → i < n
+    → union_items_events E schema index items path (n - i) i
+    ≡ union_events E (slice_get schema.unions.items index) (slice_index items.tags i) items.references (i * 4) (item_path path i) ++ union_items_events E schema index items path (n - (i + 1)) (i + 1)
+union_items-split E schema index items path n i h =
     let e : n - i - 1 ≡ n - (i + 1) = omega (arith, h) in let some : 0 < n - i = omega (arith, h) in
     let first : List Event = union_events E (slice_get schema.unions.items index) (slice_index items.tags i) items.references (i * 4) (item_path path i) in
-    fed_on s t first (union_items_events E schema index items path (n - (i + 1)) (i + 1)) (union_items_events E schema index items path (n - i) i) done
-    (union_items-split E schema index items path (n - i) i some ∙ ap (λ k. first ++ union_items_events E schema index items path k (i + 1)) e) fed whole
+    union_items-more E schema index items path (n - i) i some ∙ ap (λ k. first ++ union_items_events E schema index items path k (i + 1)) e
 
-pub tagged_fed : (E : TableEvents) (schema : Schema) (index : ℕ) (items : SeenUnions) (path at : List ℕ) (n i : ℕ) (tagged : TaggedPlace) (s t done : Shown) → i < n
+pub tagged-at : (E : TableEvents) (o : Option (Vec VariantSchema Global)) (items : SeenUnions) (i : ℕ) (path at : List ℕ) (tagged : TaggedPlace)
     → IsUnionIn items.references (record { tag = slice_index items.tags i; offset = i * 4 }) tagged → at ≡ item_path path i
-    → t ≡ feed s (union_events E (slice_get schema.unions.items index) (tagged_tag tagged) (place_bytes (tagged_place tagged)) (place_offset (tagged_place tagged)) at)
-    → feed s (union_items_events E schema index items path (n - i) i) ≡ done
-    → feed t (union_items_events E schema index items path (n - (i + 1)) (i + 1)) ≡ done
-tagged_fed E schema index items path at n i tagged s t done h is along fed whole =
-    let o = slice_get schema.unions.items index in
-    union_item_fed E schema index items path n i s t done h
-    (fed ∙ ap (λ k. feed s (union_events E o k (place_bytes (tagged_place tagged)) (place_offset (tagged_place tagged)) at)) is.tag
-    ∙ ap (λ xs. feed s (union_events E o (slice_index items.tags i) xs (place_offset (tagged_place tagged)) at)) is.bytes
-    ∙ ap (λ k. feed s (union_events E o (slice_index items.tags i) items.references k at)) is.offset
-    ∙ ap (λ xs. feed s (union_events E o (slice_index items.tags i) items.references (i * 4) xs)) along) whole
+    → union_events E o (slice_index items.tags i) items.references (i * 4) (item_path path i)
+    ≡ union_events E o (tagged_tag tagged) (place_bytes (tagged_place tagged)) (place_offset (tagged_place tagged)) at
+tagged-at E o items i path at tagged is along =
+    sym (ap (λ k. union_events E o k (place_bytes (tagged_place tagged)) (place_offset (tagged_place tagged)) at) is.tag
+    ∙ ap (λ xs. union_events E o (slice_index items.tags i) xs (place_offset (tagged_place tagged)) at) is.bytes
+    ∙ ap (λ k. union_events E o (slice_index items.tags i) items.references k at) is.offset
+    ∙ ap (λ xs. union_events E o (slice_index items.tags i) items.references (i * 4) xs) along)
 
 pub union_items-none : (E : TableEvents) (schema : Schema) (index : ℕ) (items : SeenUnions) (path : List ℕ) (n i : ℕ) → n ≡ 0 → union_items_events E schema index items path n i ≡ []
 union_items-none E schema index items path zero i h = refl
@@ -146,10 +123,6 @@ union_items-none E schema index items path (suc n) i h = absurd (omega (arith, h
 
 abbrev pub AreLines : List Event → Type 0
 AreLines es = AllByRecursion (λ e. e ≢ deep) es
-
-abbrev pub Fits : Option ℕ → ℕ → Type 0
-Fits None n = ⊤
-Fits (Some room) n = n ≤ room
 
 abbrev pub Exceeds : Option ℕ → ℕ → Type 0
 Exceeds None n = ⊥
@@ -178,10 +151,6 @@ many_stops e = cc
 
 long_stops : TooLong ≢ Going
 long_stops e = cc
-
-abbrev left_in : Option ℕ → ℕ → Option ℕ
-left_in None n = None
-left_in (Some room) n = Some (room - n)
 
 more_fits : (room : Option ℕ) (c n : ℕ) → Fits room c → Fits (left_in room c) n → Fits room (c + n)
 more_fits None c n h k = tt
@@ -265,11 +234,8 @@ answered (line l ∷ es) ls budget room h = answered_line (line l) es ls budget 
 answered (float path number ∷ es) ls budget room h =
     answered_line (float path number) es ls budget room (float_is path number) h (λ more. answered es (ls ++ float path number ∷ []) budget (left_in room (cost (float path number))) more)
 
-pub walked : (es : List Event) (budget : ℕ) (room : Option ℕ) (out : LineSink) (stop : Stop) → shown out ≡ feed (begin budget room) es → out.stop ≡ stop
-    → Answered [] room es budget (map event_of out.lines.items) stop
-walked es budget room out stop fed is =
-    let whole : After [] room es budget (shown out) = subst (After [] room es budget) (sym fed) (answered es [] budget room (omega arith)) in
-    subst (Answered [] room es budget (map event_of out.lines.items)) is whole
+pub walked : (es : List Event) (budget : ℕ) (room : Option ℕ) → Answered [] room es budget (feed (begin budget room) es).lines (feed (begin budget room) es).stop
+walked es budget room = answered es [] budget room (omega arith)
 
 abbrev some_text : Bits → List ℕ
 some_text number =
@@ -293,7 +259,7 @@ some_line (line l) = l
 some_line deep = []
 some_line (float path number) = value_line path (some_text number)
 
-some_line_shows : (e : Event) → e ≢ deep → Shows e (some_line e)
+pub some_line_shows : (e : Event) → e ≢ deep → Shows e (some_line e)
 some_line_shows (line l) h = refl
 some_line_shows deep h = absurd (h refl)
 some_line_shows (float path number) h = (some_text number, refl, some_text_prints number)
@@ -341,7 +307,6 @@ pub union_unknown : (E : TableEvents) (o : Option (Vec VariantSchema Global)) (v
     → union_events E o tag S f path ≡ fault_event path (fault_text (UnknownUnionTag tag)) ∷ []
 union_unknown E o variants tag S f path some none = ap (λ v. union_events E v tag S f path) some ∙ ap (variant_events E tag S f path) none
 
-pub root_fed : (schema : Schema) (budget : ℕ) (room : Option ℕ) (bytes S : List ℕ) (f : ℕ) (path : List ℕ) (o r : LineSink) → S ≡ bytes → f ≡ 0 → shown o ≡ begin budget room
-    → shown r ≡ feed (shown o) (events schema 64 schema.root S f path) → shown r ≡ feed (begin budget room) (events schema 64 schema.root bytes 0 path)
-root_fed schema budget room bytes S f path o r same first empty fed =
-    fed ∙ ap (λ s. feed s (events schema 64 schema.root S f path)) empty ∙ ap (λ xs. feed (begin budget room) (events schema 64 schema.root xs f path)) same ∙ ap (λ k. feed (begin budget room) (events schema 64 schema.root bytes k path)) first
+pub union_known : (E : TableEvents) (o : Option (Vec VariantSchema Global)) (variants : Vec VariantSchema Global) (variant : VariantSchema) (tag : ℕ) (S : List ℕ) (f : ℕ) (path : List ℕ) → o ≡ Some variants → variant_of variants.items tag ≡ Some variant
+    → union_events E o tag S f path ≡ line (union_line path tag (string_bytes variant.name)) ∷ E variant.table S f path
+union_known E o variants variant tag S f path some is = ap (λ v. union_events E v tag S f path) some ∙ ap (variant_events E tag S f path) is

@@ -1,6 +1,9 @@
 mod Matching
 mod Answering
 mod Feeds
+mod Fed
+mod Writes
+mod Walked
 mod FixedFeeds
 mod FirstLine
 mod FaultLines
@@ -10,6 +13,7 @@ mod Names
 mod NoFaults
 mod CleanDumps
 mod Ending
+mod Viewed
 pub mod Begun
 pub mod AsRead
 pub mod AsReadParts

@@ -1,17 +1,19 @@
 -- A dump as far as it is wanted.
-use Rattle.std.specs.Prelude.{◌≡◌, ◌≢◌, ℕ, ◌+◌, ◌<◌, ◌≤◌, List, [], ◌∷◌, length, map, true, false}
-use Rattle.std.specs.Prelude.{Result, Ok, Err}
-use Rattle.std.specs.String.{string_bytes}
+use Rattle.std.specs.Prelude.{◌≡◌, ◌≢◌, ℕ, ◌+◌, ◌<◌, ◌≤◌, List, [], ◌∷◌, ◌++◌, length, true, false}
+use Rattle.std.specs.Prelude.{Option}
+use Rattle.std.specs.List.{flat_map, list_any}
+use Rattle.std.specs.Io.KnownBytes.{Appends, Keeps}
 use Rattle.planus_dump.specs.Events.{Event, line, deep, float}
 use Rattle.planus_dump.specs.Dumped.{Begin, events_of}
+use Rattle.planus_dump.specs.FaultLines.{is_fault_line}
 use Rattle.planus_dump.specs.Schemas.{is_good}
+use Rattle.planus_dump.specs.Writing.{WritesBeginning}
 use Rattle.planus_dump.specs.declared.schemas.Schema.{Schema}
-use Rattle.planus_dump.specs.declared.dumps.DumpError.{DumpError}
-use Rattle.planus_dump.specs.declared.dumps.DumpError.TheVariants.{OutOfMemory, BadSchema}
-use Rattle.planus_dump.specs.declared.dumps.DumpError.TheVariants.{TooDeep, TooManyLines}
 use Rattle.planus_dump.specs.declared.views.End.{End}
 use Rattle.planus_dump.specs.declared.views.End.TheVariants as ends
-use Rattle.planus_dump.specs.declared.views.FirstLines.{FirstLines}
+use Rattle.planus_dump.specs.declared.views.Seen.{Seen}
+use Rattle.planus_dump.specs.declared.views.ViewError.{ViewError}
+use Rattle.planus_dump.specs.declared.views.ViewError.TheVariants as errors
 
 -- the bytes of a line; the text of a float counts 32
 abbrev pub cost : Event → ℕ
@@ -42,12 +44,39 @@ EndsBy ends.TooManyBytes es lines most size =
     × (part : ViewsPart es lines (next ∷ rest) most size)
     × (size < costs part.begin.front + cost next)
 
--- `BadSchema` exactly for a bad schema, else the lines and why they end.
-abbrev pub Viewed : Schema → List ℕ → ℕ → ℕ → Result FirstLines DumpError → Type 0
-Viewed schema bytes most size (Ok view) =
-    (is_good schema ≡ true)
-    × EndsBy view.end (events_of schema bytes) (map string_bytes view.lines.items) most size
-Viewed schema bytes most size (Err BadSchema) = is_good schema ≡ false
-Viewed schema bytes most size (Err OutOfMemory) = is_good schema ≡ true
-Viewed schema bytes most size (Err TooDeep) = ⊥
-Viewed schema bytes most size (Err TooManyLines) = ⊥
+-- the first lines of a buffer, not more than wanted, and why they end
+pub record Viewed (schema : Schema) (bytes : List ℕ) (most size : ℕ)
+    (lines : List (List ℕ)) (end : End) : Type 0 where
+  pub good : is_good schema ≡ true
+  pub ends : EndsBy end (events_of schema bytes) lines most size
+
+-- a line feed after each line
+abbrev pub lines_text : List (List ℕ) → List ℕ
+lines_text lines = flat_map (λ line. line ++ 10 ∷ []) lines
+
+-- The first lines of the buffer were written, and it is told whether one states an error.
+pub record WritesView (schema : Schema) (bytes : List ℕ) (most size : ℕ) (seen : Seen)
+    (before after : Option (List ℕ)) : Type 0 where
+  pub lines : List (List ℕ)
+  pub viewed : Viewed schema bytes most size lines seen.end
+  pub fault : seen.has_fault ≡ list_any is_fault_line lines
+  pub written : Appends before after (lines_text lines)
+
+-- a beginning of the first lines of the buffer was written, and nothing else
+pub record BeginsView (schema : Schema) (bytes : List ℕ) (most size : ℕ)
+    (before after : Option (List ℕ)) : Type 0 where
+  pub lines : List (List ℕ)
+  pub end : End
+  pub viewed : Viewed schema bytes most size lines end
+  pub begun : WritesBeginning (lines_text lines) before after
+
+-- `BadSchema` exactly for a bad schema, and nothing was written; else memory was refused or writing
+-- failed, after a beginning of the lines.
+abbrev pub FailsView : Schema → List ℕ → ℕ → ℕ → ViewError → Option (List ℕ) → Option (List ℕ)
+    → Type 0
+FailsView schema bytes most size errors.BadSchema before after =
+    (is_good schema ≡ false) × Keeps before after
+FailsView schema bytes most size errors.OutOfMemory before after =
+    BeginsView schema bytes most size before after
+FailsView schema bytes most size errors.Write before after =
+    BeginsView schema bytes most size before after

@@ -1,11 +1,12 @@
 //! A dump.
-ghost use Rattle.std.specs.Prelude.{◌≡◌, IfOk};
 ghost use Rattle.planus_dump.specs.Dumped.{Dumped, events_of};
-ghost use Rattle.planus_dump.specs.inner.Shown.{shown, feed, begin};
+ghost use Rattle.planus_dump.specs.inner.Feeding.{Feeds};
 
 use crate::floats::line_texts;
 use crate::line_sink::{LineSink, Stop};
+use crate::lines::Lines;
 use crate::schemas::Schema;
+use crate::sink_error::SinkError;
 use crate::validate::is_good_schema;
 use crate::walk::dump_table;
 use planus::{Place, SliceWithStartOffset};
@@ -62,21 +63,27 @@ impl From<AllocError> for DumpError {
     }
 }
 
-/// `room` is the greatest number of bytes of its lines.
-pub(crate) fn walk_from_root(
-    alloc: Global,
+impl From<SinkError> for DumpError {
+    ghost use Rattle.std.specs.Prelude.{◌≡◌};
+    ghost use Rattle.planus_dump.specs.declared.dumps.DumpError.TheVariants.{OutOfMemory};
+
+    ghost from_gives = { λ _ e. e ≡ OutOfMemory };
+
+    // Lines that are kept fail in no other way.
+    fn from(_error: SinkError) -> DumpError {
+        DumpError::OutOfMemory
+    }
+}
+
+pub(crate) fn walk_from_root<L: Lines>(
+    out: &mut LineSink<L>,
     schema: &Schema,
     bytes: &[u8],
-    budget: usize,
-    room: Option<usize>,
-) -> Result<LineSink, AllocError>
-    ensures { IfOk result (λ out. shown out
-        ≡ feed (begin budget room) (events_of schema.now bytes.now)) }
+) -> Result<(), SinkError>
+    ensures { Feeds L.takes L.breaks out.old (events_of schema.now bytes.now) result out.new }
 {
     let root = Place::new(SliceWithStartOffset::new(bytes, 0), 0);
-    let mut out = LineSink::new(alloc, budget, room);
-    dump_table(schema, &mut out, GREATEST_DEPTH, "root", schema.root, root)?;
-    Ok(out)
+    dump_table(schema, out, GREATEST_DEPTH, "root", schema.root, root)
 }
 
 /// Returns the lines of the tables that are reached from the root of a buffer. The path of the root
@@ -98,7 +105,8 @@ pub fn dump(
     if budget == 0 {
         return Err(DumpError::TooManyLines);
     }
-    let out = walk_from_root(alloc, schema, bytes, budget, None)?;
+    let mut out = LineSink::new(alloc, Vec::new(alloc), budget, None);
+    walk_from_root(&mut out, schema, bytes)?;
     match out.stop {
         Stop::Going => {
             let lines = line_texts(alloc, out.lines)?;

@@ -1,4 +1,6 @@
-ghost use Rattle.std.specs.Prelude.{◌≡◌, ◌-◌, OnOk, slice_get};
+#![tactic(auto, using(crate::proofs::Fed::fed_refused))]
+
+ghost use Rattle.std.specs.Prelude.{◌≡◌, ◌-◌, slice_get};
 ghost use Rattle.std.specs.Int.{byte_len};
 ghost use Rattle.planus_read.specs.Places.{place_bytes, place_offset};
 ghost use Rattle.planus_dump.specs.Answers.{vector_at};
@@ -7,16 +9,17 @@ ghost use Rattle.planus_dump.specs.Events.{leaf_events, enum_events, enum_at, an
 ghost use Rattle.planus_dump.specs.Events.{fixed_size as fixed_size_lem, fixed_events, structs};
 ghost use Rattle.planus_dump.specs.Events.{struct_events, value_events};
 ghost use Rattle.planus_dump.specs.Events.{fixed_list_events};
-ghost use Rattle.planus_dump.specs.inner.Shown.{shown, feed};
+ghost use Rattle.planus_dump.specs.inner.Feeding.{Feeds};
 ghost use Rattle.std.specs.Prelude.{Some, [], ◌∷◌};
 
 use crate::enums::names_of;
 use crate::line_sink::LineSink;
+use crate::lines::Lines;
 use crate::readings::{double_at, read_bits, read_values, single_at, slice_from, value_at};
 use crate::schemas::{EnumSchema, Fixed, Number, Schema, StructSchema};
+use crate::sink_error::SinkError;
 use crate::values::Leaf;
 use planus::Place;
-use std::alloc::AllocError;
 
 const GREATEST_NESTING: usize = 64;
 
@@ -65,9 +68,14 @@ fn fixed_size(schema: &Schema, fixed: Fixed) -> usize
     }
 }
 
-fn dump_leaf(out: &mut LineSink, path: &str, leaf: Leaf, place: Place<'_>) -> Result<(), AllocError>
-    ensures { OnOk result (shown out.new ≡ feed (shown out.old)
-        (leaf_events leaf (place_bytes place.entry) (place_offset place.entry) path.now)) }
+fn dump_leaf<L: Lines>(
+    out: &mut LineSink<L>,
+    path: &str,
+    leaf: Leaf,
+    place: Place<'_>,
+) -> Result<(), SinkError>
+    ensures { Feeds L.takes L.breaks out.old
+        (leaf_events leaf (place_bytes place.entry) (place_offset place.entry) path.now) result out.new }
 {
     match value_at(place, leaf) {
         Ok(value) => out.put_value(path, value),
@@ -75,14 +83,15 @@ fn dump_leaf(out: &mut LineSink, path: &str, leaf: Leaf, place: Place<'_>) -> Re
     }
 }
 
-fn dump_enum(
-    out: &mut LineSink,
+fn dump_enum<L: Lines>(
+    out: &mut LineSink<L>,
     path: &str,
     shape: &EnumSchema,
     place: Place<'_>,
-) -> Result<(), AllocError>
-    ensures { OnOk result (shown out.new ≡ feed (shown out.old) (enum_events (Some shape.now)
-        (place_bytes place.entry) (place_offset place.entry) path.now)) }
+) -> Result<(), SinkError>
+    ensures { Feeds L.takes L.breaks out.old
+        (enum_events (Some shape.now)
+        (place_bytes place.entry) (place_offset place.entry) path.now) result out.new }
 {
     let value = match value_at(place, leaf_of(shape.number)) {
         Ok(value) => value,
@@ -100,17 +109,17 @@ fn dump_enum(
 }
 
 #[cycle(fixed)]
-fn dump_fixed(
+fn dump_fixed<L: Lines>(
     schema: &Schema,
-    out: &mut LineSink,
+    out: &mut LineSink<L>,
     left: usize,
     path: &str,
     fixed: Fixed,
     place: Place<'_>,
-) -> Result<(), AllocError>
-    ensures { OnOk result (shown out.new ≡ feed (shown out.old)
+) -> Result<(), SinkError>
+    ensures { Feeds L.takes L.breaks out.old
         (fixed_events schema.now (structs schema.now left) fixed
-        (place_bytes place.entry) (place_offset place.entry) path.now)) }
+        (place_bytes place.entry) (place_offset place.entry) path.now) result out.new }
 {
     match fixed {
         Fixed::Number(number) => dump_leaf(out, path, leaf_of(number), place),
@@ -132,16 +141,17 @@ fn dump_fixed(
 }
 
 #[cycle(fixed)]
-fn dump_struct(
+fn dump_struct<L: Lines>(
     schema: &Schema,
-    out: &mut LineSink,
+    out: &mut LineSink<L>,
     left: usize,
     path: &str,
     index: usize,
     place: Place<'_>,
-) -> Result<(), AllocError>
-    ensures { OnOk result (shown out.new ≡ feed (shown out.old) (structs schema.now left index
-        (place_bytes place.entry) (place_offset place.entry) path.now)) }
+) -> Result<(), SinkError>
+    ensures { Feeds L.takes L.breaks out.old
+        (structs schema.now left index
+        (place_bytes place.entry) (place_offset place.entry) path.now) result out.new }
 {
     if left == 0 {
         out.put_deep();
@@ -154,17 +164,17 @@ fn dump_struct(
 }
 
 #[cycle(fixed)]
-fn dump_struct_shape(
+fn dump_struct_shape<L: Lines>(
     schema: &Schema,
-    out: &mut LineSink,
+    out: &mut LineSink<L>,
     left: usize,
     path: &str,
     shape: &StructSchema,
     place: Place<'_>,
-) -> Result<(), AllocError>
-    ensures { OnOk result (shown out.new ≡ feed (shown out.old)
+) -> Result<(), SinkError>
+    ensures { Feeds L.takes L.breaks out.old
         (struct_events schema.now (structs schema.now left) (Some shape.now)
-        (place_bytes place.entry) (place_offset place.entry) path.now)) }
+        (place_bytes place.entry) (place_offset place.entry) path.now) result out.new }
 {
     let slice = match slice_from(place, shape.size) {
         Ok(slice) => slice,
@@ -182,29 +192,30 @@ fn dump_struct_shape(
     Ok(())
 }
 
-pub fn dump_value(
+pub fn dump_value<L: Lines>(
     schema: &Schema,
-    out: &mut LineSink,
+    out: &mut LineSink<L>,
     path: &str,
     fixed: Fixed,
     place: Place<'_>,
-) -> Result<(), AllocError>
-    ensures { OnOk result (shown out.new ≡ feed (shown out.old) (value_events schema.now fixed
-        (place_bytes place.entry) (place_offset place.entry) path.now)) }
+) -> Result<(), SinkError>
+    ensures { Feeds L.takes L.breaks out.old
+        (value_events schema.now fixed
+        (place_bytes place.entry) (place_offset place.entry) path.now) result out.new }
 {
     dump_fixed(schema, out, GREATEST_NESTING, path, fixed, place)
 }
 
-pub fn dump_values(
+pub fn dump_values<L: Lines>(
     schema: &Schema,
-    out: &mut LineSink,
+    out: &mut LineSink<L>,
     path: &str,
     fixed: Fixed,
     place: Place<'_>,
-) -> Result<(), AllocError>
-    ensures { OnOk result (shown out.new ≡ feed (shown out.old)
+) -> Result<(), SinkError>
+    ensures { Feeds L.takes L.breaks out.old
         (fixed_list_events schema.now fixed path.now (vector_at (fixed_size_lem schema.now fixed)
-        (place_bytes place.entry) (place_offset place.entry)))) }
+        (place_bytes place.entry) (place_offset place.entry))) result out.new }
 {
     let size = fixed_size(schema, fixed);
     let (slice, count) = match read_values(place, size) {

@@ -111,7 +111,7 @@ fn float_text(alloc: Global, bits: Bits) -> Result<String, AllocError>
     finite_text(alloc, bits)
 }
 
-fn line_text(alloc: Global, line: Line) -> Result<String, AllocError>
+pub fn line_text(alloc: Global, line: Line) -> Result<String, AllocError>
     ensures { IfOk result (λ text. Shows (event_of line) (string_bytes text)) }
 {
     match line {

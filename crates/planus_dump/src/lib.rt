@@ -9,10 +9,13 @@ mod floats;
 pub mod laws;
 mod line;
 mod line_sink;
+mod line_writer;
+mod lines;
 mod printed;
 mod readings;
 mod runs;
 mod schemas;
+mod sink_error;
 mod unions;
 mod validate;
 mod values;
@@ -27,5 +30,5 @@ pub use schemas::{
     EnumSchema, FieldSchema, Fixed, Item, Kind, Number, Schema, StructFieldSchema, StructSchema,
     TableSchema, VariantSchema,
 };
-pub use views::{End, FirstLines, view};
+pub use views::{End, Seen, ViewError, view};
 pub use writing::{WriteError, write_out};

@@ -1,17 +1,22 @@
-//! The lines so far.
-ghost use Rattle.std.specs.Prelude.{◌≡◌, ◌≤◌, ◌++◌, OnOk, IfOk, length};
+//! The lines so far, as many as are wanted.
+ghost use Rattle.std.specs.Prelude.{◌≡◌, ◌≤◌, ◌++◌, ◌∷◌, [], OnOk, IfOk, length};
 ghost use Rattle.std.specs.String.{string_bytes};
 ghost use Rattle.planus_dump.specs.Events.{line, deep, float};
 ghost use Rattle.planus_dump.specs.Lines.{value_text};
 ghost use Rattle.planus_dump.specs.Lines.{value_line, fault_line, table_line, list_line};
-ghost use Rattle.planus_dump.specs.Lines.{union_line, unions_line, struct_line};
+ghost use Rattle.planus_dump.specs.Lines.{union_line, unions_line, struct_line, variant_text};
 ghost use Rattle.planus_dump.specs.Lines.{unknown_enum_text, lone_tag_text};
 ghost use Rattle.planus_dump.specs.Tests.{fault_text};
-ghost use Rattle.planus_dump.specs.inner.Shown.{shown, event_of, begin, by_room, step, IsStopped};
-ghost use Rattle.planus_dump.specs.inner.Shown.{MayMake};
+ghost use Rattle.planus_dump.specs.Views.{cost};
+ghost use Rattle.planus_dump.specs.inner.Shown.{event_of, begin};
+ghost use Rattle.planus_dump.specs.inner.Feeding.{Shows, Feeds, Does, IsStopped, IsOpen, MayMake};
+ghost use Rattle.planus_dump.specs.inner.Feeding.{Fits, left_in};
+ghost use Rattle.std.specs.Fmt.{decimal};
 
 use crate::line::{Bits, Line};
+use crate::lines::Lines;
 use crate::printed::{bytes_size, push_bytes, push_quoted, quoted_size};
+use crate::sink_error::SinkError;
 use crate::values::Value;
 use planus::errors::ErrorKind;
 use std::alloc::{AllocError, Global};
@@ -25,10 +30,12 @@ pub enum Stop {
 }
 
 #[derive(Drop)]
-pub struct LineSink {
+pub struct LineSink<L> {
     pub alloc: Global,
-    pub lines: Vec<Line>,
-    pub budget: usize,
+    pub lines: L,
+    /// The number of lines that may still come.
+    pub left: usize,
+    /// The number of their bytes, if there is a limit.
     pub room: Option<usize>,
     pub stop: Stop,
 }
@@ -59,14 +66,12 @@ fn value_size(value: Value<'_>) -> usize
     }
 }
 
-fn line_size(path: &str, value: Value<'_>, names: &str) -> usize
-    ensures { result
-        ≤ length (value_line path.now (value_text value.entry ++ names.now)) }
+fn line_size(path: &str, value: Value<'_>) -> usize
+    ensures { result ≤ length (value_line path.now (value_text value.entry)) }
 {
     path.len()
         .saturating_add(3)
         .saturating_add(value_size(value))
-        .saturating_add(names.len())
 }
 
 /// `size` is the room that the string begins with.
@@ -74,28 +79,94 @@ fn value_string(
     alloc: Global,
     path: &str,
     value: Value<'_>,
-    names: &str,
     size: usize,
 ) -> Result<String, AllocError>
     ensures { IfOk result (λ text. string_bytes text
-        ≡ value_line path.now (value_text value.entry ++ names.now)) }
+        ≡ value_line path.now (value_text value.entry)) }
 {
     let mut text = String::with_capacity(alloc, size)?;
     text.push_str(path)?;
     text.push_str(" = ")?;
     push_value(alloc, &mut text, value)?;
+    Ok(text)
+}
+
+fn named_text(alloc: Global, value: Value<'_>, names: &str) -> Result<String, AllocError>
+    ensures { IfOk result (λ text. string_bytes text ≡ value_text value.entry ++ names.now) }
+{
+    let mut text = String::new(alloc);
+    push_value(alloc, &mut text, value)?;
     text.push_str(names)?;
     Ok(text)
 }
 
-impl LineSink {
-    pub fn new(alloc: Global, budget: usize, room: Option<usize>) -> LineSink
-        ensures { shown result ≡ begin budget room }
+fn unknown_text(alloc: Global, value: Value<'_>) -> Result<String, AllocError>
+    ensures { IfOk result (λ text. string_bytes text
+        ≡ unknown_enum_text (value_text value.entry)) }
+{
+    let mut text = String::from_str(alloc, "Unknown enum (tag = ")?;
+    push_value(alloc, &mut text, value)?;
+    text.push_str(")")?;
+    Ok(text)
+}
+
+fn message(alloc: Global, kind: ErrorKind) -> Result<String, AllocError>
+    ensures { IfOk result (λ text. string_bytes text ≡ fault_text kind) }
+{
+    match kind {
+        ErrorKind::InvalidUtf8 { .. } => String::from_str(alloc, "Invalid utf-8"),
+        kind => format!(in alloc; "{kind}"),
+    }
+}
+
+fn tagged_text(alloc: Global, tag: u8, name: &str) -> Result<String, AllocError>
+    ensures { IfOk result (λ text. string_bytes text ≡ decimal tag ++ variant_text name.now) }
+{
+    let mut text = format!(in alloc; "{tag}")?;
+    if !name.is_empty() {
+        text.push_str(" (")?;
+        text.push_str(name)?;
+        text.push_str(")")?;
+    }
+    Ok(text)
+}
+
+/// `size` is the room that the string begins with.
+fn joined(
+    alloc: Global,
+    path: &str,
+    middle: &str,
+    rest: &str,
+    size: usize,
+) -> Result<String, AllocError>
+    ensures { IfOk result (λ text. string_bytes text ≡ path.now ++ (middle.now ++ rest.now)) }
+{
+    let mut text = String::with_capacity(alloc, size)?;
+    text.push_str(path)?;
+    text.push_str(middle)?;
+    text.push_str(rest)?;
+    Ok(text)
+}
+
+fn room_after(room: Option<usize>, size: usize) -> Option<usize>
+    requires { Fits room size }
+    ensures { result ≡ left_in room size }
+{
+    match room {
+        Some(room) => Some(room - size),
+        None => None,
+    }
+}
+
+#[tactic(auto, using(crate::proofs::Fed::fed_refused))]
+impl<L: Lines> LineSink<L> {
+    pub fn new(alloc: Global, lines: L, budget: usize, room: Option<usize>) -> LineSink<L>
+        ensures { L.takes lines [] lines → Shows L.takes L.breaks lines result (begin budget room) }
     {
         LineSink {
             alloc,
-            lines: Vec::new(alloc),
-            budget,
+            lines,
+            left: budget,
             room,
             stop: Stop::Going,
         }
@@ -107,46 +178,15 @@ impl LineSink {
         !matches!(self.stop, Stop::Going)
     }
 
-    fn put_in_room(&mut self, line: Line) -> Result<(), AllocError>
-        ensures { OnOk result (shown self.new
-            ≡ by_room (shown self.old) (event_of line) self.old.room) }
-    {
-        if let Some(room) = self.room {
-            let size = line.size();
-            if room < size {
-                self.stop = Stop::TooLong;
-                return Ok(());
-            }
-            self.room = Some(room - size);
-        }
-        self.lines.push(line)?;
-        Ok(())
-    }
-
-    fn put_line(&mut self, line: Line) -> Result<(), AllocError>
-        ensures { OnOk result (shown self.new ≡ step (shown self.old) (event_of line)) }
-    {
-        match self.stop {
-            Stop::Going => {
-                if self.lines.len() == self.budget {
-                    self.stop = Stop::TooMany;
-                    return Ok(());
-                }
-                self.put_in_room(line)
-            }
-            _ => Ok(()),
-        }
-    }
-
     /// Whether a line of at least so many bytes may be taken. If not, the walk goes on as if it had
     /// been put.
     fn may_make(&mut self, size: usize) -> bool
-        ensures { MayMake (shown self.old) size result (shown self.new) }
+        ensures { MayMake L.takes L.breaks self.old size result self.new }
     {
         if self.is_stopped() {
             return false;
         }
-        if self.lines.len() == self.budget {
+        if self.left == 0 {
             self.stop = Stop::TooMany;
             return false;
         }
@@ -159,112 +199,143 @@ impl LineSink {
         }
     }
 
-    fn put(&mut self, text: String) -> Result<(), AllocError>
-        ensures { OnOk result (shown self.new ≡ step (shown self.old) (line (string_bytes text))) }
+    fn take(&mut self, line: Line) -> Result<(), SinkError>
+        requires { IsOpen self.old (cost (event_of line)) }
+        ensures { Feeds L.takes L.breaks self.old (event_of line ∷ []) result self.new }
     {
-        self.put_line(Line::Text(text))
+        self.left -= 1;
+        self.room = room_after(self.room, line.size());
+        self.lines.put(line)
     }
 
-    pub fn put_float(&mut self, path: &str, bits: Bits) -> Result<(), AllocError>
-        ensures { OnOk result (shown self.new ≡ step (shown self.old) (float path.now bits)) }
+    fn put(&mut self, text: String) -> Result<(), SinkError>
+        ensures { Feeds L.takes L.breaks self.old (line (string_bytes text) ∷ []) result self.new }
     {
+        if !self.may_make(text.len()) {
+            return Ok(());
+        }
+        self.take(Line::Text(text))
+    }
+
+    /// The text is made only if it is taken, and at once in its size.
+    fn put_joined(&mut self, path: &str, middle: &str, rest: &str) -> Result<(), SinkError>
+        ensures { Feeds L.takes L.breaks self.old
+            (line (path.now ++ (middle.now ++ rest.now)) ∷ []) result self.new }
+    {
+        let size = path
+            .len()
+            .saturating_add(middle.len())
+            .saturating_add(rest.len());
+        if !self.may_make(size) {
+            return Ok(());
+        }
+        let text = joined(self.alloc, path, middle, rest, size)?;
+        self.put(text)
+    }
+
+    pub fn put_float(&mut self, path: &str, bits: Bits) -> Result<(), SinkError>
+        ensures { Feeds L.takes L.breaks self.old (float path.now bits ∷ []) result self.new }
+    {
+        if !self.may_make(path.len() + 35) {
+            return Ok(());
+        }
         let path = String::from_str(self.alloc, path)?;
-        self.put_line(Line::Float(path, bits))
+        self.take(Line::Float(path, bits))
     }
 
-    pub fn put_struct(&mut self, path: &str, name: &str) -> Result<(), AllocError>
-        ensures { OnOk result (shown self.new
-            ≡ step (shown self.old) (line (struct_line path.now name.now))) }
+    pub fn put_struct(&mut self, path: &str, name: &str) -> Result<(), SinkError>
+        ensures { Feeds L.takes L.breaks self.old
+            (line (struct_line path.now name.now) ∷ []) result self.new }
     {
-        self.put(format!(in self.alloc; "{path}: struct {name}")?)
+        self.put_joined(path, ": struct ", name)
     }
 
     pub fn put_deep(&mut self)
-        ensures { shown self.new ≡ step (shown self.old) deep }
+        ensures { Does L.takes L.breaks self.old (deep ∷ []) self.new }
     {
         if let Stop::Going = self.stop {
             self.stop = Stop::TooDeep;
         }
     }
 
-    pub fn put_table(&mut self, path: &str, name: &str) -> Result<(), AllocError>
-        ensures { OnOk result (shown self.new
-            ≡ step (shown self.old) (line (table_line path.now name.now))) }
+    pub fn put_table(&mut self, path: &str, name: &str) -> Result<(), SinkError>
+        ensures { Feeds L.takes L.breaks self.old
+            (line (table_line path.now name.now) ∷ []) result self.new }
     {
-        self.put(format!(in self.alloc; "{path}: table {name}")?)
+        self.put_joined(path, ": table ", name)
     }
 
-    pub fn put_list(&mut self, path: &str, count: usize) -> Result<(), AllocError>
-        ensures { OnOk result (shown self.new
-            ≡ step (shown self.old) (line (list_line path.now count))) }
+    pub fn put_list(&mut self, path: &str, count: usize) -> Result<(), SinkError>
+        ensures { Feeds L.takes L.breaks self.old
+            (line (list_line path.now count) ∷ []) result self.new }
     {
-        self.put(format!(in self.alloc; "{path}: list {count}")?)
+        let count = format!(in self.alloc; "{count}")?;
+        self.put_joined(path, ": list ", count.as_str())
     }
 
-    pub fn put_union(&mut self, path: &str, tag: u8, name: &str) -> Result<(), AllocError>
-        ensures { OnOk result (shown self.new
-            ≡ step (shown self.old) (line (union_line path.now tag name.now))) }
+    pub fn put_union(&mut self, path: &str, tag: u8, name: &str) -> Result<(), SinkError>
+        ensures { Feeds L.takes L.breaks self.old
+            (line (union_line path.now tag name.now) ∷ []) result self.new }
     {
-        if name.is_empty() {
-            self.put(format!(in self.alloc; "{path}: union {tag}")?)
-        } else {
-            self.put(format!(in self.alloc; "{path}: union {tag} ({name})")?)
-        }
+        let rest = tagged_text(self.alloc, tag, name)?;
+        self.put_joined(path, ": union ", rest.as_str())
     }
 
-    pub fn put_unions(&mut self, path: &str, count: usize) -> Result<(), AllocError>
-        ensures { OnOk result (shown self.new
-            ≡ step (shown self.old) (line (unions_line path.now count))) }
+    pub fn put_unions(&mut self, path: &str, count: usize) -> Result<(), SinkError>
+        ensures { Feeds L.takes L.breaks self.old
+            (line (unions_line path.now count) ∷ []) result self.new }
     {
-        self.put(format!(in self.alloc; "{path}: unions {count}")?)
-    }
-
-    pub fn put_value(&mut self, path: &str, value: Value<'_>) -> Result<(), AllocError>
-        ensures { OnOk result (shown self.new
-            ≡ step (shown self.old) (line (value_line path.now (value_text value.entry)))) }
-    {
-        self.put_named(path, value, "")
+        let count = format!(in self.alloc; "{count}")?;
+        self.put_joined(path, ": unions ", count.as_str())
     }
 
     /// The text is made only if it is taken, and at once in its size.
-    pub fn put_named(&mut self, path: &str, value: Value<'_>, names: &str) -> Result<(), AllocError>
-        ensures { OnOk result (shown self.new ≡ step (shown self.old)
-            (line (value_line path.now (value_text value.entry ++ names.now)))) }
+    pub fn put_value(&mut self, path: &str, value: Value<'_>) -> Result<(), SinkError>
+        ensures { Feeds L.takes L.breaks self.old
+            (line (value_line path.now (value_text value.entry)) ∷ []) result self.new }
     {
-        let size = line_size(path, value, names);
+        let size = line_size(path, value);
         if !self.may_make(size) {
             return Ok(());
         }
-        self.put(value_string(self.alloc, path, value, names, size)?)
-    }
-
-    /// `value` is a number that no value of its enum has.
-    pub fn put_unknown(&mut self, path: &str, value: Value<'_>) -> Result<(), AllocError>
-        ensures { OnOk result (shown self.new ≡ step (shown self.old)
-            (line (fault_line path.now (unknown_enum_text (value_text value.entry))))) }
-    {
-        let mut text = format!(in self.alloc; "{path} ! Unknown enum (tag = ")?;
-        push_value(self.alloc, &mut text, value)?;
-        text.push_str(")")?;
+        let text = value_string(self.alloc, path, value, size)?;
         self.put(text)
     }
 
-    /// `tag` is that of a union without a value.
-    pub fn put_lone_tag(&mut self, path: &str, tag: u8) -> Result<(), AllocError>
-        ensures { OnOk result (shown self.new
-            ≡ step (shown self.old) (line (fault_line path.now (lone_tag_text tag)))) }
+    /// `value` is a number.
+    pub fn put_named(&mut self, path: &str, value: Value<'_>, names: &str) -> Result<(), SinkError>
+        ensures { Feeds L.takes L.breaks self.old
+            (line (value_line path.now (value_text value.entry ++ names.now)) ∷ [])
+            result self.new }
     {
-        self.put(format!(in self.alloc; "{path} ! Union without a value (tag = {tag})")?)
+        let rest = named_text(self.alloc, value, names)?;
+        self.put_joined(path, " = ", rest.as_str())
     }
 
-    pub fn put_fault(&mut self, path: &str, kind: ErrorKind) -> Result<(), AllocError>
-        ensures { OnOk result (shown self.new
-            ≡ step (shown self.old) (line (fault_line path.now (fault_text kind)))) }
+    /// `value` is a number that no value of its enum has.
+    pub fn put_unknown(&mut self, path: &str, value: Value<'_>) -> Result<(), SinkError>
+        ensures { Feeds L.takes L.breaks self.old
+            (line (fault_line path.now (unknown_enum_text (value_text value.entry))) ∷ [])
+            result self.new }
     {
-        let line = match kind {
-            ErrorKind::InvalidUtf8 { .. } => format!(in self.alloc; "{path} ! Invalid utf-8")?,
-            kind => format!(in self.alloc; "{path} ! {kind}")?,
-        };
-        self.put(line)
+        let rest = unknown_text(self.alloc, value)?;
+        self.put_joined(path, " ! ", rest.as_str())
+    }
+
+    /// `tag` is that of a union without a value.
+    pub fn put_lone_tag(&mut self, path: &str, tag: u8) -> Result<(), SinkError>
+        ensures { Feeds L.takes L.breaks self.old
+            (line (fault_line path.now (lone_tag_text tag)) ∷ []) result self.new }
+    {
+        let rest = format!(in self.alloc; "Union without a value (tag = {tag})")?;
+        self.put_joined(path, " ! ", rest.as_str())
+    }
+
+    pub fn put_fault(&mut self, path: &str, kind: ErrorKind) -> Result<(), SinkError>
+        ensures { Feeds L.takes L.breaks self.old
+            (line (fault_line path.now (fault_text kind)) ∷ []) result self.new }
+    {
+        let rest = message(self.alloc, kind)?;
+        self.put_joined(path, " ! ", rest.as_str())
     }
 }

@@ -1,12 +1,20 @@
-//! A view: a dump as far as it is wanted.
-ghost use Rattle.planus_dump.specs.Views.{Viewed};
+//! A view: a dump as far as it is wanted, written line by line.
+ghost use Rattle.std.specs.Prelude.{◌≡◌, IfOk, IfErr, OnOk, OnErr};
+ghost use Rattle.std.specs.Result.{IsOk, IsErr};
+ghost use Rattle.std.specs.Io.KnownBytes.{Appends};
+ghost use Rattle.planus_dump.specs.Views.{WritesView, FailsView};
+ghost use Rattle.planus_dump.specs.Writing.{WritesBeginning};
+ghost use Rattle.planus_dump.specs.inner.Ends.{end_of as end_of_lem};
 
-use crate::dumps::{DumpError, walk_from_root};
-use crate::floats::line_texts;
-use crate::line_sink::Stop;
+use crate::dumps::walk_from_root;
+use crate::line_sink::{LineSink, Stop};
+use crate::line_writer::LineWriter;
 use crate::schemas::Schema;
+use crate::sink_error::SinkError;
 use crate::validate::is_good_schema;
+use crate::writing::write_whole;
 use std::alloc::Global;
+use std::io::Write;
 
 /// Why the lines of a view end.
 #[derive(Clone, Copy, Debug, PartialEq, Eq)]
@@ -21,35 +29,104 @@ pub enum End {
     TooManyBytes,
 }
 
-/// The first lines of a buffer, and why they end.
-#[derive(Debug, Drop)]
-pub struct FirstLines {
-    pub lines: Vec<String>,
+/// What the lines of a view were.
+#[derive(Clone, Copy, Debug, PartialEq, Eq)]
+pub struct Seen {
+    /// Why they end.
     pub end: End,
+    /// Whether one states an error.
+    pub has_fault: bool,
 }
 
-/// Returns the first lines that [`dump`](crate::dump) would return, at most `most` lines and `size`
-/// bytes, where the text of a float counts as 32 bytes. Fails with [`DumpError::OutOfMemory`] or
-/// [`DumpError::BadSchema`].
-pub fn view(
+/// Why a view isn't whole.
+#[derive(Clone, Copy, Debug, PartialEq, Eq)]
+pub enum ViewError {
+    /// An allocation failed.
+    OutOfMemory,
+    /// The schema isn't good, as for a [`DumpError`](crate::DumpError).
+    BadSchema,
+    /// Writing failed.
+    Write,
+}
+
+impl From<SinkError> for ViewError {
+    ghost use Rattle.std.specs.Prelude.{◌≢◌};
+    ghost use Rattle.planus_dump.specs.declared.views.ViewError.TheVariants.{BadSchema};
+
+    ghost from_gives = { λ _ e. e ≢ BadSchema };
+
+    fn from(error: SinkError) -> ViewError {
+        match error {
+            SinkError::OutOfMemory => ViewError::OutOfMemory,
+            SinkError::Write => ViewError::Write,
+        }
+    }
+}
+
+fn end_of(stop: Stop) -> End
+    ensures { result ≡ end_of_lem stop }
+{
+    match stop {
+        Stop::Going => End::Whole,
+        Stop::TooDeep => End::TooDeep,
+        Stop::TooMany => End::TooManyLines,
+        Stop::TooLong => End::TooManyBytes,
+    }
+}
+
+/// Writes what the walk left, unless it failed.
+fn write_rest<W: Write>(
+    walked: Result<(), SinkError>,
+    rest: &[u8],
+    writer: &mut W,
+) -> Result<(), SinkError>
+    ensures whole { OnOk result (IsOk walked) }
+    ensures written { OnOk result (Appends (W.contents writer.old) (W.contents writer.new)
+        rest.now) }
+    ensures begun { OnErr result (WritesBeginning rest.now (W.contents writer.old)
+        (W.contents writer.new)) }
+    ensures kept { OnErr walked (writer.new ≡ writer.old) }
+{
+    walked?;
+    match write_whole(writer, rest) {
+        Ok(()) => Ok(()),
+        Err(_) => Err(SinkError::Write),
+    }
+}
+
+/// Writes the first lines that [`dump`](crate::dump) would return, at most `most` lines and `size`
+/// bytes, where the text of a float counts as 32 bytes and a line feed, which ends each, as none.
+/// They are written as they are made, in blocks; the writer isn't flushed.
+///
+/// Where this fails, a beginning of them was written.
+pub fn view<W: Write>(
     alloc: Global,
     schema: &Schema,
     bytes: &[u8],
     most: usize,
     size: usize,
-) -> Result<FirstLines, DumpError>
-    ensures { Viewed schema.now bytes.now most size result }
+    writer: &mut W,
+) -> Result<Seen, ViewError>
+    ensures shown { IfOk result (λ seen. WritesView schema.now bytes.now most size seen
+        (W.contents writer.old) (W.contents writer.new)) }
+    ensures failed { IfErr result (λ error. FailsView schema.now bytes.now most size error
+        (W.contents writer.old) (W.contents writer.new)) }
 {
     if !is_good_schema(schema) {
-        return Err(DumpError::BadSchema);
+        return Err(ViewError::BadSchema);
     }
-    let out = walk_from_root(alloc, schema, bytes, most, Some(size))?;
-    let end = match out.stop {
-        Stop::Going => End::Whole,
-        Stop::TooDeep => End::TooDeep,
-        Stop::TooMany => End::TooManyLines,
-        Stop::TooLong => End::TooManyBytes,
-    };
-    let lines = line_texts(alloc, out.lines)?;
-    Ok(FirstLines { lines, end })
+    let mut out = LineSink::new(alloc, LineWriter::new(alloc, writer), most, Some(size));
+    let walked = walk_from_root(&mut out, schema, bytes);
+    let LineSink { lines, stop, .. } = out;
+    let LineWriter {
+        writer,
+        block,
+        has_fault,
+        ..
+    } = lines;
+    write_rest(walked, &block, writer)?;
+    Ok(Seen {
+        end: end_of(stop),
+        has_fault,
+    })
 }

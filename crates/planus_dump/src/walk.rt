@@ -1,5 +1,7 @@
 //! The walk over all tables that are reached from one.
-ghost use Rattle.std.specs.Prelude.{◌≡◌, ◌-◌, OnOk, IfOk, slice_get};
+#![tactic(auto, using(crate::proofs::Fed::fed_refused))]
+
+ghost use Rattle.std.specs.Prelude.{◌≡◌, ◌-◌, IfOk, slice_get};
 ghost use Rattle.std.specs.String.{string_bytes};
 ghost use Rattle.planus_read.specs.Places.{place_bytes, place_offset, tagged_tag, tagged_place};
 ghost use Rattle.planus_dump.specs.Lines.{field_path as field_path_lem};
@@ -9,16 +11,18 @@ ghost use Rattle.planus_dump.specs.Events.{absent_events, no_union_events, wrong
 ghost use Rattle.planus_dump.specs.Events.{field_label, buffer_events, stride_of as stride_lem};
 ghost use Rattle.planus_dump.specs.Events.{union_events, unions_events, list_events, table_events};
 ghost use Rattle.planus_dump.specs.ReadingViews.{table_seen, found_events, unions_seen};
-ghost use Rattle.planus_dump.specs.inner.Shown.{shown, feed};
+ghost use Rattle.planus_dump.specs.inner.Feeding.{Feeds};
 ghost use Rattle.std.specs.Prelude.{Some, Ok, false};
 ghost use Rattle.std.specs.Option.{option_map};
 
 use crate::fixed::{dump_value, dump_values};
 use crate::line_sink::LineSink;
+use crate::lines::Lines;
 use crate::readings::{
     Found, field_place, item_found, leaf_found, lone_tag, read_table, read_union, read_values,
 };
 use crate::schemas::{FieldSchema, Item, Kind, Schema, TableSchema, VariantSchema};
+use crate::sink_error::SinkError;
 use crate::unions::{Unions, read_unions};
 use crate::values::{Leaf, Value};
 use planus::errors::ErrorKind;
@@ -27,17 +31,17 @@ use planus::{Place, SliceWithStartOffset, TaggedPlace};
 use std::alloc::{AllocError, Global};
 
 #[cycle(walk)]
-pub fn dump_table(
+pub fn dump_table<L: Lines>(
     schema: &Schema,
-    out: &mut LineSink,
+    out: &mut LineSink<L>,
     left: usize,
     path: &str,
     index: usize,
     place: Place<'_>,
-) -> Result<(), AllocError>
-    ensures { OnOk result (shown out.new ≡ feed (shown out.old)
+) -> Result<(), SinkError>
+    ensures { Feeds L.takes L.breaks out.old
         (events schema.now left index (place_bytes place.entry) (place_offset place.entry)
-        path.now)) }
+        path.now) result out.new }
 {
     if left == 0 {
         out.put_deep();
@@ -50,17 +54,17 @@ pub fn dump_table(
 }
 
 #[cycle(walk)]
-fn dump_shape(
+fn dump_shape<L: Lines>(
     schema: &Schema,
-    out: &mut LineSink,
+    out: &mut LineSink<L>,
     left: usize,
     path: &str,
     shape: &TableSchema,
     place: Place<'_>,
-) -> Result<(), AllocError>
-    ensures { OnOk result (shown out.new ≡ feed (shown out.old)
+) -> Result<(), SinkError>
+    ensures { Feeds L.takes L.breaks out.old
         (table_events (events schema.now left) schema.now shape.now path.now
-        (table_at (place_bytes place.entry) (place_offset place.entry)))) }
+        (table_at (place_bytes place.entry) (place_offset place.entry))) result out.new }
 {
     let table = match read_table(place) {
         Ok(table) => table,
@@ -99,26 +103,26 @@ fn field_path(alloc: Global, path: &str, field: &FieldSchema) -> Result<String, 
 }
 
 #[cycle(walk)]
-fn dump_field(
+fn dump_field<L: Lines>(
     schema: &Schema,
-    out: &mut LineSink,
+    out: &mut LineSink<L>,
     left: usize,
     path: &str,
     table: Table<'_>,
     field: &FieldSchema,
-) -> Result<(), AllocError>
-    ensures { OnOk result (shown out.new ≡ feed (shown out.old)
+) -> Result<(), SinkError>
+    ensures { Feeds L.takes L.breaks out.old
         (kind_events (events schema.now left) schema.now field.now.required field.now.kind
         field.now.slot (table_seen table.entry)
-        (field_path_lem path.now (field_label field.now)))) }
+        (field_path_lem path.now (field_label field.now))) result out.new }
 {
     let path = field_path(out.alloc, path, field)?;
     dump_kind(schema, out, left, path.as_str(), table, field)
 }
 
-fn dump_absent(out: &mut LineSink, path: &str, required: bool) -> Result<(), AllocError>
-    ensures { OnOk result (shown out.new
-        ≡ feed (shown out.old) (absent_events required path.now)) }
+fn dump_absent<L: Lines>(out: &mut LineSink<L>, path: &str, required: bool) -> Result<(), SinkError>
+    ensures { Feeds L.takes L.breaks out.old
+        (absent_events required path.now) result out.new }
 {
     if required {
         out.put_fault(path, ErrorKind::MissingRequired)
@@ -137,16 +141,16 @@ fn wrong_tag(schema: &Schema, table: Table<'_>, slot: usize) -> Option<u8>
     }
 }
 
-fn dump_no_union(
+fn dump_no_union<L: Lines>(
     schema: &Schema,
-    out: &mut LineSink,
+    out: &mut LineSink<L>,
     path: &str,
     table: Table<'_>,
     field: &FieldSchema,
-) -> Result<(), AllocError>
-    ensures { OnOk result (shown out.new ≡ feed (shown out.old)
+) -> Result<(), SinkError>
+    ensures { Feeds L.takes L.breaks out.old
         (no_union_events field.now.required path.now
-        (wrong_tag_lem schema.now (table_seen table.entry) field.now.slot))) }
+        (wrong_tag_lem schema.now (table_seen table.entry) field.now.slot)) result out.new }
 {
     match wrong_tag(schema, table, field.slot) {
         Some(tag) => out.put_lone_tag(path, tag),
@@ -155,17 +159,17 @@ fn dump_no_union(
 }
 
 #[cycle(walk)]
-fn dump_kind(
+fn dump_kind<L: Lines>(
     schema: &Schema,
-    out: &mut LineSink,
+    out: &mut LineSink<L>,
     left: usize,
     path: &str,
     table: Table<'_>,
     field: &FieldSchema,
-) -> Result<(), AllocError>
-    ensures { OnOk result (shown out.new ≡ feed (shown out.old)
+) -> Result<(), SinkError>
+    ensures { Feeds L.takes L.breaks out.old
         (kind_events (events schema.now left) schema.now field.now.required field.now.kind
-        field.now.slot (table_seen table.entry) path.now)) }
+        field.now.slot (table_seen table.entry) path.now) result out.new }
 {
     match field.kind {
         Kind::Union(index) => match read_union(table, field.slot) {
@@ -190,15 +194,15 @@ fn dump_kind(
 }
 
 #[cycle(walk)]
-fn dump_found(
+fn dump_found<L: Lines>(
     schema: &Schema,
-    out: &mut LineSink,
+    out: &mut LineSink<L>,
     left: usize,
     path: &str,
     found: Found<'_>,
-) -> Result<(), AllocError>
-    ensures { OnOk result (shown out.new
-        ≡ feed (shown out.old) (found_events (events schema.now left) path.now found.entry)) }
+) -> Result<(), SinkError>
+    ensures { Feeds L.takes L.breaks out.old
+        (found_events (events schema.now left) path.now found.entry) result out.new }
 {
     match found {
         Found::Value(value) => out.put_value(path, value),
@@ -208,17 +212,17 @@ fn dump_found(
 }
 
 #[cycle(walk)]
-fn dump_nested(
+fn dump_nested<L: Lines>(
     schema: &Schema,
-    out: &mut LineSink,
+    out: &mut LineSink<L>,
     left: usize,
     path: &str,
     index: usize,
     content: &[u8],
-) -> Result<(), AllocError>
-    ensures { OnOk result (shown out.new ≡ feed (shown out.old)
+) -> Result<(), SinkError>
+    ensures { Feeds L.takes L.breaks out.old
         (buffer_events (events schema.now left) index path.now content.now
-        (table_at content.now 0))) }
+        (table_at content.now 0)) result out.new }
 {
     let root = Place::new(SliceWithStartOffset::new(content, 0), 0);
     match read_table(root) {
@@ -228,17 +232,17 @@ fn dump_nested(
 }
 
 #[cycle(walk)]
-fn dump_place(
+fn dump_place<L: Lines>(
     schema: &Schema,
-    out: &mut LineSink,
+    out: &mut LineSink<L>,
     left: usize,
     path: &str,
     kind: Kind,
     place: Place<'_>,
-) -> Result<(), AllocError>
-    ensures { OnOk result (shown out.new ≡ feed (shown out.old)
+) -> Result<(), SinkError>
+    ensures { Feeds L.takes L.breaks out.old
         (place_events (events schema.now left) kind
-        (place_bytes place.entry) (place_offset place.entry) path.now)) }
+        (place_bytes place.entry) (place_offset place.entry) path.now) result out.new }
 {
     match kind {
         Kind::One(item) => dump_found(schema, out, left, path, item_found(place, item)),
@@ -255,17 +259,17 @@ fn dump_place(
 }
 
 #[cycle(walk)]
-fn dump_items(
+fn dump_items<L: Lines>(
     schema: &Schema,
-    out: &mut LineSink,
+    out: &mut LineSink<L>,
     left: usize,
     path: &str,
     item: Item,
     place: Place<'_>,
-) -> Result<(), AllocError>
-    ensures { OnOk result (shown out.new ≡ feed (shown out.old)
+) -> Result<(), SinkError>
+    ensures { Feeds L.takes L.breaks out.old
         (list_events (events schema.now left) item path.now
-        (vector_at (stride_lem item) (place_bytes place.entry) (place_offset place.entry)))) }
+        (vector_at (stride_lem item) (place_bytes place.entry) (place_offset place.entry))) result out.new }
 {
     let stride = stride_of(item);
     let (slice, count) = match read_values(place, stride) {
@@ -285,18 +289,18 @@ fn dump_items(
 }
 
 #[cycle(walk)]
-fn dump_union(
+fn dump_union<L: Lines>(
     schema: &Schema,
-    out: &mut LineSink,
+    out: &mut LineSink<L>,
     left: usize,
     path: &str,
     index: usize,
     tagged: TaggedPlace<'_>,
-) -> Result<(), AllocError>
+) -> Result<(), SinkError>
     ensures { let place = tagged_place tagged.entry in
-        OnOk result (shown out.new ≡ feed (shown out.old)
+        Feeds L.takes L.breaks out.old
         (union_events (events schema.now left) (slice_get schema.now.unions.items index)
-        (tagged_tag tagged.entry) (place_bytes place) (place_offset place) path.now)) }
+        (tagged_tag tagged.entry) (place_bytes place) (place_offset place) path.now) result out.new }
 {
     let variants = match schema.unions.get(index) {
         None => return Ok(()),
@@ -313,17 +317,17 @@ fn dump_union(
 }
 
 #[cycle(walk)]
-fn dump_unions(
+fn dump_unions<L: Lines>(
     schema: &Schema,
-    out: &mut LineSink,
+    out: &mut LineSink<L>,
     left: usize,
     path: &str,
     index: usize,
     unions: Unions<'_>,
-) -> Result<(), AllocError>
-    ensures { OnOk result (shown out.new ≡ feed (shown out.old)
+) -> Result<(), SinkError>
+    ensures { Feeds L.takes L.breaks out.old
         (unions_events (events schema.now left) schema.now false index path.now
-        (Ok (Some (unions_seen unions.entry))))) }
+        (Ok (Some (unions_seen unions.entry)))) result out.new }
 {
     let count = unions.len();
     out.put_unions(path, count)?;

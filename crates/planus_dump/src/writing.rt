@@ -23,7 +23,7 @@ fn write_some<W: Write>(writer: &mut W, bytes: &[u8]) -> Result<usize, WriteErro
 }
 
 /// Writes all bytes. There are up to 2^64 - 1 writes, with those that are interrupted.
-fn write_whole<W: Write>(writer: &mut W, bytes: &[u8]) -> Result<(), WriteError>
+pub fn write_whole<W: Write>(writer: &mut W, bytes: &[u8]) -> Result<(), WriteError>
     ensures bytes { OnOk result (Appends (W.contents writer.old)
         (W.contents writer.new) bytes.now) }
     ensures begun { OnErr result (WritesBeginning bytes.now (W.contents writer.old)

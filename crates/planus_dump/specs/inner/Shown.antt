@@ -1,7 +1,6 @@
 -- How events add to the lines so far.
-use Rattle.std.specs.Prelude.{◌≡◌, ◌≢◌, ℕ, ◌-◌, ◌≤◌, nat_lt, Option, Some, None, List, [], ◌∷◌}
-use Rattle.std.specs.Prelude.{◌++◌, length, map}
-use Rattle.std.specs.Prelude.{Bool, true, false, if◌then◌else◌, ◌==◌}
+use Rattle.std.specs.Prelude.{ℕ, ◌-◌, nat_lt, Option, Some, None, List, [], ◌∷◌, ◌++◌, length}
+use Rattle.std.specs.Prelude.{if◌then◌else◌, ◌==◌}
 use Rattle.std.specs.String.{string_bytes}
 use Rattle.planus_dump.specs.Events.{Event, line, deep, float}
 use Rattle.planus_dump.specs.declared.line.Line.{Line}
@@ -9,7 +8,6 @@ use Rattle.planus_dump.specs.declared.line.Line.TheVariants.{Text, Float}
 use Rattle.planus_dump.specs.Views.{cost}
 use Rattle.planus_dump.specs.declared.line_sink.Stop.{Stop}
 use Rattle.planus_dump.specs.declared.line_sink.Stop.TheVariants.{Going, TooDeep, TooMany, TooLong}
-use Rattle.planus_dump.specs.declared.line_sink.LineSink.{LineSink}
 
 abbrev pub event_of : Line → Event
 event_of (Text text) = line (string_bytes text)
@@ -21,14 +19,6 @@ pub record Shown : Type 0 where
   pub budget : ℕ
   pub room : Option ℕ
   pub stop : Stop
-
-abbrev pub shown : LineSink → Shown
-shown out = record {
-  lines = map event_of out.lines.items;
-  budget = out.budget;
-  room = out.room;
-  stop = out.stop;
-}
 
 abbrev pub begin : ℕ → Option ℕ → Shown
 begin budget room = record { lines = []; budget = budget; room = room; stop = Going }
@@ -61,12 +51,3 @@ step s e = step_at s s.stop e
 abbrev pub feed : Shown → List Event → Shown
 feed s [] = s
 feed s (e ∷ es) = feed (step s e) es
-
-abbrev pub IsStopped : LineSink → Bool → Type 0
-IsStopped out true = out.stop ≢ Going
-IsStopped out false = out.stop ≡ Going
-
--- A line of at least so many bytes may be made, or it is given up: the walk is as after it.
-abbrev pub MayMake : Shown → ℕ → Bool → Shown → Type 0
-MayMake s size true after = after ≡ s
-MayMake s size false after = (l : List ℕ) → size ≤ length l → after ≡ step s (line l)

@@ -1,34 +1,51 @@
-use Rattle.std.proofs.Common.{None, ◌≡◌, [], sym, true, rules, map}
+use Rattle.std.proofs.Common.{subst, refl, None, ◌≡◌, [], sym, true, rules, map}
 use Rattle.planus_dump.specs.Dumped.{events_of}
 use Rattle.planus_dump.specs.Schemas.{is_good}
 use Rattle.planus_dump.specs.inner.Shown.{event_of}
 use Rattle.planus_dump.specs.declared.line_sink.Stop.TheVariants.{Going, TooDeep, TooMany, TooLong}
-use Rattle.planus_dump.proofs.Feeds.{walked, all_lines, too_deep, too_many, not_too_long}
+use Rattle.planus_dump.proofs.Walked.{kept}
+use Rattle.planus_dump.proofs.Feeds.{Answered, all_lines, too_deep, too_many, not_too_long}
 use Rattle.planus_dump.proofs.FirstLine.{begins_with_line}
 use Rattle.planus_dump.proofs.dumps.dump.Goals as goal
 
 pub returns-in_ok-lines-in-Going : goal.returns-in_ok-lines-in-Going
 returns-in_ok-lines-in-Going c =
     let es = events_of c.args.schema.now c.args.bytes.now in
+    let out = c.walk_from_root.new.out in
+    let answered : Answered [] None es c.args.budget (map event_of out.lines.items) Going
+    = subst (Answered [] None es c.args.budget (map event_of out.lines.items)) c.in-Going.is
+    (kept _ c.new.result c.new-out.result out c.args.budget None es c.new.ensures.items c.new-out.ensures (c.in_ok-walk_from_root.ensures es refl)) in
     let good : is_good c.args.schema.now ≡ true = search rules in
-    (good, all_lines es c.args.budget (map event_of c.in_ok-out.out.lines.items) c.in_ok-lines-in-Going.lines.items (walked es c.args.budget None c.in_ok-out.out Going c.in_ok-out.ensures c.in-Going.is) c.in_ok-lines-in-Going.ensures)
+    (good, all_lines es c.args.budget (map event_of c.walk_from_root.new.out.lines.items) c.in_ok-lines-in-Going.lines.items answered c.in_ok-lines-in-Going.ensures)
 
 pub returns-in-TooDeep : goal.returns-in-TooDeep
 returns-in-TooDeep c =
     let es = events_of c.args.schema.now c.args.bytes.now in
+    let out = c.walk_from_root.new.out in
+    let answered : Answered [] None es c.args.budget (map event_of out.lines.items) TooDeep
+    = subst (Answered [] None es c.args.budget (map event_of out.lines.items)) c.in-TooDeep.is
+    (kept _ c.new.result c.new-out.result out c.args.budget None es c.new.ensures.items c.new-out.ensures (c.in_ok-walk_from_root.ensures es refl)) in
     let good : is_good c.args.schema.now ≡ true = search rules in
-    (good, too_deep es c.args.budget (map event_of c.in_ok-out.out.lines.items) (walked es c.args.budget None c.in_ok-out.out TooDeep c.in_ok-out.ensures c.in-TooDeep.is))
+    (good, too_deep es c.args.budget (map event_of c.walk_from_root.new.out.lines.items) answered)
 
 pub returns-in-TooMany : goal.returns-in-TooMany
 returns-in-TooMany c =
     let es = events_of c.args.schema.now c.args.bytes.now in
+    let out = c.walk_from_root.new.out in
+    let answered : Answered [] None es c.args.budget (map event_of out.lines.items) TooMany
+    = subst (Answered [] None es c.args.budget (map event_of out.lines.items)) c.in-TooMany.is
+    (kept _ c.new.result c.new-out.result out c.args.budget None es c.new.ensures.items c.new-out.ensures (c.in_ok-walk_from_root.ensures es refl)) in
     let good : is_good c.args.schema.now ≡ true = search rules in
-    (good, too_many es c.args.budget (map event_of c.in_ok-out.out.lines.items) (walked es c.args.budget None c.in_ok-out.out TooMany c.in_ok-out.ensures c.in-TooMany.is))
+    (good, too_many es c.args.budget (map event_of c.walk_from_root.new.out.lines.items) answered)
 
 pub returns-in-TooLong : goal.returns-in-TooLong
 returns-in-TooLong c =
     let es = events_of c.args.schema.now c.args.bytes.now in
-    absurd (not_too_long es c.args.budget (map event_of c.in_ok-out.out.lines.items) (walked es c.args.budget None c.in_ok-out.out TooLong c.in_ok-out.ensures c.in-TooLong.is))
+    let out = c.walk_from_root.new.out in
+    let answered : Answered [] None es c.args.budget (map event_of out.lines.items) TooLong
+    = subst (Answered [] None es c.args.budget (map event_of out.lines.items)) c.in-TooLong.is
+    (kept _ c.new.result c.new-out.result out c.args.budget None es c.new.ensures.items c.new-out.ensures (c.in_ok-walk_from_root.ensures es refl)) in
+    absurd (not_too_long es c.args.budget (map event_of c.walk_from_root.new.out.lines.items) answered)
 
 pub returns-then-budget-eq0 : goal.returns-then-budget-eq0
 returns-then-budget-eq0 c =

@@ -1,21 +1,21 @@
-use Rattle.std.proofs.Common.{◌≡◌, ◌+◌, ◌*◌, drop, Some}
+use Rattle.std.proofs.Common.{◌+◌, ◌*◌, drop, Some}
 use Rattle.planus_read.specs.Slices.{slice_bytes}
 use Rattle.planus_read.specs.Places.{place_bytes, place_offset}
 use Rattle.planus_dump.specs.Events.{structs, struct_events, struct_fields_events}
-use Rattle.planus_dump.specs.inner.Shown.{shown, feed}
+use Rattle.planus_dump.proofs.Fed.{Goes}
 use Rattle.planus_dump.proofs.fixed.+fixed.Given as goal
 
 -- The depth falls from a struct to those in it; the summands order the calls in between.
 abbrev pub decreases-dump_struct : goal.decreases-dump_struct
-decreases-dump_struct l = 3 * l.left
+decreases-dump_struct g l = 3 * l.left
 
 abbrev pub decreases-dump_fixed : goal.decreases-dump_fixed
-decreases-dump_fixed l = 3 * l.left + 1
+decreases-dump_fixed g l = 3 * l.left + 1
 
 abbrev pub decreases-dump_struct_shape : goal.decreases-dump_struct_shape
-decreases-dump_struct_shape l = 3 * l.left + 2
+decreases-dump_struct_shape g l = 3 * l.left + 2
 
 abbrev pub invariant-dump_struct_shape-loop-field : goal.invariant-dump_struct_shape-loop-field
-invariant-dump_struct_shape-loop-field l =
-    feed (shown l.out) (struct_fields_events l.schema (structs l.schema l.left) (drop l.field-index l.field-items) (slice_bytes l.slice) l.path)
-    ≡ feed (shown l.fn.out) (struct_events l.schema (structs l.schema l.left) (Some l.shape) (place_bytes l.place) (place_offset l.place) l.path)
+invariant-dump_struct_shape-loop-field g l =
+    Goes g.L.Lines.takes g.L.Lines.breaks l.fn.out (struct_events l.schema (structs l.schema l.left) (Some l.shape) (place_bytes l.place) (place_offset l.place) l.path)
+    (struct_fields_events l.schema (structs l.schema l.left) (drop l.field-index l.field-items) (slice_bytes l.slice) l.path) l.out

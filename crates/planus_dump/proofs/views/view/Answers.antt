@@ -1,27 +1,34 @@
-use Rattle.std.proofs.Common.{◌≡◌, sym, subst, true, map, rules, Some}
-use Rattle.std.specs.String.{string_bytes}
+use Rattle.std.proofs.Common.{◌≡◌, sym, ◌∙◌, subst, refl, rules, true}
+use Rattle.std.proofs.lemmas.Result.{err_from_is_err_and}
+use Rattle.std.specs.Io.KnownBytes.{Appends}
 use Rattle.planus_dump.specs.Dumped.{events_of}
-use Rattle.planus_dump.specs.Views.{EndsBy}
 use Rattle.planus_dump.specs.Schemas.{is_good}
-use Rattle.planus_dump.specs.inner.Shown.{event_of}
-use Rattle.planus_dump.specs.declared.line_sink.Stop.TheVariants.{Going, TooDeep, TooMany, TooLong}
-use Rattle.planus_dump.proofs.Feeds.{walked}
-use Rattle.planus_dump.proofs.Ending.{ends_whole, ends_deep, ends_many, ends_long}
+use Rattle.planus_dump.specs.Views.{WritesView, BeginsView}
+use Rattle.planus_dump.specs.Writing.{WritesBeginning}
+use Rattle.planus_dump.proofs.Viewed.{whole, part, fails}
 use Rattle.planus_dump.proofs.views.view.Goals as goal
-use Rattle.planus_dump.proofs.views.view.Goals.{in-Going, in-TooDeep, in-TooMany, in-TooLong}
 
-pub returns : goal.returns
-returns c =
-    let es = events_of c.args.schema.now c.args.bytes.now in
-    let out = c.in_ok-out.out in
-    let good : is_good c.args.schema.now ≡ true = search rules in
-    let lines = map event_of out.lines.items in
-    let texts = map string_bytes c.in_ok-lines.lines.items in
-    let most = c.args.most in let size = c.args.size in
-    let ends : EndsBy c.match-out.end es texts most size = elim c.match-out.branch [
-      | in-Going w ↦ subst (λ end. EndsBy end es texts most size) (sym w.end-is) (ends_whole es lines texts most size (walked es most (Some size) out Going c.in_ok-out.ensures w.in-Going.is) c.in_ok-lines.ensures)
-      | in-TooDeep w ↦ subst (λ end. EndsBy end es texts most size) (sym w.end-is) (ends_deep es lines texts most size (walked es most (Some size) out TooDeep c.in_ok-out.ensures w.in-TooDeep.is) c.in_ok-lines.ensures)
-      | in-TooMany w ↦ subst (λ end. EndsBy end es texts most size) (sym w.end-is) (ends_many es lines texts most size (walked es most (Some size) out TooMany c.in_ok-out.ensures w.in-TooMany.is) c.in_ok-lines.ensures)
-      | in-TooLong w ↦ subst (λ end. EndsBy end es texts most size) (sym w.end-is) (ends_long es lines texts most size (walked es most (Some size) out TooLong c.in_ok-out.ensures w.in-TooLong.is) c.in_ok-lines.ensures)
-    ] in
-    (good, ends)
+pub returns-clause-shown : goal.returns-clause-shown
+returns-clause-shown g c =
+    let contents = g.W.Write.contents in let schema = c.args.schema.now in let bytes = c.args.bytes.now in let most = c.args.most in let size = c.args.size in
+    let start = c.new.result in let out = c.walk_from_root-walked.new.out in let mid = c.write_rest.new.writer in
+    let good : is_good schema ≡ true = search rules in
+    subst (λ w. WritesView schema bytes most size (record { end = c.end_of.result; has_fault = out.lines.has_fault }) (contents w) (contents c.writer-1.given.0)) c.new.ensures.now
+    (whole contents schema bytes most size start c.new-out.result out c.walk_from_root-walked.result mid _ c.end_of.result good (record { block = c.new.ensures.block; fault = c.new.ensures.fault })
+    c.new-out.ensures (c.walk_from_root-walked.ensures (events_of schema bytes) refl) c.in_ok-write_rest.ensures.whole c.end_of.ensures
+    (subst (Appends (contents out.lines.writer.now) (contents mid)) c.deref.ensures.value c.in_ok-write_rest.ensures.written)
+    (λ same. c.writer-1.given.1 (sym (same ∙ c.new.ensures.same))))
+
+pub returns-in_err-write_rest-clause-failed : goal.returns-in_err-write_rest-clause-failed
+returns-in_err-write_rest-clause-failed g c =
+    let contents = g.W.Write.contents in let schema = c.args.schema.now in let bytes = c.args.bytes.now in let most = c.args.most in let size = c.args.size in
+    let start = c.new.result in let out = c.walk_from_root-walked.new.out in let mid = c.write_rest.new.writer in
+    let good : is_good schema ≡ true = search rules in
+    let begun : BeginsView schema bytes most size (contents c.args.writer.now) (contents c.writer-1.given.0)
+    = subst (λ w. BeginsView schema bytes most size (contents w) (contents c.writer-1.given.0)) c.new.ensures.now
+    (part contents schema bytes most size start c.new-out.result out c.walk_from_root-walked.result mid _ good (record { block = c.new.ensures.block; fault = c.new.ensures.fault })
+    c.new-out.ensures (c.walk_from_root-walked.ensures (events_of schema bytes) refl)
+    (subst (λ rest. WritesBeginning rest (contents out.lines.writer.now) (contents mid)) c.deref.ensures.value c.in_err-write_rest.ensures.begun) c.in_err-write_rest.ensures.kept
+    (λ same. c.writer-1.given.1 (sym (same ∙ c.new.ensures.same)))) in
+    let p = err_from_is_err_and c.from_residual.result c.from_residual.ensures.1 in
+    rw p.1 (fails schema bytes most size (contents c.args.writer.now) (contents c.writer-1.given.0) p.0 p.2 begun)

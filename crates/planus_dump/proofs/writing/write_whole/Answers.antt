@@ -1,5 +1,6 @@
 use Rattle.std.proofs.Common.{ℕ, List, sym, subst}
-use Rattle.planus_dump.proofs.Begun.{Leaves, more_written}
+use Rattle.planus_dump.proofs.Begun.{more_written}
+use Rattle.planus_dump.specs.Writing.{Leaves}
 use Rattle.planus_dump.proofs.writing.write_whole.Goals as goal
 
 pub writes-preserved : goal.writes-preserved

@@ -1,4 +1,4 @@
-use Rattle.planus_dump.proofs.Begun.{Leaves}
+use Rattle.planus_dump.specs.Writing.{Leaves}
 use Rattle.planus_dump.proofs.writing.write_whole.Given as goal
 
 abbrev pub invariant-writes : goal.invariant-writes
