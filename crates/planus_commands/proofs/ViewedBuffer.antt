@@ -3,8 +3,8 @@ use Rattle.std.proofs.Common.{◌≡◌, ℕ, List, ◌++◌, Option, sym, ap, �
 use Rattle.std.specs.Io.KnownBytes.{Appends}
 use Rattle.std.proofs.KnownBytes.{Appends-trans}
 use Rattle.planus_dump.specs.declared.schemas.Schema.{Schema}
-use Rattle.planus_dump.specs.declared.views.ViewError.{ViewError}
-use Rattle.planus_dump.specs.declared.views.ViewError.TheVariants.{OutOfMemory, BadSchema, Write}
+use Rattle.planus_dump.specs.declared.view_error.ViewError.{ViewError}
+use Rattle.planus_dump.specs.declared.view_error.ViewError.TheVariants.{OutOfMemory, BadSchema, Write}
 use Rattle.planus_dump.specs.Views as views
 use Rattle.planus_dump.specs.Writing.{WritesBeginning}
 use Rattle.planus_commands.specs.declared.streams.RunError.{RunError}

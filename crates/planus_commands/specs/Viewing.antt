@@ -12,8 +12,8 @@ use Rattle.planus_dump.specs.FaultLines.{is_fault_line}
 use Rattle.planus_dump.specs.Views.{Viewed, lines_text}
 use Rattle.planus_dump.specs.Writing.{WritesBeginning}
 use Rattle.planus_dump.specs.declared.schemas.Schema.{Schema}
-use Rattle.planus_dump.specs.declared.views.ViewError.{ViewError}
-use Rattle.planus_dump.specs.declared.views.ViewError.TheVariants as errors
+use Rattle.planus_dump.specs.declared.view_error.ViewError.{ViewError}
+use Rattle.planus_dump.specs.declared.view_error.ViewError.TheVariants as errors
 use Rattle.planus_dump.specs.declared.views.End.{End}
 use Rattle.planus_dump.specs.declared.views.End.TheVariants.{Whole, TooDeep, TooManyLines}
 use Rattle.planus_dump.specs.declared.views.End.TheVariants.{TooManyBytes}

@@ -17,8 +17,8 @@ use Rattle.planus_dump.specs.declared.line_writer.LineWriter.{LineWriter}
 use Rattle.planus_dump.specs.declared.sink_error.SinkError.{SinkError}
 use Rattle.planus_dump.specs.declared.schemas.Schema.{Schema}
 use Rattle.planus_dump.specs.declared.views.End.{End}
-use Rattle.planus_dump.specs.declared.views.ViewError.{ViewError}
-use Rattle.planus_dump.specs.declared.views.ViewError.TheVariants.{OutOfMemory, BadSchema, Write}
+use Rattle.planus_dump.specs.declared.view_error.ViewError.{ViewError}
+use Rattle.planus_dump.specs.declared.view_error.ViewError.TheVariants.{OutOfMemory, BadSchema, Write}
 use Rattle.planus_dump.specs.inner.Ends.{end_of}
 use Rattle.planus_dump.specs.inner.Shown.{begin, feed}
 use Rattle.planus_dump.specs.inner.Feeding.{Outcome, Shows, Fed}

@@ -87,13 +87,13 @@ unions_line path count = path ++ (codes ": unions " ++ decimal count)
 abbrev pub struct_line : List ℕ → List ℕ → List ℕ
 struct_line path name = path ++ (codes ": struct " ++ name)
 
--- the names of an enum's values in parentheses
-abbrev pub spaced : List (List ℕ) → List ℕ
-spaced names = flat_map (λ name. 32 ∷ name) names
+-- the names of an enum's values in parentheses, ` | ` between them
+abbrev pub other_names : List (List ℕ) → List ℕ
+other_names names = flat_map (λ name. codes " | " ++ name) names
 
 abbrev pub names_text : List (List ℕ) → List ℕ
 names_text [] = []
-names_text (name ∷ names) = codes " (" ++ (name ++ (spaced names ++ codes ")"))
+names_text (name ∷ names) = codes " (" ++ (name ++ (other_names names ++ codes ")"))
 
 -- the error for a number, as it is printed, that no value of its enum has
 abbrev pub unknown_enum_text : List ℕ → List ℕ

@@ -12,8 +12,8 @@ use Rattle.planus_dump.specs.declared.schemas.Schema.{Schema}
 use Rattle.planus_dump.specs.declared.views.End.{End}
 use Rattle.planus_dump.specs.declared.views.End.TheVariants as ends
 use Rattle.planus_dump.specs.declared.views.Seen.{Seen}
-use Rattle.planus_dump.specs.declared.views.ViewError.{ViewError}
-use Rattle.planus_dump.specs.declared.views.ViewError.TheVariants as errors
+use Rattle.planus_dump.specs.declared.view_error.ViewError.{ViewError}
+use Rattle.planus_dump.specs.declared.view_error.ViewError.TheVariants as errors
 
 -- the bytes of a line; the text of a float counts 32
 abbrev pub cost : Event → ℕ

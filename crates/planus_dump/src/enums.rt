@@ -24,7 +24,7 @@ pub fn names_of(alloc: Global, shape: &EnumSchema, number: u64) -> Result<String
     let mut text = String::new(alloc);
     for (value, name) in &shape.values {
         if has_value(shape.flags, number, *value) {
-            text.push_str(if text.is_empty() { " (" } else { " " })?;
+            text.push_str(if text.is_empty() { " (" } else { " | " })?;
             text.push_str(name)?;
         }
     }

@@ -19,6 +19,7 @@ mod sink_error;
 mod unions;
 mod validate;
 mod values;
+mod view_error;
 mod views;
 mod walk;
 mod writing;
@@ -30,5 +31,6 @@ pub use schemas::{
     EnumSchema, FieldSchema, Fixed, Item, Kind, Number, Schema, StructFieldSchema, StructSchema,
     TableSchema, VariantSchema,
 };
-pub use views::{End, Seen, ViewError, view};
+pub use view_error::ViewError;
+pub use views::{End, Seen, view};
 pub use writing::{WriteError, write_out};

@@ -12,6 +12,7 @@ use crate::line_writer::LineWriter;
 use crate::schemas::Schema;
 use crate::sink_error::SinkError;
 use crate::validate::is_good_schema;
+use crate::view_error::ViewError;
 use crate::writing::write_whole;
 use std::alloc::Global;
 use std::io::Write;
@@ -36,31 +37,6 @@ pub struct Seen {
     pub end: End,
     /// Whether one states an error.
     pub has_fault: bool,
-}
-
-/// Why a view isn't whole.
-#[derive(Clone, Copy, Debug, PartialEq, Eq)]
-pub enum ViewError {
-    /// An allocation failed.
-    OutOfMemory,
-    /// The schema isn't good, as for a [`DumpError`](crate::DumpError).
-    BadSchema,
-    /// Writing failed.
-    Write,
-}
-
-impl From<SinkError> for ViewError {
-    ghost use Rattle.std.specs.Prelude.{◌≢◌};
-    ghost use Rattle.planus_dump.specs.declared.views.ViewError.TheVariants.{BadSchema};
-
-    ghost from_gives = { λ _ e. e ≢ BadSchema };
-
-    fn from(error: SinkError) -> ViewError {
-        match error {
-            SinkError::OutOfMemory => ViewError::OutOfMemory,
-            SinkError::Write => ViewError::Write,
-        }
-    }
 }
 
 fn end_of(stop: Stop) -> End
