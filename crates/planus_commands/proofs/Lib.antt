@@ -6,3 +6,4 @@ pub mod Sized
 pub mod LoadedFiles
 pub mod Seen
 mod ViewedBuffer
+mod Failing

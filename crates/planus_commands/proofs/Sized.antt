@@ -1,6 +1,6 @@
 -- Buffers viewed one after another, each after its size.
-use Rattle.std.proofs.Common.{◌≡◌, ◌≢◌, ℕ, Bool, List, [], ◌∷◌, length, refl, sym, subst, arith}
-use Rattle.std.specs.Prelude.{Option, Result, Ok, Err, IfOk, codes}
+use Rattle.std.proofs.Common.{◌≡◌, ◌≢◌, ℕ, Bool, List, [], ◌∷◌, length, refl, sym, subst, arith, inr}
+use Rattle.std.specs.Prelude.{Option, Result, Ok, Err, IfOk, IfErr, codes}
 use Rattle.std.specs.Io.KnownBytes.{Appends}
 use Rattle.std.proofs.KnownBytes.{Keeps-refl}
 use Rattle.planus_layout.specs.declared.schema.Schema.{Schema}
@@ -10,7 +10,7 @@ use Rattle.planus_commands.specs.declared.streams.RunError.{RunError}
 use Rattle.planus_commands.specs.declared.buffers.Viewing.{Viewing}
 use Rattle.planus_commands.specs.Outcomes.{line_of}
 use Rattle.planus_commands.specs.Viewing.{EndsEarly}
-use Rattle.planus_commands.specs.Buffers.{Look, EndsSized, Views, ViewsBytes, look_by}
+use Rattle.planus_commands.specs.Buffers.{Look, EndsSized, Views, ViewsBytes, FailsViews, FailsBytes, look_by}
 
 pub ended : (look : Look) (bytes : List ℕ) (worst : ℕ) (before unsaid : Option (List ℕ)) → length bytes ≡ 0
     → EndsSized look bytes worst worst before before unsaid unsaid
@@ -33,3 +33,14 @@ viewed schema how name bytes dumped prefixed (Ok status) before after unsaid sai
   views = subst (λ p. Views p (look_by schema dumped how.limits name) bytes status before after unsaid said) (sym is) h;
 }
 viewed schema how name bytes dumped prefixed (Err error) before after unsaid said shows is h = tt
+
+pub failed : (schema : Schema) (how : Viewing) (name bytes : List ℕ) (dumped : Dumped) (prefixed : Bool) (r : Result ℕ RunError)
+    (before after unsaid said : Option (List ℕ)) → Shows schema how.root dumped → how.size_prefixed ≡ prefixed
+    → IfErr r (λ error. FailsViews prefixed (look_by schema dumped how.limits name) bytes error before after unsaid said)
+    → IfErr r (λ error. FailsBytes schema how name bytes error before after unsaid said)
+failed schema how name bytes dumped prefixed (Ok status) before after unsaid said shows is h = tt
+failed schema how name bytes dumped prefixed (Err error) before after unsaid said shows is h = inr (record {
+  dumped = dumped;
+  shows = shows;
+  fails = subst (λ p. FailsViews p (look_by schema dumped how.limits name) bytes error before after unsaid said) (sym is) h;
+})

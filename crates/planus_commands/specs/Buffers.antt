@@ -1,5 +1,5 @@
 -- What is written of a file of buffers.
-use Rattle.std.specs.Prelude.{◌≡◌, ℕ, Bool, true, false, ◌&&◌, not, nat_lt, List, [], ◌∷◌, ◌++◌, codes}
+use Rattle.std.specs.Prelude.{◌≡◌, ◌⊎◌, ℕ, Bool, true, false, ◌&&◌, not, nat_lt, List, [], ◌∷◌, ◌++◌, codes}
 use Rattle.std.specs.Prelude.{position, take, drop, length, max, Option, Some, None}
 use Rattle.std.specs.Option.{option_and_then, option_map, unwrap_or}
 use Rattle.std.specs.Str.{bytes_eq}
@@ -12,7 +12,10 @@ use Rattle.planus_commands.specs.declared.viewing.Limits.{Limits}
 use Rattle.planus_commands.specs.Shown.{shown}
 use Rattle.planus_commands.specs.Arguments.{WordsV, number_of}
 use Rattle.planus_commands.specs.Outcomes.{line_of}
-use Rattle.planus_commands.specs.Viewing.{WritesView, SplitsSized, EndsEarly}
+use Rattle.planus_commands.specs.Viewing.{WritesView, FailsViewing, SplitsSized, EndsEarly}
+use Rattle.planus_commands.specs.declared.streams.RunError.{RunError}
+use Rattle.planus_commands.specs.declared.streams.RunError.TheVariants.{OutOfMemory}
+use Rattle.planus_dump.specs.Writing.{WritesBeginning}
 use Rattle.planus_layout.specs.declared.schema.Body.{Body}
 use Rattle.planus_layout.specs.declared.schema.Body.TheVariants as body
 use Rattle.planus_layout.specs.declared.schema.Declared.{Declared}
@@ -62,6 +65,14 @@ pub record ChecksIdentifier (identifier : Option (List ℕ)) (name bytes : List 
   pub known_is : known ≡ has_identifier_of identifier bytes
   pub told : SaysOther identifier name known unsaid said
 
+-- a beginning of the message was written
+pub record FailsIdentifier (identifier : Option (List ℕ)) (name bytes : List ℕ)
+    (unsaid said : Option (List ℕ)) : Type 0 where
+  pub wanted : List ℕ
+  pub is : identifier ≡ Some wanted
+  pub other : has_identifier wanted bytes ≡ false
+  pub told : WritesBeginning (other_identifier_text name wanted) unsaid said
+
 -- how buffers of a file are viewed: their identifier, by which schema, and how much of each
 pub record Look : Type 0 where
   pub identifier : Option (List ℕ)
@@ -83,6 +94,15 @@ pub record ViewsOne (look : Look) (bytes : List ℕ) (status : ℕ)
   pub told : ChecksIdentifier look.identifier look.name bytes known unsaid said
   pub written : WritesView look.schema bytes look.lines look.bytes clean before after
   pub is : status ≡ status_of (known && clean)
+
+-- A beginning of what is said of the identifier was written; or all of it, and a beginning of the
+-- lines.
+abbrev pub FailsOne : Look → List ℕ → RunError → Option (List ℕ) → Option (List ℕ)
+    → Option (List ℕ) → Option (List ℕ) → Type 0
+FailsOne look bytes error before after unsaid said =
+    (Keeps before after × FailsIdentifier look.identifier look.name bytes unsaid said)
+    ⊎ ((known : Bool) × ChecksIdentifier look.identifier look.name bytes known unsaid said
+    × FailsViewing look.schema bytes look.lines look.bytes error before after)
 
 -- No bytes are left, and the status is the worst before; or they end before a buffer does.
 abbrev pub EndsSized : Look → List ℕ → ℕ → ℕ → Option (List ℕ) → Option (List ℕ)
@@ -114,6 +134,32 @@ ViewsSized look (buffer ∷ buffers) bytes worst status before after unsaid said
     ViewsFirst look buffer bytes before unsaid (λ rest one written told.
     ViewsSized look buffers rest (max worst one) status written after told said)
 
+-- Viewing the next buffer failed, or saying that the bytes end before it does.
+abbrev pub FailsNext : Look → List ℕ → RunError → Option (List ℕ) → Option (List ℕ)
+    → Option (List ℕ) → Option (List ℕ) → Type 0
+FailsNext look bytes error before after unsaid said =
+    ((buffer : List ℕ) × (rest : List ℕ) × SplitsSized bytes buffer rest
+    × FailsOne look buffer error before after unsaid said)
+    ⊎ (EndsEarly bytes × Keeps before after × WritesBeginning
+    (line_of [] look.name (codes " ends before a buffer does")) unsaid said)
+
+-- These buffers, each after its size, were viewed in order, and the next failed.
+abbrev pub FailsSized : Look → List (List ℕ) → List ℕ → RunError → Option (List ℕ)
+    → Option (List ℕ) → Option (List ℕ) → Option (List ℕ) → Type 0
+FailsSized look [] bytes error before after unsaid said =
+    FailsNext look bytes error before after unsaid said
+FailsSized look (buffer ∷ buffers) bytes error before after unsaid said =
+    ViewsFirst look buffer bytes before unsaid (λ rest one written told.
+    FailsSized look buffers rest error written after told said)
+
+-- One buffer failed to be viewed, or one of several.
+abbrev pub FailsViews : Bool → Look → List ℕ → RunError → Option (List ℕ) → Option (List ℕ)
+    → Option (List ℕ) → Option (List ℕ) → Type 0
+FailsViews false look bytes error before after unsaid said =
+    FailsOne look bytes error before after unsaid said
+FailsViews true look bytes error before after unsaid said =
+    (buffers : List (List ℕ)) × FailsSized look buffers bytes error before after unsaid said
+
 -- One buffer was viewed, or several, each after its size.
 abbrev pub Views : Bool → Look → List ℕ → ℕ → Option (List ℕ) → Option (List ℕ)
     → Option (List ℕ) → Option (List ℕ) → Type 0
@@ -142,6 +188,21 @@ pub record ViewsBytes (schema : Schema) (how : Viewing) (name bytes : List ℕ) 
   pub views : Views how.size_prefixed (look_by schema dumped how.limits name) bytes status
       before after unsaid said
 
+-- The buffers of a file failed to be viewed by a schema.
+pub record FailsFile (schema : Schema) (how : Viewing) (name bytes : List ℕ) (error : RunError)
+    (before after unsaid said : Option (List ℕ)) : Type 0 where
+  pub dumped : Dumped
+  pub shows : Shows schema how.root dumped
+  pub fails : FailsViews how.size_prefixed (look_by schema dumped how.limits name) bytes error
+      before after unsaid said
+
+-- Memory was refused before anything was written, or the buffers failed to be viewed.
+abbrev pub FailsBytes : Schema → Viewing → List ℕ → List ℕ → RunError → Option (List ℕ)
+    → Option (List ℕ) → Option (List ℕ) → Option (List ℕ) → Type 0
+FailsBytes schema how name bytes error before after unsaid said =
+    ((error ≡ OutOfMemory) × Keeps before after × Keeps unsaid said)
+    ⊎ FailsFile schema how name bytes error before after unsaid said
+
 -- the number of a word, if there is one
 abbrev pub limit_of : Option (List ℕ) → ℕ → ℕ
 limit_of word otherwise = unwrap_or (option_and_then number_of word) otherwise
@@ -166,3 +227,17 @@ abbrev pub ViewsBy : Schema → WordsV → List ℕ → List ℕ → ℕ → Opt
     → Option (List ℕ) → Option (List ℕ) → Type 0
 ViewsBy schema words name bytes status before after unsaid said =
     ViewsRoot (root_of schema words.root) schema words name bytes status before after unsaid said
+
+-- The buffers failed to be viewed with this root, or a beginning was said of that there is none.
+abbrev pub FailsRoot : Option ℕ → Schema → WordsV → List ℕ → List ℕ → RunError
+    → Option (List ℕ) → Option (List ℕ) → Option (List ℕ) → Option (List ℕ) → Type 0
+FailsRoot (Some root) schema words name bytes error before after unsaid said =
+    FailsBytes schema (viewing_of words root) name bytes error before after unsaid said
+FailsRoot None schema words name bytes error before after unsaid said =
+    Keeps before after × WritesBeginning (no_root_text words.root) unsaid said
+
+-- what a `view` that fails has done with a schema and the bytes of a file, as these words say
+abbrev pub FailsBy : Schema → WordsV → List ℕ → List ℕ → RunError → Option (List ℕ)
+    → Option (List ℕ) → Option (List ℕ) → Option (List ℕ) → Type 0
+FailsBy schema words name bytes error before after unsaid said =
+    FailsRoot (root_of schema words.root) schema words name bytes error before after unsaid said

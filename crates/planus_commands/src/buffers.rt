@@ -1,6 +1,6 @@
 //! The command `view`: what a buffer holds by a schema.
 
-ghost use Rattle.std.specs.Prelude.{◌≡◌, ℕ, List, MatchOption, IfOk, OnOk, position};
+ghost use Rattle.std.specs.Prelude.{◌≡◌, ℕ, List, MatchOption, IfOk, IfErr, OnOk, OnErr, position};
 ghost use Rattle.std.specs.Option.{option_map};
 ghost use Rattle.std.specs.Io.KnownBytes.{Appends};
 ghost use Rattle.planus_commands.specs.Buffers.{is_table_named as is_table_named_lem};
@@ -8,6 +8,9 @@ ghost use Rattle.planus_commands.specs.Buffers.{root_of as root_lem, no_root_tex
 ghost use Rattle.planus_commands.specs.Buffers.{has_identifier as has_identifier_lem};
 ghost use Rattle.planus_commands.specs.Buffers.{other_identifier_text, ChecksIdentifier, limit_of};
 ghost use Rattle.planus_commands.specs.Buffers.{look_of, ViewsOne, ViewsSized, ViewsBytes, ViewsBy};
+ghost use Rattle.planus_commands.specs.Buffers.{FailsIdentifier, FailsOne, FailsSized, FailsBytes};
+ghost use Rattle.planus_commands.specs.Buffers.{FailsBy};
+ghost use Rattle.planus_dump.specs.Writing.{WritesBeginning};
 ghost use Rattle.planus_commands.specs.Arguments.{words_of};
 ghost use Rattle.planus_commands.specs.Viewing.{SplitsSized, EndsEarly};
 
@@ -67,8 +70,11 @@ fn root_of(schema: &Schema, root: Option<&str>) -> Option<usize>
 }
 
 fn say_no_root<X: Write>(alloc: Global, root: Option<&str>, errors: &mut X) -> Result<(), RunError>
-    ensures { OnOk result (Appends (X.contents errors.old) (X.contents errors.new)
+    ensures said { OnOk result (Appends (X.contents errors.old) (X.contents errors.new)
         (no_root_text (option_map (λ name. name.now) root.entry))) }
+    ensures begun { OnErr result (WritesBeginning
+        (no_root_text (option_map (λ name. name.now) root.entry))
+        (X.contents errors.old) (X.contents errors.new)) }
 {
     match root {
         Some(name) => say(alloc, errors, "the schema has no table `", name, "`"),
@@ -104,8 +110,11 @@ fn check_identifier<X: Write>(
     bytes: &[u8],
     errors: &mut X,
 ) -> Result<bool, RunError>
-    ensures { IfOk result (λ known. ChecksIdentifier
+    ensures told { IfOk result (λ known. ChecksIdentifier
         (option_map (λ v. v.items) schema.now.statements.identifier) name.now bytes.now known
+        (X.contents errors.old) (X.contents errors.new)) }
+    ensures failed { OnErr result (FailsIdentifier
+        (option_map (λ v. v.items) schema.now.statements.identifier) name.now bytes.now
         (X.contents errors.old) (X.contents errors.new)) }
 {
     match &schema.statements.identifier {
@@ -143,7 +152,10 @@ fn view_one<W: Write, X: Write>(
     writer: &mut W,
     errors: &mut X,
 ) -> Result<u8, RunError>
-    ensures { IfOk result (λ status. ViewsOne (look_of view.now) bytes.now status
+    ensures views { IfOk result (λ status. ViewsOne (look_of view.now) bytes.now status
+        (W.contents writer.old) (W.contents writer.new)
+        (X.contents errors.old) (X.contents errors.new)) }
+    ensures failed { IfErr result (λ error. FailsOne (look_of view.now) bytes.now error
         (W.contents writer.old) (W.contents writer.new)
         (X.contents errors.old) (X.contents errors.new)) }
 {
@@ -159,8 +171,12 @@ fn view_sized<W: Write, X: Write>(
     writer: &mut W,
     errors: &mut X,
 ) -> Result<u8, RunError>
-    ensures { IfOk result (λ status. (buffers : List (List ℕ))
+    ensures views { IfOk result (λ status. (buffers : List (List ℕ))
         × ViewsSized (look_of view.now) buffers bytes.now 0 status
+        (W.contents writer.old) (W.contents writer.new)
+        (X.contents errors.old) (X.contents errors.new)) }
+    ensures failed { IfErr result (λ error. (buffers : List (List ℕ))
+        × FailsSized (look_of view.now) buffers bytes.now error
         (W.contents writer.old) (W.contents writer.new)
         (X.contents errors.old) (X.contents errors.new)) }
 {
@@ -200,7 +216,10 @@ pub fn view_bytes<W: Write, X: Write>(
     writer: &mut W,
     errors: &mut X,
 ) -> Result<u8, RunError>
-    ensures { IfOk result (λ status. ViewsBytes schema.now how name.now bytes.now status
+    ensures views { IfOk result (λ status. ViewsBytes schema.now how name.now bytes.now status
+        (W.contents writer.old) (W.contents writer.new)
+        (X.contents errors.old) (X.contents errors.new)) }
+    ensures failed { IfErr result (λ error. FailsBytes schema.now how name.now bytes.now error
         (W.contents writer.old) (W.contents writer.new)
         (X.contents errors.old) (X.contents errors.new)) }
 {
@@ -229,8 +248,11 @@ pub fn view_by<W: Write, X: Write>(
     writer: &mut W,
     errors: &mut X,
 ) -> Result<u8, RunError>
-    ensures { IfOk result (λ status. ViewsBy schema.now (words_of words.now) name.now bytes.now
-        status (W.contents writer.old) (W.contents writer.new)
+    ensures views { IfOk result (λ status. ViewsBy schema.now (words_of words.now) name.now
+        bytes.now status (W.contents writer.old) (W.contents writer.new)
+        (X.contents errors.old) (X.contents errors.new)) }
+    ensures failed { IfErr result (λ error. FailsBy schema.now (words_of words.now) name.now
+        bytes.now error (W.contents writer.old) (W.contents writer.new)
         (X.contents errors.old) (X.contents errors.new)) }
 {
     let Some(root) = root_of(schema, words.root) else {

@@ -85,8 +85,10 @@ pub fn say<X: Write>(
     name: &str,
     after: &str,
 ) -> Result<(), RunError>
-    ensures { OnOk result (Appends (X.contents errors.old) (X.contents errors.new)
+    ensures said { OnOk result (Appends (X.contents errors.old) (X.contents errors.new)
         (line_of before.now name.now after.now)) }
+    ensures begun { OnErr result (WritesBeginning (line_of before.now name.now after.now)
+        (X.contents errors.old) (X.contents errors.new)) }
 {
     let line = line(alloc, before, name, after)?;
     write_out(errors, &line)?;

@@ -1,14 +1,21 @@
 use Rattle.std.proofs.Common.{ℕ, List, length}
 use Rattle.std.specs.Prelude.{Option}
-use Rattle.planus_commands.specs.Buffers.{look_of, ViewsSized}
+use Rattle.planus_commands.specs.Buffers.{look_of, ViewsSized, FailsSized}
+use Rattle.planus_commands.specs.declared.streams.RunError.{RunError}
 use Rattle.planus_commands.proofs.buffers.view_sized.Given as goal
 
--- what views the rest of the bytes ends a view of all
+-- what views the rest of the bytes ends a view of all, and what fails there fails for all
 abbrev pub invariant-buffers : goal.invariant-buffers
-invariant-buffers g l = (buffers : List (List ℕ)) (status : ℕ) (after said : Option (List ℕ))
-    → ViewsSized (look_of l.view) buffers l.rest l.worst status (g.W.Write.contents l.writer) after (g.X.Write.contents l.errors) said
-    → (all : List (List ℕ)) × ViewsSized (look_of l.view) all l.bytes 0 status
-    (g.W.Write.contents l.initial.writer) after (g.X.Write.contents l.initial.errors) said
+invariant-buffers g l = record {
+  views : (buffers : List (List ℕ)) (status : ℕ) (after said : Option (List ℕ))
+      → ViewsSized (look_of l.view) buffers l.rest l.worst status (g.W.Write.contents l.writer) after (g.X.Write.contents l.errors) said
+      → (all : List (List ℕ)) × ViewsSized (look_of l.view) all l.bytes 0 status
+      (g.W.Write.contents l.initial.writer) after (g.X.Write.contents l.initial.errors) said;
+  fails : (buffers : List (List ℕ)) (error : RunError) (after said : Option (List ℕ))
+      → FailsSized (look_of l.view) buffers l.rest error (g.W.Write.contents l.writer) after (g.X.Write.contents l.errors) said
+      → (all : List (List ℕ)) × FailsSized (look_of l.view) all l.bytes error
+      (g.W.Write.contents l.initial.writer) after (g.X.Write.contents l.initial.errors) said;
+}
 
 abbrev pub decreases-buffers : goal.decreases-buffers
 decreases-buffers g l = length l.rest
