@@ -17,3 +17,4 @@ mod Viewed
 pub mod Begun
 pub mod AsRead
 pub mod AsReadParts
+mod FlagsSaid

@@ -1,12 +1,13 @@
 -- The tests of a dump are the clauses of `planus_read`.
-use Rattle.std.specs.Prelude.{◌≡◌, ◌≢◌, ◌↔◌, ℕ, ℤ, ◌+◌, ◌*◌, ◌<◌, ◌≤◌, ◌⊎◌, List, [], ◌∷◌, ◌++◌, map}
-use Rattle.std.specs.Prelude.{length, drop, take, Option, Some, None, Result, Ok, Err, false}
+use Rattle.std.specs.Prelude.{◌≡◌, ◌≢◌, ◌↔◌, ℕ, ℤ, ◌+◌, ◌*◌, ◌/◌, ◌%◌, ◌<◌, ◌≤◌, ◌⊎◌, List, [], ◌∷◌, ◌++◌, map}
+use Rattle.std.specs.Prelude.{length, drop, take, Option, Some, None, Result, Ok, Err, true, false, String}
 use Rattle.std.specs.Prelude.{nat_eq, from_bits, FitsSigned}
 use Rattle.std.specs.Fmt.{decimal, signed_decimal}
 use Rattle.std.specs.Int.{Width, w8, w16, w32, w64, byte_len, cast_unsigned}
 use Rattle.std.specs.List.{AllByRecursion}
 use Rattle.std.specs.Ordering.{int_eq}
 use Rattle.std.specs.String.{string_bytes}
+use Rattle.std.specs.declared.alloc.Global.{Global}
 use lib.Ieee.{Float, Format, binary32, binary64}
 use Rattle.planus_read.specs.declared.errors.ErrorKind.{ErrorKind}
 use Rattle.planus_read.specs.declared.errors.ErrorKind.TheVariants.{InvalidOffset}
@@ -31,7 +32,7 @@ use Rattle.planus_dump.specs.Answers.{table_at, union_at, unions_at, Seen, SeenI
 use Rattle.planus_dump.specs.Answers.{SeenUnions, some_of}
 use Rattle.planus_dump.specs.ReadingViews.{answer_seen, table_seen}
 use Rattle.planus_dump.specs.Events.{Event, line, TableEvents, fault_event, fixed_events}
-use Rattle.planus_dump.specs.Events.{struct_events, structs, enum_at, names_in, place_events}
+use Rattle.planus_dump.specs.Events.{struct_events, structs, enum_at, number_leaf, number_width, names_in, place_events}
 use Rattle.planus_dump.specs.declared.values.Leaf.TheVariants.{Bool, Text, Bytes}
 use Rattle.planus_dump.specs.declared.schemas.Schema.{Schema}
 use Rattle.planus_dump.specs.declared.schemas.EnumSchema.{EnumSchema}
@@ -144,6 +145,31 @@ pub record EnumsAreSaid (E : Type 0) (S : List ℕ) (f : ℕ) : Type 0 where
       → map (λ value. value.0) shape.values.items ≡ map (λ one. cast_unsigned width one.0) variants
       → EnumIsSaid (plain_reading (signed_enum width are layout variants numbers_are) S f)
       (variant_in int_eq variants) (cast_unsigned width) signed_decimal shape S f
+
+-- ---- flags
+
+-- the number has the bit of this value, a power of two
+abbrev pub HasFlag : ℕ → ℕ → Type 0
+HasFlag n value = (value ≢ 0) × (n / value % 2 ≡ 1)
+
+-- the names of the flags that a number has, in the schema's order
+abbrev pub AreFlags : ℕ → List (ℕ × String Global) → List (List ℕ) → Type 0
+AreFlags n [] names = names ≡ []
+AreFlags n (value ∷ values) names =
+    (HasFlag n value.0 × ((more : List (List ℕ)) × (names ≡ string_bytes value.1 ∷ more)
+    × AreFlags n values more))
+    ⊎ ((HasFlag n value.0 → ⊥) × AreFlags n values names)
+
+-- An enum with `bit_flags` is said as its integer, with the names of all flags that it has.
+pub record FlagsAreSaid (S : List ℕ) (f : ℕ) : Type 0 where
+  pub value :
+      (shape : EnumSchema) (text : List ℕ) → shape.flags ≡ true
+      → leaf_at (number_leaf shape.number) S f ≡ Ok text
+      → (names : List (List ℕ)) × (enum_at shape S f ≡ Ok (text ++ names_text names))
+      × AreFlags (number S f (number_width shape.number)) shape.values.items names
+  pub fault :
+      (shape : EnumSchema) (fault : List ℕ) → shape.flags ≡ true
+      → leaf_at (number_leaf shape.number) S f ≡ Err fault → enum_at shape S f ≡ Err fault
 
 -- ---- structs
 

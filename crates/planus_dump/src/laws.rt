@@ -6,7 +6,7 @@ ghost use Rattle.planus_dump.specs.declared.schemas.Schema as schema;
 ghost use Rattle.planus_read.specs.declared.table_reader.Table as reader;
 ghost use Rattle.planus_dump.specs.AsRead.{ReadingsAreSaid, UnionsAreSaid, UnionVectorsAreSaid};
 ghost use Rattle.planus_dump.specs.AsRead.{FloatsAreSaid, EnumsAreSaid, StructsAreSaid};
-ghost use Rattle.planus_dump.specs.AsRead.{BuffersAreSaid};
+ghost use Rattle.planus_dump.specs.AsRead.{BuffersAreSaid, FlagsAreSaid};
 ghost use Rattle.planus_dump.specs.Laws.{FaultLinesAreTold, PathsHaveNoSpace};
 ghost use Rattle.planus_dump.specs.Laws.{FinishesHaveNoFault, DumpsHaveNoFault};
 
@@ -36,6 +36,11 @@ pub fn readings_are_said()
 /// The same for enums, where `E` is a type of an enum's variants.
 pub fn enums_are_said<E>()
     ensures { (S : List ℕ) (f : ℕ) → EnumsAreSaid E S f }
+{}
+
+/// The same for an enum with `bit_flags`: its number, and the names of exactly the flags that it has.
+pub fn flags_are_said()
+    ensures { (S : List ℕ) (f : ℕ) → FlagsAreSaid S f }
 {}
 
 /// The same for unions and union vectors of any table.
