@@ -1,3 +1,4 @@
+pub mod Included
 pub mod Inked
 pub mod Reported
 pub mod Nearby

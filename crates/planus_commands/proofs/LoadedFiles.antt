@@ -1,14 +1,23 @@
--- A file that is read alone.
-use Rattle.std.proofs.Common.{◌≡◌, ◌≢◌, ◌<◌, ℕ, List, [], ◌∷◌, ◌++◌, length, get_or, refl, sym, subst, ap, ◌∙◌, inl, inr, arith}
-use Rattle.std.specs.Prelude.{Option, Some, None}
+-- Files that are loaded.
+use Rattle.std.proofs.Common.{◌≡◌, ◌<◌, ◌≤◌, ◌+◌, ◌-◌, ℕ, List, [], ◌∷◌, ◌++◌, length, drop, get_or, refl, sym, ap, subst, ◌∙◌, inl, inr, arith}
+use Rattle.std.specs.Prelude.{zero, suc, max, codes, Bool, true, false, Option, Some, None, Result, Ok, Err, IfOk, if◌then◌else◌}
 use Rattle.std.specs.Global.{Vec}
+use Rattle.std.specs.Str.{IsUtf8, is_utf8}
+use Rattle.std.proofs.Math.Seq.{drop-nil}
+use Rattle.std.proofs.lemmas.Str.{is_utf8-from_IsUtf8, IsUtf8-from_is_utf8}
 use Rattle.std.specs.Io.KnownBytes.{Appends, Keeps}
 use Rattle.planus_syntax.specs.declared.value.Declaration.{Declaration}
-use Rattle.planus_syntax.specs.declared.value.Item.TheVariants.{Include}
+use Rattle.planus_syntax.specs.declared.value.Item.{Item}
+use Rattle.planus_syntax.specs.declared.value.Item.TheVariants as item
+use Rattle.planus_layout.specs.declared.schema.Schema.{Schema}
 use Rattle.planus_commands.specs.declared.checking.File.{File}
+use Rattle.planus_commands.specs.declared.sources.Sources.{Sources}
+use Rattle.planus_commands.specs.declared.streams.RunError.{RunError}
 use Rattle.planus_commands.specs.Checks.{ResolvesFiles}
-use Rattle.planus_commands.specs.Files.{HasNoInclude}
-use Rattle.planus_commands.specs.Sources.{LoadsFile, HasNoSchema}
+use Rattle.planus_commands.specs.Files.{AreRead, EndsWith}
+use Rattle.planus_commands.specs.Including.{text_or_empty}
+use Rattle.planus_commands.specs.Loading.{Disk, Step, Refuses, Includes, IncludesItem, IncludesAll, IfBegun, Once, LoadsBy, Loads, enter}
+use Rattle.planus_commands.specs.Sources.{AreNone, AreLoaded, MeansAll, most_includes}
 
 pub kept_appends : (a b c : Option (List ℕ)) (bs : List ℕ) → Keeps a b → Appends b c bs → Appends a c bs
 kept_appends None b c bs p q = tt
@@ -16,42 +25,109 @@ kept_appends (Some x) None c bs p q = absurd p
 kept_appends (Some x) (Some y) None bs p q = absurd q
 kept_appends (Some x) (Some y) (Some z) bs p q = q ∙ ap (λ old. old ++ bs) p
 
-pub no_include : (ds xs : List Declaration) (i : ℕ) (d : Declaration) (path : Vec ℕ) → xs ≡ ds → HasNoInclude ds
-    → i < length xs → d ≡ get_or xs i d → d.item ≡ Include path → ⊥
-no_include ds xs i d path same none within at is =
-    let all = subst HasNoInclude (sym same) none in
-    all i d within path (subst (λ e. e.item ≡ Include path) at is)
+-- of a value more is known
+pub if_ok : {A E : Type 0} {P Q : A → Type 0} (r : Result A E) → ((a : A) → P a → Q a) → IfOk r P → IfOk r Q
+if_ok (Ok a) more holds = more a holds
+if_ok (Err e) more holds = tt
 
-pub refused : (Holds : List ℕ → List ℕ → Type 0) (name : List ℕ) (status : ℕ) (old new : List File)
-    (before after : List (Vec Declaration)) (unsaid said : Option (List ℕ))
-    → LoadsFile Holds name status old new before after unsaid said → status ≢ 0 → HasNoSchema Holds name status unsaid said
-refused Holds name status old new before after unsaid said (inl fails) some = inl fails
-refused Holds name status old new before after unsaid said (inr adds) some = inr (record {
-  source = adds.source;
-  is = adds.is;
-  alone = λ none. absurd (some (adds.alone none).0);
-})
+pub never_clean : {E : Type 0} (P : Type 0) (r : Result ℕ E) → IfOk r (λ status. status ≡ 1) → IfOk r (λ status. status ≡ 0 → P)
+never_clean P r = if_ok r (λ status one zero. absurd (omega (arith, one, zero)))
 
-told_before : (files : List File) (ds : List (Vec Declaration)) (a b c : Option (List ℕ)) → Keeps a b
-    → ResolvesFiles files ds None b c → ResolvesFiles files ds None a c
-told_before files ds a b c kept (faults, told, (out, reports, added)) = (faults, told, (out, reports, kept_appends a b c out kept added))
+pub too_deep : (disk : Disk) (left : ℕ) (name : List ℕ) (Otherwise : Step) (old new : Sources)
+    (unsaid said : Option (List ℕ)) (status : ℕ) → left ≡ 0 → Otherwise old unsaid status new said
+    → enter disk left Otherwise name old unsaid status new said
+unfolding enter
+too_deep disk zero name Otherwise old new unsaid said status none refuses = refuses
+too_deep disk (suc left) name Otherwise old new unsaid said status none refuses = absurd (omega (arith, none))
 
-pub meaningless : (Holds : List ℕ → List ℕ → Type 0) (name : List ℕ) (status : ℕ) (old new : List File)
-    (before after : List (Vec Declaration)) (unsaid mid said : Option (List ℕ))
-    → LoadsFile Holds name status old new before after unsaid mid → status ≡ 0 → old ≡ [] → before ≡ []
-    → (status ≡ 0 → Keeps unsaid mid) → ResolvesFiles new after None mid said → HasNoSchema Holds name 1 unsaid said
-meaningless Holds name status old new before after unsaid mid said (inl (inl (two, unread))) clean o b kept resolves = absurd (omega (arith, two, clean))
-meaningless Holds name status old new before after unsaid mid said (inl (inr (one, reports))) clean o b kept resolves = absurd (omega (arith, one, clean))
-meaningless Holds name status old new before after unsaid mid said (inr adds) clean o b kept resolves = inr (record {
-  source = adds.source;
-  is = adds.is;
-  alone = λ none.
-      let file = adds.source.file in
-      let ds = adds.source.declarations in
-      let files = (adds.alone none).1 ∙ ap (λ fs. fs ++ file ∷ []) o in
-      let all = (adds.alone none).2 ∙ ap (λ xs. xs ++ ds ∷ []) b in (
-        refl,
-        told_before (file ∷ []) (ds ∷ []) unsaid mid said (kept clean)
-            (subst (λ xs. ResolvesFiles (file ∷ []) xs None mid said) all (subst (λ fs. ResolvesFiles fs after None mid said) files resolves)),
-      );
-})
+pub entered : (disk : Disk) (left : ℕ) (name : List ℕ) (Otherwise : Step) (old new : Sources)
+    (unsaid said : Option (List ℕ)) (status : ℕ) → ¬ (left ≡ 0) → Once (Loads disk (left - 1)) name old unsaid status new said
+    → enter disk left Otherwise name old unsaid status new said
+unfolding enter
+entered disk zero name Otherwise old new unsaid said status some loads = absurd (some refl)
+entered disk (suc left) name Otherwise old new unsaid said status some loads =
+    let one : suc left - 1 ≡ left = omega arith in
+    subst (λ n. Once (Loads disk n) name old unsaid status new said) one loads
+
+pub not_begun : (Load : Step) (begun : Bool) (old new : Sources) (unsaid said : Option (List ℕ)) (status : ℕ)
+    → begun ≡ false → Load old unsaid status new said → IfBegun begun Load old unsaid status new said
+not_begun Load false old new unsaid said status none loads = loads
+not_begun Load true old new unsaid said status none loads = absurd (let some : true ≡ false = none in cc)
+
+pub nothing_included : (Include : ℕ → List ℕ → Step) (left : ℕ) (x : Item) (worst : ℕ) (old : Sources) (unsaid : Option (List ℕ))
+    → ((path : Vec ℕ) → x ≡ item.Include path → ⊥) → IncludesItem Include left x worst old unsaid worst old unsaid
+nothing_included Include left (item.Include path) worst old unsaid other = absurd (other path refl)
+nothing_included Include left (item.NativeInclude path) worst old unsaid other = (refl, refl, refl)
+nothing_included Include left (item.Namespace path) worst old unsaid other = (refl, refl, refl)
+nothing_included Include left (item.Attribute label) worst old unsaid other = (refl, refl, refl)
+nothing_included Include left (item.Table record_) worst old unsaid other = (refl, refl, refl)
+nothing_included Include left (item.Struct record_) worst old unsaid other = (refl, refl, refl)
+nothing_included Include left (item.Enum enumeration) worst old unsaid other = (refl, refl, refl)
+nothing_included Include left (item.Union body) worst old unsaid other = (refl, refl, refl)
+nothing_included Include left (item.Service service) worst old unsaid other = (refl, refl, refl)
+nothing_included Include left (item.RootType path) worst old unsaid other = (refl, refl, refl)
+nothing_included Include left (item.FileIdentifier text) worst old unsaid other = (refl, refl, refl)
+nothing_included Include left (item.FileExtension text) worst old unsaid other = (refl, refl, refl)
+
+pub one_included : (Include : ℕ → List ℕ → Step) (left : ℕ) (x : Item) (path : Vec ℕ) (worst one status : ℕ) (old new : Sources)
+    (unsaid said : Option (List ℕ)) → x ≡ item.Include path → Include left path.items old unsaid one new said → status ≡ max worst one
+    → IncludesItem Include left x worst old unsaid status new said
+one_included Include left x path worst one status old new unsaid said is includes worse =
+    subst (λ y. IncludesItem Include left y worst old unsaid status new said) (sym is) (one, includes, worse)
+
+-- what is left to include is one declaration and those after it
+pub next_included : (Include : ℕ → List ℕ → Step) (ds : List Declaration) (i : ℕ) (d any : Declaration) (worst mid : ℕ) (old between : Sources)
+    (unsaid told : Option (List ℕ)) → i < length ds → d ≡ get_or ds i any
+    → IncludesItem Include d.left d.item worst old unsaid mid between told
+    → (status : ℕ) (new : Sources) (said : Option (List ℕ)) → IncludesAll Include (drop (i + 1) ds) mid between told status new said
+    → IncludesAll Include (drop i ds) worst old unsaid status new said
+next_included Include [] i d any worst mid old between unsaid told within at one status new said rest = absurd (omega (arith, within))
+next_included Include (e ∷ es) zero d any worst mid old between unsaid told within at one status new said rest =
+    (mid, between, told, subst (λ (x : Declaration). IncludesItem Include x.left x.item worst old unsaid mid between told) at one, rest)
+next_included Include (e ∷ es) (suc i) d any worst mid old between unsaid told within at one status new said rest =
+    let one_more : suc i + 1 ≡ suc (i + 1) = omega arith in
+    next_included Include es i d any worst mid old between unsaid told (omega (arith, within)) at one status new said
+    (subst (λ n. IncludesAll Include (drop n (e ∷ es)) mid between told status new said) one_more rest)
+
+-- nothing is left to include
+pub all_included : (Include : ℕ → List ℕ → Step) (ds : List Declaration) (i : ℕ) (worst : ℕ) (old : Sources) (unsaid : Option (List ℕ))
+    → length ds ≤ i → IncludesAll Include (drop i ds) worst old unsaid worst old unsaid
+all_included Include [] i worst old unsaid end = subst (λ xs. IncludesAll Include xs worst old unsaid worst old unsaid) (sym (drop-nil i)) (refl, refl, refl)
+all_included Include (d ∷ ds) zero worst old unsaid end = absurd (omega (arith, end))
+all_included Include (d ∷ ds) (suc i) worst old unsaid end = all_included Include ds i worst old unsaid (omega (arith, end))
+
+pub are_loaded : (disk : Disk) (name : List ℕ) (none sources : Sources) (unsaid told : Option (List ℕ)) (status : ℕ) → AreNone none
+    → status ≡ 0 → Loads disk most_includes name none unsaid status sources told
+    → AreRead disk.Holds sources.files.items sources.declarations.items → (status ≡ 0 → EndsWith sources.files.items name)
+    → (status ≡ 0 → Keeps unsaid told) → AreLoaded disk name unsaid sources told
+are_loaded disk name none sources unsaid told status are clean loads read last kept = record {
+  loads = record {
+    none = none;
+    are = are;
+    loads = subst (λ s. Loads disk most_includes name none unsaid s sources told) clean loads;
+  };
+  read = read;
+  last = last clean;
+  kept = kept clean;
+}
+
+-- what files mean that are held in vectors
+pub means_all : (disk : Disk) (name : List ℕ) (sources : Sources) (unsaid told said : Option (List ℕ)) (found : Option Schema)
+    (files : List File) (declarations : List (Vec Declaration)) → AreLoaded disk name unsaid sources told
+    → files ≡ sources.files.items → declarations ≡ sources.declarations.items → ResolvesFiles files declarations found told said
+    → MeansAll disk name found unsaid said
+means_all disk name sources unsaid told said found files declarations loaded f d resolves = record {
+  sources = sources;
+  told = told;
+  loaded = loaded;
+  means = subst (λ ds. ResolvesFiles sources.files.items ds found told said) d (subst (λ fs. ResolvesFiles fs declarations found told said) f resolves);
+}
+
+pub text_is : (text bytes : List ℕ) → text ≡ bytes → IsUtf8 bytes → text ≡ text_or_empty bytes
+text_is text bytes same utf8 = same ∙ sym (ap (λ is. if is then bytes else []) (is_utf8-from_IsUtf8 bytes utf8))
+
+pub no_text_is : (bytes : List ℕ) → ¬ IsUtf8 bytes → [] ≡ text_or_empty bytes
+no_text_is bytes none = go (is_utf8 bytes) refl where
+  go : (is : Bool) → is_utf8 bytes ≡ is → [] ≡ (if is then bytes else [])
+  go true p = absurd (none (IsUtf8-from_is_utf8 bytes p))
+  go false p = refl

@@ -14,7 +14,7 @@ use Rattle.planus_commands.specs.declared.checking.File.{File}
 use Rattle.planus_commands.specs.Outcomes.{HasTokens, IsSpelled}
 use Rattle.planus_commands.specs.Checks.{AreSpelled}
 use Rattle.planus_commands.specs.Files.{AreRead, IsTextOf}
-use Rattle.planus_commands.specs.Sources.{IsSource}
+use Rattle.planus_commands.specs.Loading.{IsSource}
 use Rattle.planus_commands.specs.declared.sources.Source.{Source}
 use Rattle.std.specs.String.{string_bytes}
 use Rattle.std.proofs.lemmas.List.Elements.{All-append}

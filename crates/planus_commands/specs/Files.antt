@@ -1,5 +1,5 @@
 -- What the files of a schema hold, and what they mean.
-use Rattle.std.specs.Prelude.{◌≡◌, ◌⊎◌, ℕ, List, [], ◌∷◌, ◌++◌, Option, Some, None}
+use Rattle.std.specs.Prelude.{◌≡◌, ◌⊎◌, ℕ, Bool, List, [], ◌∷◌, ◌++◌, Option, Some, None}
 use Rattle.std.specs.Prelude.{if◌then◌else◌, codes}
 use Rattle.std.specs.Io.KnownBytes.{Appends}
 use Rattle.std.specs.Global.{Vec}
@@ -14,11 +14,14 @@ use Rattle.planus_syntax.specs.declared.value.Item.TheVariants.{Include}
 use Rattle.planus_commands.specs.Outcomes.{Reports, line_of}
 use Rattle.planus_commands.specs.Checks.{AreSpelled, ResolvesFiles}
 
+abbrev pub is_named : List ℕ → File → Bool
+is_named name file = bytes_eq (string_bytes file.name) name
+
 -- the text of the first file of this name
 abbrev pub text_named : List File → List ℕ → Option (List ℕ)
 text_named [] name = None
 text_named (f ∷ fs) name =
-    if bytes_eq (string_bytes f.name) name then Some f.text.items else text_named fs name
+    if is_named name f then Some f.text.items else text_named fs name
 
 -- the text of a schema: its file's bytes after a byte order mark
 pub record IsTextOf (Holds : List ℕ → List ℕ → Type 0) (name text : List ℕ) : Type 0 where
@@ -43,16 +46,6 @@ pub record EndsWith (files : List File) (name : List ℕ) : Type 0 where
   pub are : files ≡ before ++ file ∷ []
   pub named : string_bytes file.name ≡ name
 
--- The named file was read, after others, and what they all spell means this schema. Nothing was
--- reported.
-pub record MeansFile (Holds : List ℕ → List ℕ → Type 0) (name : List ℕ) (schema : Schema)
-    (unsaid said : Option (List ℕ)) : Type 0 where
-  pub files : List File
-  pub declarations : List (Vec Declaration)
-  pub read : AreRead Holds files declarations
-  pub last : EndsWith files name
-  pub means : ResolvesFiles files declarations (Some schema) unsaid said
-
 -- The file can't be read, or is too long, and this was said.
 abbrev pub SaysUnread : List ℕ → Option (List ℕ) → Option (List ℕ) → Type 0
 SaysUnread name unsaid said = Appends unsaid said (line_of (codes "can't read ") name [])
@@ -72,6 +65,3 @@ abbrev pub FailsReading : (List ℕ → List ℕ → Type 0) → List ℕ → �
     → Option (List ℕ) → Type 0
 FailsReading Holds name status unsaid said = ((status ≡ 2) × SaysUnread name unsaid said)
     ⊎ ((status ≡ 1) × ReportsFile Holds name unsaid said)
-
-abbrev pub HasNoInclude : List Declaration → Type 0
-HasNoInclude declarations = All (λ d. (path : Vec ℕ) → ¬ (d.item ≡ Include path)) declarations

@@ -6,6 +6,8 @@ pub mod Outcomes
 pub mod Problems
 pub mod Checks
 pub mod Files
+pub mod Including
+pub mod Loading
 pub mod Sources
 pub mod Rewriting
 pub mod Near

@@ -1,53 +1,58 @@
--- A file that was read.
-use Rattle.std.specs.Prelude.{◌≡◌, ◌⊎◌, ℕ, List, [], ◌∷◌, ◌++◌, Option, None}
-use Rattle.std.specs.Global.{Vec}
-use Rattle.planus_syntax.specs.declared.value.Declaration.{Declaration}
-use Rattle.planus_commands.specs.declared.checking.File.{File}
-use Rattle.planus_commands.specs.Checks.{ResolvesFiles}
-use Rattle.std.specs.String.{string_bytes}
+-- What becomes of a file with all that it includes.
+use Rattle.std.specs.Prelude.{◌≡◌, ◌≢◌, ◌⊎◌, ℕ, List, [], Option, Some, None}
+use Rattle.std.specs.Io.KnownBytes.{Keeps}
 use Rattle.planus_layout.specs.declared.schema.Schema.{Schema}
-use Rattle.planus_commands.specs.declared.sources.Source.{Source}
-use Rattle.planus_commands.specs.Outcomes.{IsSpelled}
-use Rattle.planus_commands.specs.Files.{IsTextOf, MeansFile, FailsReading, HasNoInclude}
+use Rattle.planus_commands.specs.declared.sources.Sources.{Sources}
+use Rattle.planus_commands.specs.Checks.{ResolvesFiles}
+use Rattle.planus_commands.specs.Files.{AreRead, EndsWith}
+use Rattle.planus_commands.specs.Loading.{Disk, Loads}
 
--- It has this name, the text of that name, and what the text spells.
-pub record IsSource (Holds : List ℕ → List ℕ → Type 0) (name : List ℕ) (source : Source)
-    : Type 0 where
-  pub named : string_bytes source.file.name ≡ name
-  pub text : IsTextOf Holds name source.file.text.items
-  pub spelled : IsSpelled source.file.text.items source.declarations.items
+-- how many more files may include one another
+unfoldable pub most_includes : ℕ
+most_includes = 63
 
--- The file was read; if it includes none, it was added and nothing else was done.
-pub record AddsFile (Holds : List ℕ → List ℕ → Type 0) (name : List ℕ) (status : ℕ)
-    (old new : List File) (before after : List (Vec Declaration)) : Type 0 where
-  pub source : Source
-  pub is : IsSource Holds name source
-  pub alone : HasNoInclude source.declarations.items → (status ≡ 0)
-      × (new ≡ old ++ source.file ∷ []) × (after ≡ before ++ source.declarations ∷ [])
+pub record AreNone (sources : Sources) : Type 0 where
+  pub begun : sources.begun.items ≡ []
+  pub files : sources.files.items ≡ []
+  pub declarations : sources.declarations.items ≡ []
 
--- The file failed to be read, or was added.
-abbrev pub LoadsFile : (List ℕ → List ℕ → Type 0) → List ℕ → ℕ → List File → List File
-    → List (Vec Declaration) → List (Vec Declaration) → Option (List ℕ) → Option (List ℕ) → Type 0
-LoadsFile Holds name status old new before after unsaid said =
-    FailsReading Holds name status unsaid said ⊎ AddsFile Holds name status old new before after
+-- A file and all that it includes were loaded, with this status.
+pub record LoadsAll (disk : Disk) (name : List ℕ) (unsaid : Option (List ℕ)) (status : ℕ)
+    (sources : Sources) (said : Option (List ℕ)) : Type 0 where
+  pub none : Sources
+  pub are : AreNone none
+  pub loads : Loads disk most_includes name none unsaid status sources said
 
--- The file was read. If it includes none, the faults of what it means were reported, with status 1.
-pub record FailsMeaning (Holds : List ℕ → List ℕ → Type 0) (name : List ℕ) (status : ℕ)
+-- The files were loaded, the named one last, and nothing was reported.
+pub record AreLoaded (disk : Disk) (name : List ℕ) (unsaid : Option (List ℕ)) (sources : Sources)
+    (said : Option (List ℕ)) : Type 0 where
+  pub loads : LoadsAll disk name unsaid 0 sources said
+  pub read : AreRead disk.Holds sources.files.items sources.declarations.items
+  pub last : EndsWith sources.files.items name
+  pub kept : Keeps unsaid said
+
+-- What the files spell means this schema, or else their faults were reported.
+pub record MeansAll (disk : Disk) (name : List ℕ) (found : Option Schema)
     (unsaid said : Option (List ℕ)) : Type 0 where
-  pub source : Source
-  pub is : IsSource Holds name source
-  pub alone : HasNoInclude source.declarations.items → (status ≡ 1)
-      × ResolvesFiles (source.file ∷ []) (source.declarations ∷ []) None unsaid said
+  pub sources : Sources
+  pub told : Option (List ℕ)
+  pub loaded : AreLoaded disk name unsaid sources told
+  pub means : ResolvesFiles sources.files.items sources.declarations.items found told said
+
+-- Files weren't loaded, which was reported with this status.
+pub record FailsLoading (disk : Disk) (name : List ℕ) (status : ℕ) (unsaid said : Option (List ℕ))
+    : Type 0 where
+  pub fails : status ≢ 0
+  pub sources : Sources
+  pub loads : LoadsAll disk name unsaid status sources said
 
 -- why a file, with those that it includes, has no schema, and what was reported
-abbrev pub HasNoSchema : (List ℕ → List ℕ → Type 0) → List ℕ → ℕ → Option (List ℕ)
-    → Option (List ℕ) → Type 0
-HasNoSchema Holds name status unsaid said =
-    FailsReading Holds name status unsaid said ⊎ FailsMeaning Holds name status unsaid said
+abbrev pub HasNoSchema : Disk → List ℕ → ℕ → Option (List ℕ) → Option (List ℕ) → Type 0
+HasNoSchema disk name status unsaid said = FailsLoading disk name status unsaid said
+    ⊎ ((status ≡ 1) × MeansAll disk name None unsaid said)
 
 -- what `check` does with a file, by its status
-abbrev pub ChecksFile : (List ℕ → List ℕ → Type 0) → List ℕ → ℕ → Option (List ℕ)
-    → Option (List ℕ) → Type 0
-ChecksFile Holds name status unsaid said =
-    ((status ≡ 0) × ((schema : Schema) × MeansFile Holds name schema unsaid said))
-    ⊎ HasNoSchema Holds name status unsaid said
+abbrev pub ChecksFile : Disk → List ℕ → ℕ → Option (List ℕ) → Option (List ℕ) → Type 0
+ChecksFile disk name status unsaid said =
+    ((status ≡ 0) × ((schema : Schema) × MeansAll disk name (Some schema) unsaid said))
+    ⊎ HasNoSchema disk name status unsaid said

@@ -1,6 +1,6 @@
 //! Where files are read.
 
-ghost use Rattle.std.specs.Prelude.{◌≤◌, ℕ, List, length, IfOk};
+ghost use Rattle.std.specs.Prelude.{◌≤◌, ℕ, List, Bool, length, IfOk};
 ghost use Rattle.planus_commands.specs.Outcomes.{greatest_text};
 
 use crate::checking::File;
@@ -14,6 +14,9 @@ pub trait Files {
     // that the file of a name has these bytes
     ghost holds: { Self → List ℕ → List ℕ → Type 0 };
 
+    // that there is a file of a name, or that there is none
+    ghost there: { Self → List ℕ → Bool → Type 0 };
+
     /// Returns the bytes of a file, of one that is longer than [`GREATEST_TEXT`] at least one more.
     ///
     /// [`GREATEST_TEXT`]: crate::streams::GREATEST_TEXT
@@ -22,7 +25,8 @@ pub trait Files {
             → Self.holds self.now name.now bytes.items) };
 
     /// Returns whether there is a file of this name.
-    fn is_there(&self, name: &str) -> bool;
+    fn is_there(&self, name: &str) -> bool
+        ensures { Self.there self.now name.now result };
 }
 
 /// The files of the system, and standard input under the name `-`. No clause says what they hold.
@@ -33,6 +37,8 @@ pub struct HostFiles<'a> {
 
 impl Files for HostFiles<'_> {
     ghost holds = { λ _ _ _. Unit {0} };
+
+    ghost there = { λ _ _ _. Unit {0} };
 
     fn read(&self, alloc: Global, name: &str) -> Result<Vec<u8>, RunError> {
         if name == "-" {
@@ -57,9 +63,12 @@ pub struct GivenFiles<'a> {
 
 impl Files for GivenFiles<'_> {
     ghost use Rattle.std.specs.Prelude.{◌≡◌, Some};
-    ghost use Rattle.planus_commands.specs.Files.{text_named};
+    ghost use Rattle.std.specs.List.{list_any};
+    ghost use Rattle.planus_commands.specs.Files.{is_named, text_named};
 
     ghost holds = { λ given name bytes. text_named given.files.now name ≡ Some bytes };
+
+    ghost there = { λ given name answer. answer ≡ list_any (is_named name) given.files.now };
 
     fn read(&self, alloc: Global, name: &str) -> Result<Vec<u8>, RunError> {
         'files: for file in self.files {

@@ -1,11 +1,18 @@
 //! The files of a schema: each is read once, after its includes.
 
-ghost use Rattle.std.specs.Prelude.{◌≡◌, ◌≢◌, ◌<◌, ◌++◌, ◌∷◌, [], IfOk, IfErr, IfNone, IfSome, OnOk};
+ghost use Rattle.std.specs.Prelude.{◌≡◌, ◌≢◌, ◌<◌, ◌++◌, ◌∷◌, [], IfOk, IfErr, IfNone, IfSome};
+ghost use Rattle.std.specs.Prelude.{OnOk, Some, None, map};
+ghost use Rattle.std.specs.Option.{option_map};
 ghost use Rattle.std.specs.String.{string_bytes};
 ghost use Rattle.planus_commands.specs.Outcomes.{HasTokens, IsSpelled};
-ghost use Rattle.planus_commands.specs.Files.{AreRead, EndsWith, IsTextOf, MeansFile};
-ghost use Rattle.planus_commands.specs.Files.{SaysUnread, FailsReading, HasNoInclude};
-ghost use Rattle.planus_commands.specs.Sources.{IsSource, LoadsFile, HasNoSchema, ChecksFile};
+ghost use Rattle.planus_commands.specs.Files.{AreRead, EndsWith, IsTextOf};
+ghost use Rattle.planus_commands.specs.Files.{SaysUnread, FailsReading};
+ghost use Rattle.planus_commands.specs.Including.{IsFirstThere, tried, path_of};
+ghost use Rattle.planus_commands.specs.Including.{text_or_empty as text_or_empty_lem};
+ghost use Rattle.planus_commands.specs.Loading.{disk_of, enter, IsSource, Begins, Adds, Once};
+ghost use Rattle.planus_commands.specs.Loading.{has_begun as has_begun_lem};
+ghost use Rattle.planus_commands.specs.Loading.{LoadsBy, Loads, Includes, IncludesAll, Refuses};
+ghost use Rattle.planus_commands.specs.Sources.{HasNoSchema, ChecksFile, MeansAll};
 ghost use Rattle.std.specs.Io.KnownBytes.{Keeps};
 
 use crate::checking::{File, resolve_or_report};
@@ -38,19 +45,21 @@ struct Sources {
 }
 
 impl Sources {
+    fn has_begun(&self, name: &str) -> bool
+        ensures { result ≡ has_begun_lem name.now self.now }
+    {
+        file_index(&self.begun, name.as_bytes()).is_some()
+    }
+
     fn begin(&mut self, alloc: Global, name: &str) -> Result<(), AllocError>
-        ensures files { self.new.files ≡ self.old.files }
-        ensures declarations { self.new.declarations ≡ self.old.declarations }
+        ensures { OnOk result (Begins name.now self.old self.new) }
     {
         self.begun.push(Vec::from_slice(alloc, name.as_bytes())?)?;
         Ok(())
     }
 
     fn add(&mut self, source: Source) -> Result<(), AllocError>
-        ensures files { OnOk result (self.new.files.items
-            ≡ self.old.files.items ++ source.file ∷ []) }
-        ensures declarations { OnOk result (self.new.declarations.items
-            ≡ self.old.declarations.items ++ source.declarations ∷ []) }
+        ensures { OnOk result (Adds source self.old self.new) }
     {
         self.files.push(source.file)?;
         self.declarations.push(source.declarations)?;
@@ -117,12 +126,16 @@ fn included<F: Files>(
     folders: &[&str],
     name: &str,
     path: &str,
-) -> Result<Option<String>, AllocError> {
+) -> Result<Option<String>, AllocError>
+    ensures { IfOk result (λ found. IsFirstThere (F.there files.now)
+        (tried (map (λ folder. folder.now) folders.now) name.now path.now)
+        (option_map string_bytes found)) }
+{
     let beside = file_beside(alloc, name, path)?;
     if files.is_there(beside.as_str()) {
         return Ok(Some(beside));
     }
-    for folder in folders {
+    'folders: for folder in folders {
         let found = file_in(alloc, *folder, path)?;
         if files.is_there(found.as_str()) {
             return Ok(Some(found));
@@ -131,32 +144,48 @@ fn included<F: Files>(
     Ok(None)
 }
 
-/// Returns the name of an included file, or reports why it isn't read.
-fn included_or_report<F: Files, X: Write>(
+/// Returns bytes as a text, or the empty one where they aren't UTF-8.
+fn text_or_empty(bytes: &[u8]) -> &str
+    ensures { result.now ≡ text_or_empty_lem bytes.now }
+{
+    match std::str::from_utf8(bytes) {
+        Ok(text) => text,
+        Err(_) => "",
+    }
+}
+
+/// Returns the name of the file that a string names, if there is one.
+fn included_by<F: Files>(
     files: &F,
     alloc: Global,
     folders: &[&str],
-    left: usize,
     file: &File,
-    path: &[u8],
-    place: usize,
-    errors: &mut X,
-) -> Result<Option<String>, RunError>
-    requires { HasTokens file.now.text.items }
-    ensures left { IfOk result (λ found. IfSome found (λ _. 0 < left)) }
-    ensures kept { IfOk result (λ found. IfSome found (λ _.
-        Keeps (X.contents errors.old) (X.contents errors.new))) }
+    string: &[u8],
+) -> Result<Option<String>, AllocError>
+    ensures { IfOk result (λ found. IsFirstThere (F.there files.now)
+        (tried (map (λ folder. folder.now) folders.now) (string_bytes file.now.name)
+        (path_of string.now)) (option_map string_bytes found)) }
 {
-    let text = string_text(alloc, path)?;
-    let path = std::str::from_utf8(&text).unwrap_or("");
-    let message = match included(files, alloc, folders, file.name.as_str(), path)? {
-        Some(name) if left > 0 => return Ok(Some(name)),
-        Some(_) => b"more than 64 files include one another".as_slice(),
-        None => b"the included file can't be found",
-    };
-    let report = placed_report(alloc, file.name.as_str(), &file.text, place, message)?;
+    let text = string_text(alloc, string)?;
+    included(files, alloc, folders, file.name.as_str(), text_or_empty(&text))
+}
+
+/// Reports a fault at an `include`. Returns the exit status.
+fn refuse<X: Write>(
+    alloc: Global,
+    file: &File,
+    left: usize,
+    message: &[u8],
+    errors: &mut X,
+) -> Result<u8, RunError>
+    requires { HasTokens file.now.text.items }
+    ensures told { IfOk result (λ status. (sources : Sources) → Refuses message.now file.now left
+        sources (X.contents errors.old) status sources (X.contents errors.new)) }
+    ensures status { IfOk result (λ status. status ≡ 1) }
+{
+    let report = placed_report(alloc, file.name.as_str(), &file.text, left, message)?;
     write_out(errors, &report)?;
-    Ok(None)
+    Ok(FAULTY)
 }
 
 /// Returns a file, or reports what is wrong and returns the exit status.
@@ -190,7 +219,7 @@ fn read_file<F: Files, X: Write>(
     }
 }
 
-/// Reads a file, if it isn't begun, and at most `left` more that include one another.
+/// Loads a file, if it isn't begun, and at most `left` more that include one another.
 #[cycle(load)]
 fn load<F: Files, X: Write>(
     files: &F,
@@ -206,8 +235,11 @@ fn load<F: Files, X: Write>(
         (AreRead (F.holds files.now) sources.new.files.items sources.new.declarations.items) }
     ensures kept { IfOk result (λ status. status ≡ 0
         → Keeps (X.contents errors.old) (X.contents errors.new)) }
+    ensures loads { IfOk result (λ status.
+        Once (Loads (disk_of (F.holds files.now) (F.there files.now) folders.now) left) name.now
+        sources.old (X.contents errors.old) status sources.new (X.contents errors.new)) }
 {
-    if file_index(&sources.begun, name.as_bytes()).is_some() {
+    if sources.has_begun(name) {
         return Ok(CLEAN);
     }
     load_file(files, alloc, folders, left, name, sources, errors)
@@ -228,12 +260,11 @@ fn load_file<F: Files, X: Write>(
         (AreRead (F.holds files.now) sources.new.files.items sources.new.declarations.items) }
     ensures last { IfOk result (λ status. status ≡ 0
         → EndsWith sources.new.files.items name.now) }
-    ensures loads { IfOk result (λ status. LoadsFile (F.holds files.now) name.now status
-        sources.old.files.items sources.new.files.items
-        sources.old.declarations.items sources.new.declarations.items
-        (X.contents errors.old) (X.contents errors.new)) }
     ensures kept { IfOk result (λ status. status ≡ 0
         → Keeps (X.contents errors.old) (X.contents errors.new)) }
+    ensures loads { IfOk result (λ status.
+        Loads (disk_of (F.holds files.now) (F.there files.now) folders.now) left name.now
+        sources.old (X.contents errors.old) status sources.new (X.contents errors.new)) }
 {
     sources.begin(alloc, name)?;
     match read_file(files, alloc, name, errors)? {
@@ -246,6 +277,7 @@ fn load_file<F: Files, X: Write>(
     }
 }
 
+/// Loads what a file includes. Returns the worst status.
 #[cycle(load)]
 fn load_includes<F: Files, X: Write>(
     files: &F,
@@ -259,37 +291,75 @@ fn load_includes<F: Files, X: Write>(
     requires are { AreRead (F.holds files.now)
         sources.old.files.items sources.old.declarations.items }
     requires is { IsSpelled source.now.file.text.items source.now.declarations.items }
-    ensures alone { IfOk result (λ status. HasNoInclude source.now.declarations.items
-        → (status ≡ 0) × (sources.new ≡ sources.old)) }
     ensures read { OnOk result
         (AreRead (F.holds files.now) sources.new.files.items sources.new.declarations.items) }
     ensures kept { IfOk result (λ status. status ≡ 0
         → Keeps (X.contents errors.old) (X.contents errors.new)) }
+    ensures loads { IfOk result (λ status. IncludesAll
+        (Includes (disk_of (F.holds files.now) (F.there files.now) folders.now)
+        (enter (disk_of (F.holds files.now) (F.there files.now) folders.now) left)
+        source.now.file) source.now.declarations.items 0
+        sources.old (X.contents errors.old) status sources.new (X.contents errors.new)) }
 {
     let mut worst = CLEAN;
-    let file = &source.file;
-    for declaration in &source.declarations {
+    'declarations: for declaration in &source.declarations {
         if let Item::Include(path) = &declaration.item {
             let at = declaration.left;
-            let found = included_or_report(files, alloc, folders, left, file, path, at, errors)?;
-            let status = match found {
-                Some(name) => {
-                    load(
-                        files,
-                        alloc,
-                        folders,
-                        left - 1,
-                        name.as_str(),
-                        sources,
-                        errors,
-                    )?
-                }
-                None => FAULTY,
-            };
-            worst = worst.max(status);
+            let one = include(files, alloc, folders, left, source, at, path, sources, errors)?;
+            worst = worst.max(one);
         }
     }
     Ok(worst)
+}
+
+/// Loads what an `include` names, or reports why it isn't read.
+#[cycle(load)]
+fn include<F: Files, X: Write>(
+    files: &F,
+    alloc: Global,
+    folders: &[&str],
+    left: usize,
+    source: &Source,
+    at: usize,
+    string: &[u8],
+    sources: &mut Sources,
+    errors: &mut X,
+) -> Result<u8, RunError>
+    requires are { AreRead (F.holds files.now)
+        sources.old.files.items sources.old.declarations.items }
+    requires is { IsSpelled source.now.file.text.items source.now.declarations.items }
+    ensures read { OnOk result
+        (AreRead (F.holds files.now) sources.new.files.items sources.new.declarations.items) }
+    ensures kept { IfOk result (λ status. status ≡ 0
+        → Keeps (X.contents errors.old) (X.contents errors.new)) }
+    ensures loads { IfOk result (λ status. Includes
+        (disk_of (F.holds files.now) (F.there files.now) folders.now)
+        (enter (disk_of (F.holds files.now) (F.there files.now) folders.now) left)
+        source.now.file at string.now
+        sources.old (X.contents errors.old) status sources.new (X.contents errors.new)) }
+{
+    let file = &source.file;
+    let Some(name) = included_by(files, alloc, folders, file, string)? else {
+        return refuse(alloc, file, at, b"the included file can't be found", errors);
+    };
+    if left == 0 {
+        return refuse(
+            alloc,
+            file,
+            at,
+            b"more than 64 files include one another",
+            errors,
+        );
+    }
+    load(
+        files,
+        alloc,
+        folders,
+        left - 1,
+        name.as_str(),
+        sources,
+        errors,
+    )
 }
 
 /// Reads a file, under its normal name, and all that it includes. Returns what they mean, or
@@ -302,10 +372,10 @@ pub fn schema_of<F: Files, X: Write>(
     errors: &mut X,
 ) -> Result<Result<Schema, u8>, RunError>
     ensures means { IfOk result (λ found. IfOk found (λ schema.
-        MeansFile (F.holds files.now) name.now schema
-        (X.contents errors.old) (X.contents errors.new))) }
+        MeansAll (disk_of (F.holds files.now) (F.there files.now) folders.now) name.now
+        (Some schema) (X.contents errors.old) (X.contents errors.new))) }
     ensures none { IfOk result (λ found. IfErr found (λ status.
-        HasNoSchema (F.holds files.now) name.now status
+        HasNoSchema (disk_of (F.holds files.now) (F.there files.now) folders.now) name.now status
         (X.contents errors.old) (X.contents errors.new))) }
 {
     let mut sources = Sources {
@@ -339,7 +409,8 @@ pub fn check_file<F: Files, X: Write>(
     name: &str,
     errors: &mut X,
 ) -> Result<u8, RunError>
-    ensures { IfOk result (λ status. ChecksFile (F.holds files.now) name.now status
+    ensures { IfOk result (λ status. ChecksFile
+        (disk_of (F.holds files.now) (F.there files.now) folders.now) name.now status
         (X.contents errors.old) (X.contents errors.new)) }
 {
     match schema_of(files, alloc, folders, name, errors)? {
