@@ -16,7 +16,7 @@ use Rattle.planus_commands.specs.declared.streams.RunError.{RunError}
 use Rattle.planus_commands.specs.Checks.{ResolvesFiles}
 use Rattle.planus_commands.specs.Files.{AreRead, EndsWith}
 use Rattle.planus_commands.specs.Including.{text_or_empty}
-use Rattle.planus_commands.specs.Loading.{Disk, Step, Refuses, Includes, IncludesItem, IncludesAll, IfBegun, Once, LoadsBy, Loads, enter}
+use Rattle.planus_commands.specs.Loading.{Places, Step, Refuses, Includes, IncludesItem, IncludesAll, IfBegun, Once, LoadsBy, Loads, enter}
 use Rattle.planus_commands.specs.Sources.{AreNone, AreLoaded, MeansAll, most_includes}
 
 pub kept_appends : (a b c : Option (List ℕ)) (bs : List ℕ) → Keeps a b → Appends b c bs → Appends a c bs
@@ -33,21 +33,21 @@ if_ok (Err e) more holds = tt
 pub never_clean : {E : Type 0} (P : Type 0) (r : Result ℕ E) → IfOk r (λ status. status ≡ 1) → IfOk r (λ status. status ≡ 0 → P)
 never_clean P r = if_ok r (λ status one zero. absurd (omega (arith, one, zero)))
 
-pub too_deep : (disk : Disk) (left : ℕ) (name : List ℕ) (Otherwise : Step) (old new : Sources)
+pub too_deep : (places : Places) (left : ℕ) (name : List ℕ) (Otherwise : Step) (old new : Sources)
     (unsaid said : Option (List ℕ)) (status : ℕ) → left ≡ 0 → Otherwise old unsaid status new said
-    → enter disk left Otherwise name old unsaid status new said
+    → enter places left Otherwise name old unsaid status new said
 unfolding enter
-too_deep disk zero name Otherwise old new unsaid said status none refuses = refuses
-too_deep disk (suc left) name Otherwise old new unsaid said status none refuses = absurd (omega (arith, none))
+too_deep places zero name Otherwise old new unsaid said status none refuses = refuses
+too_deep places (suc left) name Otherwise old new unsaid said status none refuses = absurd (omega (arith, none))
 
-pub entered : (disk : Disk) (left : ℕ) (name : List ℕ) (Otherwise : Step) (old new : Sources)
-    (unsaid said : Option (List ℕ)) (status : ℕ) → ¬ (left ≡ 0) → Once (Loads disk (left - 1)) name old unsaid status new said
-    → enter disk left Otherwise name old unsaid status new said
+pub entered : (places : Places) (left : ℕ) (name : List ℕ) (Otherwise : Step) (old new : Sources)
+    (unsaid said : Option (List ℕ)) (status : ℕ) → ¬ (left ≡ 0) → Once (Loads places (left - 1)) name old unsaid status new said
+    → enter places left Otherwise name old unsaid status new said
 unfolding enter
-entered disk zero name Otherwise old new unsaid said status some loads = absurd (some refl)
-entered disk (suc left) name Otherwise old new unsaid said status some loads =
+entered places zero name Otherwise old new unsaid said status some loads = absurd (some refl)
+entered places (suc left) name Otherwise old new unsaid said status some loads =
     let one : suc left - 1 ≡ left = omega arith in
-    subst (λ n. Once (Loads disk n) name old unsaid status new said) one loads
+    subst (λ n. Once (Loads places n) name old unsaid status new said) one loads
 
 pub not_begun : (Load : Step) (begun : Bool) (old new : Sources) (unsaid said : Option (List ℕ)) (status : ℕ)
     → begun ≡ false → Load old unsaid status new said → IfBegun begun Load old unsaid status new said
@@ -96,15 +96,15 @@ all_included Include [] i worst old unsaid end = subst (λ xs. IncludesAll Inclu
 all_included Include (d ∷ ds) zero worst old unsaid end = absurd (omega (arith, end))
 all_included Include (d ∷ ds) (suc i) worst old unsaid end = all_included Include ds i worst old unsaid (omega (arith, end))
 
-pub are_loaded : (disk : Disk) (name : List ℕ) (none sources : Sources) (unsaid told : Option (List ℕ)) (status : ℕ) → AreNone none
-    → status ≡ 0 → Loads disk most_includes name none unsaid status sources told
-    → AreRead disk.Holds sources.files.items sources.declarations.items → (status ≡ 0 → EndsWith sources.files.items name)
-    → (status ≡ 0 → Keeps unsaid told) → AreLoaded disk name unsaid sources told
-are_loaded disk name none sources unsaid told status are clean loads read last kept = record {
+pub are_loaded : (places : Places) (name : List ℕ) (none sources : Sources) (unsaid told : Option (List ℕ)) (status : ℕ) → AreNone none
+    → status ≡ 0 → Loads places most_includes name none unsaid status sources told
+    → AreRead places.disk.Holds sources.files.items sources.declarations.items → (status ≡ 0 → EndsWith sources.files.items name)
+    → (status ≡ 0 → Keeps unsaid told) → AreLoaded places name unsaid sources told
+are_loaded places name none sources unsaid told status are clean loads read last kept = record {
   loads = record {
     none = none;
     are = are;
-    loads = subst (λ s. Loads disk most_includes name none unsaid s sources told) clean loads;
+    loads = subst (λ s. Loads places most_includes name none unsaid s sources told) clean loads;
   };
   read = read;
   last = last clean;
@@ -112,11 +112,11 @@ are_loaded disk name none sources unsaid told status are clean loads read last k
 }
 
 -- what files mean that are held in vectors
-pub means_all : (disk : Disk) (name : List ℕ) (sources : Sources) (unsaid told said : Option (List ℕ)) (found : Option Schema)
-    (files : List File) (declarations : List (Vec Declaration)) → AreLoaded disk name unsaid sources told
+pub means_all : (places : Places) (name : List ℕ) (sources : Sources) (unsaid told said : Option (List ℕ)) (found : Option Schema)
+    (files : List File) (declarations : List (Vec Declaration)) → AreLoaded places name unsaid sources told
     → files ≡ sources.files.items → declarations ≡ sources.declarations.items → ResolvesFiles files declarations found told said
-    → MeansAll disk name found unsaid said
-means_all disk name sources unsaid told said found files declarations loaded f d resolves = record {
+    → MeansAll places name found unsaid said
+means_all places name sources unsaid told said found files declarations loaded f d resolves = record {
   sources = sources;
   told = told;
   loaded = loaded;

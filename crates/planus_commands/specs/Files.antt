@@ -11,17 +11,10 @@ use Rattle.planus_syntax.specs.declared.value.Declaration.{Declaration}
 use Rattle.planus_layout.specs.declared.schema.Schema.{Schema}
 use Rattle.planus_commands.specs.declared.checking.File.{File}
 use Rattle.planus_syntax.specs.declared.value.Item.TheVariants.{Include}
+use Rattle.planus_commands.specs.Disks.{Disk, after_name}
+use Rattle.planus_commands.specs.declared.file_error.FileError.{FileError}
 use Rattle.planus_commands.specs.Outcomes.{Reports, line_of}
 use Rattle.planus_commands.specs.Checks.{AreSpelled, ResolvesFiles}
-
-abbrev pub is_named : List ℕ → File → Bool
-is_named name file = bytes_eq (string_bytes file.name) name
-
--- the text of the first file of this name
-abbrev pub text_named : List File → List ℕ → Option (List ℕ)
-text_named [] name = None
-text_named (f ∷ fs) name =
-    if is_named name f then Some f.text.items else text_named fs name
 
 -- the text of a schema: its file's bytes after a byte order mark
 pub record IsTextOf (Holds : List ℕ → List ℕ → Type 0) (name text : List ℕ) : Type 0 where
@@ -47,8 +40,10 @@ pub record EndsWith (files : List File) (name : List ℕ) : Type 0 where
   pub named : string_bytes file.name ≡ name
 
 -- The file can't be read, or is too long, and this was said.
-abbrev pub SaysUnread : List ℕ → Option (List ℕ) → Option (List ℕ) → Type 0
-SaysUnread name unsaid said = Appends unsaid said (line_of (codes "can't read ") name [])
+abbrev pub SaysUnread : Disk → List ℕ → Option (List ℕ) → Option (List ℕ) → Type 0
+SaysUnread disk name unsaid said =
+    ((error : FileError) × disk.Fails name error
+    × Appends unsaid said (line_of (codes "can't read ") name (after_name error)))
     ⊎ Appends unsaid said (line_of [] name (codes " is longer than 16777216 bytes"))
 
 -- The first fault of the file's text was reported.
@@ -61,7 +56,6 @@ pub record ReportsFile (Holds : List ℕ → List ℕ → Type 0) (name : List �
   pub told : Appends unsaid said report
 
 -- A file wasn't read, with status 2, or its text has a fault, with status 1; that was reported.
-abbrev pub FailsReading : (List ℕ → List ℕ → Type 0) → List ℕ → ℕ → Option (List ℕ)
-    → Option (List ℕ) → Type 0
-FailsReading Holds name status unsaid said = ((status ≡ 2) × SaysUnread name unsaid said)
-    ⊎ ((status ≡ 1) × ReportsFile Holds name unsaid said)
+abbrev pub FailsReading : Disk → List ℕ → ℕ → Option (List ℕ) → Option (List ℕ) → Type 0
+FailsReading disk name status unsaid said = ((status ≡ 2) × SaysUnread disk name unsaid said)
+    ⊎ ((status ≡ 1) × ReportsFile disk.Holds name unsaid said)

@@ -38,6 +38,10 @@ named path name =
 unfoldable pub normal : List ℕ → List ℕ
 normal path = named path (join_by (λ s. s) (codes "/") (reverse (walked path)))
 
+-- the file that a word of the call names, or standard input
+abbrev pub file_named : List ℕ → List ℕ
+file_named word = if bytes_eq word (codes "-") then word else normal word
+
 abbrev pub file_in : List ℕ → List ℕ → List ℕ
 file_in folder path = normal (folder ++ (codes "/" ++ path))
 

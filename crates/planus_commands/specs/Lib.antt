@@ -5,6 +5,7 @@ pub mod Reports
 pub mod Outcomes
 pub mod Problems
 pub mod Checks
+pub mod Disks
 pub mod Files
 pub mod Including
 pub mod Loading
@@ -14,3 +15,4 @@ pub mod Near
 pub mod Viewing
 pub mod Buffers
 pub mod Printing
+pub mod Running

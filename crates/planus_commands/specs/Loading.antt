@@ -13,6 +13,7 @@ use Rattle.planus_syntax.specs.declared.value.Item.TheVariants as item
 use Rattle.planus_commands.specs.declared.checking.File.{File}
 use Rattle.planus_commands.specs.declared.sources.Source.{Source}
 use Rattle.planus_commands.specs.declared.sources.Sources.{Sources}
+use Rattle.planus_commands.specs.Disks.{Disk}
 use Rattle.planus_commands.specs.Files.{IsTextOf, FailsReading}
 use Rattle.planus_commands.specs.Including.{IsFirstThere, tried, path_of}
 use Rattle.planus_commands.specs.Outcomes.{IsSpelled, ReportsAt}
@@ -24,16 +25,13 @@ pub record IsSource (Holds : List ℕ → List ℕ → Type 0) (name : List ℕ)
   pub text : IsTextOf Holds name source.file.text.items
   pub spelled : IsSpelled source.file.text.items source.declarations.items
 
--- where files are looked for
-pub record Disk : Type 1 where
-  pub Holds : List ℕ → List ℕ → Type 0
-  pub There : List ℕ → Bool → Type 0
+-- the files, and the folders in which those that are included are sought
+pub record Places : Type 1 where
+  pub disk : Disk
   pub folders : List (List ℕ)
 
-abbrev pub disk_of : (List ℕ → List ℕ → Type 0) → (List ℕ → Bool → Type 0) → List (Bor (List ℕ))
-    → Disk
-disk_of Holds There folders =
-    record { Holds = Holds; There = There; folders = map (λ folder. folder.now) folders }
+abbrev pub places_of : Disk → List (Bor (List ℕ)) → Places
+places_of disk folders = record { disk = disk; folders = map (λ folder. folder.now) folders }
 
 -- From what was read, and what was reported, to a status, what is read then, and reported.
 abbrev pub Step : Type 1
@@ -78,10 +76,10 @@ Enters Enter file left (Some name) =
     Enter (Refuses (codes "more than 64 files include one another") file left) name
 
 -- where an `include` leads
-abbrev pub Includes : Disk → (Step → List ℕ → Step) → File → ℕ → List ℕ → Step
-Includes disk Enter file left path old unsaid status new said =
-    (found : Option (List ℕ)) × IsFirstThere disk.There
-    (tried disk.folders (string_bytes file.name) (path_of path)) found
+abbrev pub Includes : Places → (Step → List ℕ → Step) → File → ℕ → List ℕ → Step
+Includes places Enter file left path old unsaid status new said =
+    (found : Option (List ℕ)) × IsFirstThere places.disk.There
+    (tried places.folders (string_bytes file.name) (path_of path)) found
     × Enters Enter file left found old unsaid status new said
 
 -- After this worst status, one declaration is an `include`, or nothing is done.
@@ -101,35 +99,35 @@ IncludesAll Include (d ∷ ds) worst old unsaid status new said =
     × IncludesAll Include ds mid between told status new said
 
 -- A file is begun and read, what it includes is loaded, and then it is added.
-pub record ReadsFile (disk : Disk) (Enter : Step → List ℕ → Step) (name : List ℕ) (old : Sources)
+pub record ReadsFile (places : Places) (Enter : Step → List ℕ → Step) (name : List ℕ) (old : Sources)
     (unsaid : Option (List ℕ)) (status : ℕ) (new : Sources) (said : Option (List ℕ))
     : Type 0 where
   pub source : Source
-  pub is : IsSource disk.Holds name source
+  pub is : IsSource places.disk.Holds name source
   pub begun : Sources
   pub begins : Begins name old begun
   pub told : Option (List ℕ)
   pub kept : Keeps unsaid told
   pub between : Sources
-  pub includes : IncludesAll (Includes disk Enter source.file) source.declarations.items 0
+  pub includes : IncludesAll (Includes places Enter source.file) source.declarations.items 0
       begun told status between said
   pub adds : Adds source between new
 
 -- A file is begun, and can't be read, or its text has a fault.
-abbrev pub FailsFile : Disk → List ℕ → Step
-FailsFile disk name old unsaid status new said =
-    Begins name old new × FailsReading disk.Holds name status unsaid said
+abbrev pub FailsFile : Places → List ℕ → Step
+FailsFile places name old unsaid status new said =
+    Begins name old new × FailsReading places.disk name status unsaid said
 
-abbrev pub LoadsBy : Disk → (Step → List ℕ → Step) → List ℕ → Step
-LoadsBy disk Enter name old unsaid status new said =
-    FailsFile disk name old unsaid status new said
-    ⊎ ReadsFile disk Enter name old unsaid status new said
+abbrev pub LoadsBy : Places → (Step → List ℕ → Step) → List ℕ → Step
+LoadsBy places Enter name old unsaid status new said =
+    FailsFile places name old unsaid status new said
+    ⊎ ReadsFile places Enter name old unsaid status new said
 
 -- Loads a file, or else does this, where so many more files may include one another.
-unfoldable pub enter : Disk → ℕ → Step → List ℕ → Step
-enter disk zero Otherwise name = Otherwise
-enter disk (suc left) Otherwise name = Once (LoadsBy disk (enter disk left)) name
+unfoldable pub enter : Places → ℕ → Step → List ℕ → Step
+enter places zero Otherwise name = Otherwise
+enter places (suc left) Otherwise name = Once (LoadsBy places (enter places left)) name
 
 -- Loads a file that isn't begun.
-abbrev pub Loads : Disk → ℕ → List ℕ → Step
-Loads disk left = LoadsBy disk (enter disk left)
+abbrev pub Loads : Places → ℕ → List ℕ → Step
+Loads places left = LoadsBy places (enter places left)

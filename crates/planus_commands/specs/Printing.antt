@@ -1,10 +1,20 @@
--- The names of crates.
-use Rattle.std.specs.Prelude.{◌≡◌, ℕ, Bool, false, ◌&&◌, ◌||◌, ◌==◌, not, List, [], ◌∷◌, codes, nat_eq}
-use Rattle.std.specs.Prelude.{Option}
+-- Crates of printed code: their names, and how their files are written or compared.
+use Rattle.std.specs.Prelude.{◌≡◌, ℕ, Bool, false, ◌&&◌, ◌||◌, ◌==◌, not, ⊤, List, [], ◌∷◌, codes, nat_eq}
+use Rattle.std.specs.Prelude.{◌≢◌, ◌≤◌, ◌⊎◌, true, max, length, map, Option, Some, Result, Ok, Err}
 use Rattle.std.specs.Io.KnownBytes.{Appends}
 use Rattle.std.specs.List.{list_all, starts_with}
 use Rattle.std.specs.Int.{is_in_range}
 use Rattle.planus_plan.specs.Names.{is_in, is_reserved}
+use Rattle.std.specs.String.{string_bytes}
+use Rattle.planus_layout.specs.declared.schema.Schema.{Schema}
+use Rattle.planus_tie.specs.declared.printed_file.PrintedFile.{PrintedFile}
+use Rattle.planus_codegen.specs.Printed.{IsPrinted}
+use Rattle.planus_commands.specs.Arguments.{WordsV}
+use Rattle.planus_commands.specs.Disks.{Disk, after_name}
+use Rattle.planus_commands.specs.Including.{file_named}
+use Rattle.planus_commands.specs.Loading.{Places}
+use Rattle.planus_commands.specs.Sources.{MeansAll}
+use Rattle.planus_commands.specs.declared.file_error.FileError.{FileError}
 use Rattle.planus_commands.specs.Outcomes.{line_of}
 
 abbrev pub is_small_letter : ℕ → Bool
@@ -79,3 +89,88 @@ crates_line name = line_of (codes "the line of crates.txt is `") name (codes ": 
 abbrev pub RefusesName : Option (List ℕ) → Option (List ℕ) → Type 0
 RefusesName unsaid said = (name : List ℕ) × (is_crate_name name ≡ false)
     × Appends unsaid said (line_of (codes "no crate can have the name `") name (codes "`"))
+
+-- what is known of whether a file has these bytes
+abbrev pub IsHeld : Disk → List ℕ → List ℕ → Result Bool FileError → Type 0
+IsHeld disk name bytes (Ok true) = disk.Holds name bytes
+IsHeld disk name bytes (Ok false) = ⊤
+IsHeld disk name bytes (Err error) = disk.Fails name error
+
+-- It was written, with status 0, or it was said why not, with status 2.
+abbrev pub PutsFile : Disk → List ℕ → List ℕ → ℕ → Option (List ℕ) → Option (List ℕ) → Type 0
+PutsFile disk name bytes status unsaid said =
+    ((status ≡ 0) × disk.Wrote name bytes × (said ≡ unsaid))
+    ⊎ ((status ≡ 2) × ((error : FileError) × disk.Fails name error
+    × Appends unsaid said (line_of (codes "can't write ") name (after_name error))))
+
+abbrev pub other_why : Result Bool FileError → List ℕ
+other_why (Ok held) = codes " isn't what is printed"
+other_why (Err error) = after_name error
+
+-- It was said that a file isn't what is printed, or why it can't be read.
+abbrev pub TellsOther : List ℕ → Result Bool FileError → ℕ → Option (List ℕ) → Option (List ℕ)
+    → Type 0
+TellsOther name found status unsaid said =
+    (status ≡ 1) × Appends unsaid said (line_of [] name (other_why found))
+
+-- A file that doesn't have these bytes is told of, or written.
+abbrev pub PrintsOther : Disk → List ℕ → List ℕ → Bool → Result Bool FileError → ℕ
+    → Option (List ℕ) → Option (List ℕ) → Type 0
+PrintsOther disk name bytes true found status unsaid said = TellsOther name found status unsaid said
+PrintsOther disk name bytes false found status unsaid said =
+    PutsFile disk name bytes status unsaid said
+
+abbrev pub PrintsBytes : Disk → List ℕ → List ℕ → Bool → ℕ → Option (List ℕ) → Option (List ℕ)
+    → Type 0
+PrintsBytes disk name bytes check status unsaid said =
+    ((status ≡ 0) × disk.Holds name bytes × (said ≡ unsaid))
+    ⊎ ((found : Result Bool FileError) × IsHeld disk name bytes found
+    × PrintsOther disk name bytes check found status unsaid said)
+
+-- The file of a crate, in its folder, has its text, or is told of, or written.
+abbrev pub PrintsFile : Disk → List ℕ → Bool → PrintedFile → ℕ → Option (List ℕ)
+    → Option (List ℕ) → Type 0
+PrintsFile disk folder check file status unsaid said =
+    PrintsBytes disk (folder ++ (codes "/" ++ string_bytes file.path)) (string_bytes file.text) check
+    status unsaid said
+
+-- Files follow, unless one can't be written.
+abbrev pub PrintsOn : ℕ → (ℕ → Option (List ℕ) → Option (List ℕ) → Type 0) → ℕ
+    → Option (List ℕ) → Option (List ℕ) → Type 0
+PrintsOn one Rest status told said =
+    ((one ≡ 2) × (status ≡ 2) × (said ≡ told)) ⊎ ((one ≢ 2) × Rest status told said)
+
+-- Each file in order. The worst status before stays.
+abbrev pub PrintsAll : Disk → List ℕ → Bool → List PrintedFile → ℕ → ℕ → Option (List ℕ)
+    → Option (List ℕ) → Type 0
+PrintsAll disk folder check [] worst status unsaid said = (status ≡ worst) × (said ≡ unsaid)
+PrintsAll disk folder check (file ∷ files) worst status unsaid said =
+    (one : ℕ) × (told : Option (List ℕ)) × PrintsFile disk folder check file one unsaid told
+    × PrintsOn one (PrintsAll disk folder check files (max worst one)) status told said
+
+abbrev pub SaysLine : Bool → List ℕ → Option (List ℕ) → Option (List ℕ) → Type 0
+SaysLine true name unsaid said = said ≡ unsaid
+SaysLine false name unsaid said = Appends unsaid said (crates_line name)
+
+-- All files of a crate with the code of a schema have their texts or were written.
+pub record PrintsCrate (disk : Disk) (folder name : List ℕ) (check : Bool) (schema : Schema)
+    (unsaid said : Option (List ℕ)) : Type 0 where
+  pub files : List PrintedFile
+  pub are : IsPrinted schema.declarations.items files
+  pub told : Option (List ℕ)
+  pub prints : PrintsAll disk folder check files 0 0 unsaid told
+  pub says : SaysLine check name told said
+
+-- A crate has the code of what the named file means.
+pub record PrintsCode (disk : Disk) (words : WordsV) (unsaid said : Option (List ℕ)) : Type 0 where
+  pub file : List ℕ
+  pub files : List (List ℕ)
+  pub are : words.files ≡ file ∷ files
+  pub schema : Schema
+  pub told : Option (List ℕ)
+  pub means : MeansAll (record { disk = disk; folders = words.folders }) (file_named file)
+      (Some schema) unsaid told
+  pub folder : List ℕ
+  pub name : List ℕ
+  pub is : is_crate_name name ≡ true
+  pub prints : PrintsCrate disk folder name words.check schema told said

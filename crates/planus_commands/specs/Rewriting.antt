@@ -3,6 +3,11 @@ use Rattle.std.specs.Prelude.{◌≡◌, ℕ, Bool, true, false, ◌&&◌, ◌�
 use Rattle.std.specs.Io.KnownBytes.{Appends, Keeps}
 use Rattle.planus_commands.specs.declared.outcome.Rewritten.{Rewritten}
 use Rattle.planus_commands.specs.declared.outcome.Rewritten.TheVariants as rewritten
+use Rattle.std.specs.Str.{bytes_eq}
+use Rattle.planus_commands.specs.Arguments.{WordsV}
+use Rattle.planus_commands.specs.Disks.{Disk, after_name}
+use Rattle.planus_commands.specs.Files.{IsTextOf, SaysUnread}
+use Rattle.planus_commands.specs.declared.file_error.FileError.{FileError}
 use Rattle.planus_commands.specs.Outcomes.{Formats, SaysComments, Reports, line_of}
 
 -- This was said, if comments are left out.
@@ -42,3 +47,60 @@ IsRewritten drop name text (rewritten.By out) = Formats text out.items
 IsRewritten drop name text rewritten.LosesComments = (drop ≡ false)
     × ((out : List ℕ) × Formats text out × SaysComments text out true)
 IsRewritten drop name text (rewritten.Faulty report) = Reports name text report.items
+
+-- It was written in place of its file, or it was said why not.
+abbrev pub Replaces : Disk → List ℕ → Rewritten → ℕ → Option (List ℕ) → Option (List ℕ) → Type 0
+Replaces disk name (rewritten.By out) status unsaid said =
+    ((status ≡ 0) × disk.Wrote name out.items × (said ≡ unsaid))
+    ⊎ ((status ≡ 2) × ((error : FileError) × disk.Fails name error
+    × Appends unsaid said (line_of (codes "can't write ") name (after_name error))))
+Replaces disk name rewritten.LosesComments status unsaid said = (status ≡ 2)
+    × Appends unsaid said (line_of [] name (codes ": its comments would be lost; see --drop-comments"))
+Replaces disk name (rewritten.Faulty report) status unsaid said =
+    (status ≡ 1) × Appends unsaid said report.items
+
+-- What replaces the text was written in place of its file, or it was said why not.
+abbrev pub Rewrites : Disk → Bool → List ℕ → List ℕ → ℕ → Option (List ℕ) → Option (List ℕ)
+    → Type 0
+Rewrites disk drop name text status unsaid said = (what : Rewritten)
+    × IsRewritten drop name text what × Replaces disk name what status unsaid said
+
+abbrev pub no_write : List ℕ
+no_write = codes "--write needs a file, and - is standard input"
+
+-- A file's canonical text takes its place; standard input has none.
+abbrev pub RewritesIf : Disk → Bool → Bool → List ℕ → List ℕ → ℕ → Option (List ℕ)
+    → Option (List ℕ) → Type 0
+RewritesIf disk true drop name text status unsaid said =
+    (status ≡ 2) × Appends unsaid said (line_of no_write [] [])
+RewritesIf disk false drop name text status unsaid said =
+    Rewrites disk drop name text status unsaid said
+
+-- the text is printed, or takes its file's place
+abbrev pub FormatsIf : Disk → Bool → Bool → List ℕ → List ℕ → ℕ → Option (List ℕ)
+    → Option (List ℕ) → Option (List ℕ) → Option (List ℕ) → Type 0
+FormatsIf disk true drop name text status before after unsaid said = (after ≡ before)
+    × RewritesIf disk (bytes_eq name (codes "-")) drop name text status unsaid said
+FormatsIf disk false drop name text status before after unsaid said =
+    FormatsText drop name text status before after unsaid said
+
+abbrev pub FormatsBy : Disk → WordsV → List ℕ → List ℕ → ℕ → Option (List ℕ)
+    → Option (List ℕ) → Option (List ℕ) → Option (List ℕ) → Type 0
+FormatsBy disk words name text status before after unsaid said =
+    FormatsIf disk words.write words.drop_comments name text status before after unsaid said
+
+-- A file was read, and its text formatted.
+pub record FormatsRead (disk : Disk) (words : WordsV) (name : List ℕ) (status : ℕ)
+    (before after unsaid said : Option (List ℕ)) : Type 0 where
+  pub text : List ℕ
+  pub is : IsTextOf disk.Holds name text
+  pub told : Option (List ℕ)
+  pub kept : Keeps unsaid told
+  pub formats : FormatsBy disk words name text status before after told said
+
+-- what `format` does with a file, by its status
+abbrev pub FormatsFile : Disk → WordsV → List ℕ → ℕ → Option (List ℕ) → Option (List ℕ)
+    → Option (List ℕ) → Option (List ℕ) → Type 0
+FormatsFile disk words name status before after unsaid said =
+    ((status ≡ 2) × (after ≡ before) × SaysUnread disk name unsaid said)
+    ⊎ FormatsRead disk words name status before after unsaid said

@@ -12,10 +12,11 @@ ghost use Rattle.planus_commands.specs.Buffers.{FailsIdentifier, FailsOne, Fails
 ghost use Rattle.planus_commands.specs.Buffers.{FailsBy};
 ghost use Rattle.planus_dump.specs.Writing.{WritesBeginning};
 ghost use Rattle.planus_commands.specs.Arguments.{words_of};
+ghost use Rattle.planus_commands.specs.Running.{ViewsFile, ViewsFiles};
 ghost use Rattle.planus_commands.specs.Viewing.{SplitsSized, EndsEarly};
 
 use crate::arguments::{Words, number_of};
-use crate::files::HostFiles;
+use crate::files::Files;
 use crate::said::{CLEAN, FAILED, FAULTY};
 use crate::shown::put_shown;
 use crate::sources::{bytes_of, schema_at};
@@ -270,21 +271,43 @@ pub fn view_by<W: Write, X: Write>(
     view_bytes(alloc, schema, how, name, bytes, writer, errors)
 }
 
-/// Writes what a buffer holds by a schema. Returns the exit status.
-pub fn view_file<W: Write, X: Write>(
-    rt: &HostRuntime,
+/// Writes what a buffer holds by a schema, both of which are files. Returns the exit status.
+pub fn view_file<F: Files, W: Write, X: Write>(
+    files: &F,
+    alloc: Global,
     words: &Words<'_>,
     writer: &mut W,
     errors: &mut X,
-) -> Result<u8, RunError> {
+) -> Result<u8, RunError>
+    ensures { IfOk result (λ status. ViewsFiles (F.disk files.now) (words_of words.now)
+        (words_of words.now).files status (W.contents writer.old) (W.contents writer.new)
+        (X.contents errors.old) (X.contents errors.new)) }
+{
     let [schema, buffer] = words.files.as_slice() else {
         return Ok(FAILED);
     };
-    match schema_at(rt, &words.folders, *schema, errors)? {
-        Ok(schema) => match bytes_of(&HostFiles { rt }, rt.alloc(), *buffer, errors)? {
-            Some(bytes) => view_by(rt.alloc(), &schema, words, *buffer, &bytes, writer, errors),
-            None => Ok(FAILED),
-        },
+    match schema_at(files, alloc, &words.folders, *schema, errors)? {
+        Ok(schema) => view_by_file(files, alloc, &schema, words, *buffer, writer, errors),
         Err(status) => Ok(status),
+    }
+}
+
+/// Reads a file, and does what [`view_by`] does.
+fn view_by_file<F: Files, W: Write, X: Write>(
+    files: &F,
+    alloc: Global,
+    schema: &Schema,
+    words: &Words<'_>,
+    name: &str,
+    writer: &mut W,
+    errors: &mut X,
+) -> Result<u8, RunError>
+    ensures { IfOk result (λ status. ViewsFile (F.disk files.now) schema.now (words_of words.now)
+        name.now status (W.contents writer.old) (W.contents writer.new)
+        (X.contents errors.old) (X.contents errors.new)) }
+{
+    match bytes_of(files, alloc, name, errors)? {
+        Some(bytes) => view_by(alloc, schema, words, name, &bytes, writer, errors),
+        None => Ok(FAILED),
     }
 }

@@ -1,32 +1,38 @@
-//! Where files are read.
+//! Where files are read and written.
 
-ghost use Rattle.std.specs.Prelude.{◌≤◌, ℕ, List, Bool, length, IfOk};
+ghost use Rattle.std.specs.Prelude.{◌≤◌, length, IfOk, IfErr, OnOk};
+ghost use Rattle.planus_commands.specs.Disks.{Disk};
 ghost use Rattle.planus_commands.specs.Outcomes.{greatest_text};
 
 use crate::checking::File;
-use crate::streams::{RunError, read_all};
+use crate::file_error::FileError;
+use crate::streams::read_all;
 use std::alloc::Global;
-use std::fs;
 use std::io::Input;
+use std::{fs, io};
 
-/// Where files are read.
+/// Where files are read and written.
 pub trait Files {
-    // that the file of a name has these bytes
-    ghost holds: { Self → List ℕ → List ℕ → Type 0 };
-
-    // that there is a file of a name, or that there is none
-    ghost there: { Self → List ℕ → Bool → Type 0 };
+    // what the files hold, and what is written to them
+    ghost disk: { Self → Disk };
 
     /// Returns the bytes of a file, of one that is longer than [`GREATEST_TEXT`] at least one more.
     ///
     /// [`GREATEST_TEXT`]: crate::streams::GREATEST_TEXT
-    fn read(&self, alloc: Global, name: &str) -> Result<Vec<u8>, RunError>
-        ensures { IfOk result (λ bytes. length bytes.items ≤ greatest_text
-            → Self.holds self.now name.now bytes.items) };
+    fn read(&self, alloc: Global, name: &str) -> Result<Vec<u8>, FileError>
+        ensures bytes { IfOk result (λ bytes. length bytes.items ≤ greatest_text
+            → (Self.disk self.now).Holds name.now bytes.items) }
+        ensures error { IfErr result (λ error. (Self.disk self.now).Fails name.now error) };
 
     /// Returns whether there is a file of this name.
     fn is_there(&self, name: &str) -> bool
-        ensures { Self.there self.now name.now result };
+        ensures { (Self.disk self.now).There name.now result };
+
+    /// Writes all bytes of a file, in a folder that is made if it isn't there. A file that is there
+    /// is replaced only once they are written beside it.
+    fn write(&self, alloc: Global, name: &str, bytes: &[u8]) -> Result<(), FileError>
+        ensures written { OnOk result ((Self.disk self.now).Wrote name.now bytes.now) }
+        ensures error { IfErr result (λ error. (Self.disk self.now).Fails name.now error) };
 }
 
 /// The files of the system, and standard input under the name `-`. No clause says what they hold.
@@ -35,51 +41,77 @@ pub struct HostFiles<'a> {
     pub rt: &'a HostRuntime,
 }
 
+fn make_folder(rt: &HostRuntime, name: &str) -> Result<(), io::Error> {
+    match name.rsplit_once('/') {
+        Some((folder, _)) if folder != "" => fs::create_dir_all(rt, folder),
+        _ => Ok(()),
+    }
+}
+
+fn replace(rt: &HostRuntime, name: &str, beside: &str, bytes: &[u8]) -> Result<(), io::Error> {
+    make_folder(rt, name)?;
+    fs::write(rt, beside, bytes)?;
+    fs::rename(rt, beside, name)
+}
+
 impl Files for HostFiles<'_> {
-    ghost holds = { λ _ _ _. Unit {0} };
+    ghost use Rattle.planus_commands.specs.Disks.{unknown_disk};
 
-    ghost there = { λ _ _ _. Unit {0} };
+    ghost disk = { λ _. unknown_disk };
 
-    fn read(&self, alloc: Global, name: &str) -> Result<Vec<u8>, RunError> {
+    fn read(&self, alloc: Global, name: &str) -> Result<Vec<u8>, FileError> {
         if name == "-" {
             return read_all(alloc, &mut self.rt.reader());
         }
         match fs::open(self.rt, name) {
             Ok(mut file) => read_all(alloc, &mut file),
-            Err(_) => Err(RunError::Read),
+            Err(error) => Err(FileError::of(error.kind())),
         }
     }
 
     fn is_there(&self, name: &str) -> bool {
         fs::open(self.rt, name).is_ok()
     }
+
+    fn write(&self, alloc: Global, name: &str, bytes: &[u8]) -> Result<(), FileError> {
+        let Ok(beside) = format!(in alloc; "{name}.planus") else {
+            return Err(FileError::OutOfMemory);
+        };
+        match replace(self.rt, name, beside.as_str(), bytes) {
+            Ok(()) => Ok(()),
+            Err(error) => Err(FileError::of(error.kind())),
+        }
+    }
 }
 
-/// Files that are given with their names. Of equal names the first counts.
+/// Files that are given with their names. Of equal names the first counts. None is written.
 #[derive(Clone, Copy)]
 pub struct GivenFiles<'a> {
     pub files: &'a [File],
 }
 
 impl Files for GivenFiles<'_> {
-    ghost use Rattle.std.specs.Prelude.{◌≡◌, Some};
-    ghost use Rattle.std.specs.List.{list_any};
-    ghost use Rattle.planus_commands.specs.Files.{is_named, text_named};
+    ghost use Rattle.planus_commands.specs.Disks.{given_disk};
 
-    ghost holds = { λ given name bytes. text_named given.files.now name ≡ Some bytes };
+    ghost disk = { λ given. given_disk given.files.now };
 
-    ghost there = { λ given name answer. answer ≡ list_any (is_named name) given.files.now };
-
-    fn read(&self, alloc: Global, name: &str) -> Result<Vec<u8>, RunError> {
+    fn read(&self, alloc: Global, name: &str) -> Result<Vec<u8>, FileError> {
         'files: for file in self.files {
             if file.name.as_str() == name {
-                return Ok(Vec::from_slice(alloc, &file.text)?);
+                return match Vec::from_slice(alloc, &file.text) {
+                    Ok(text) => Ok(text),
+                    Err(_) => Err(FileError::OutOfMemory),
+                };
             }
         }
-        Err(RunError::Read)
+        Err(FileError::Missing)
     }
 
     fn is_there(&self, name: &str) -> bool {
         self.files.iter().any(|file| file.name.as_str() == name)
+    }
+
+    fn write(&self, _alloc: Global, _name: &str, _bytes: &[u8]) -> Result<(), FileError> {
+        Err(FileError::Forbidden)
     }
 }

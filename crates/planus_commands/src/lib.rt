@@ -5,6 +5,7 @@
 mod arguments;
 mod buffers;
 mod checking;
+mod file_error;
 mod files;
 mod include;
 pub mod laws;
@@ -29,6 +30,7 @@ mod viewing;
 pub use arguments::{Choice, Command, Request, Words, number_of, request_of};
 pub use buffers::{Viewing, view_by, view_bytes};
 pub use checking::File;
+pub use file_error::FileError;
 pub use files::{Files, GivenFiles, HostFiles};
 pub use outcome::{Outcome, Printed, Rewritten};
 pub use program::{run_program, run_words};

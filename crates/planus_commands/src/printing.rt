@@ -2,7 +2,10 @@
 
 ghost use Rattle.std.specs.Prelude.{◌≡◌, true, IfOk, OnOk, MatchOption};
 ghost use Rattle.std.specs.Io.KnownBytes.{Appends};
-ghost use Rattle.planus_commands.specs.Printing.{crates_line, RefusesName};
+ghost use Rattle.planus_commands.specs.Arguments.{words_of};
+ghost use Rattle.planus_commands.specs.Printing.{crates_line, RefusesName, IsHeld, PutsFile};
+ghost use Rattle.planus_commands.specs.Printing.{TellsOther, PrintsFile, PrintsAll, PrintsCrate};
+ghost use Rattle.planus_commands.specs.Printing.{PrintsCode};
 ghost use Rattle.planus_commands.specs.Printing.{is_small_letter as is_small_letter_lem};
 ghost use Rattle.planus_commands.specs.Printing.{is_in_name as is_in_name_lem};
 ghost use Rattle.planus_commands.specs.Printing.{is_word as is_word_lem};
@@ -10,16 +13,16 @@ ghost use Rattle.planus_commands.specs.Printing.{is_of_planus as is_of_planus_le
 ghost use Rattle.planus_commands.specs.Printing.{is_crate_name as is_crate_name_lem};
 
 use crate::arguments::Words;
+use crate::file_error::FileError;
+use crate::files::Files;
 use crate::libraries::is_library;
-use crate::rewrite::replace;
 use crate::said::{CLEAN, FAILED, FAULTY, fail};
 use crate::sources::schema_at;
-use crate::streams::{RunError, say};
+use crate::streams::{GREATEST_TEXT, RunError, say};
 use planus_codegen::{PrintedFile, Refusal, print_crate};
 use planus_plan::is_reserved;
 use planus_schema::Schema;
-use std::alloc::Global;
-use std::fs;
+use std::alloc::{AllocError, Global};
 use std::io::Write;
 
 #[derive(Clone, Copy)]
@@ -84,7 +87,7 @@ fn folder_or_report<'a, X: Write>(
 ) -> Result<Option<Folder<'a>>, RunError>
     ensures { IfOk result (λ found. MatchOption found
         (RefusesName (X.contents errors.old) (X.contents errors.new))
-        (λ folder. is_crate_name_lem folder.name.now ≡ true)) }
+        (λ folder. (is_crate_name_lem folder.name.now ≡ true) × (folder.check ≡ check))) }
 {
     let path = path.trim_end_matches('/');
     let name = last_word(path);
@@ -95,61 +98,95 @@ fn folder_or_report<'a, X: Write>(
     Ok(None)
 }
 
-fn holds(rt: &HostRuntime, name: &str, bytes: &[u8]) -> bool {
-    match fs::read(rt, name) {
-        Ok(found) => found.as_slice() == bytes,
-        Err(_) => false,
+/// Returns whether a file has these bytes, or why it can't be read.
+fn holds<F: Files>(
+    files: &F,
+    alloc: Global,
+    name: &str,
+    bytes: &[u8],
+) -> Result<Result<bool, FileError>, AllocError>
+    ensures { IfOk result (λ found. IsHeld (F.disk files.now) name.now bytes.now found) }
+{
+    match files.read(alloc, name) {
+        Ok(found) => Ok(Ok(found.len() <= GREATEST_TEXT && found.as_slice() == bytes)),
+        Err(FileError::OutOfMemory) => Err(AllocError),
+        Err(error) => Ok(Err(error)),
     }
 }
 
-fn put_file(rt: &HostRuntime, name: &str, bytes: &[u8]) -> Result<(), RunError> {
-    if let Some((folder, _)) = name.rsplit_once('/') {
-        if fs::create_dir_all(rt, folder).is_err() {
-            return Err(RunError::Write);
-        }
+/// Writes a file, or says why not. Returns the exit status.
+fn put_file<F: Files, X: Write>(
+    files: &F,
+    alloc: Global,
+    name: &str,
+    bytes: &[u8],
+    errors: &mut X,
+) -> Result<u8, RunError>
+    ensures { IfOk result (λ status. PutsFile (F.disk files.now) name.now bytes.now status
+        (X.contents errors.old) (X.contents errors.new)) }
+{
+    match files.write(alloc, name, bytes) {
+        Ok(()) => Ok(CLEAN),
+        Err(error) => fail(alloc, errors, "can't write ", name, error.after_name()),
     }
-    replace(rt, name, bytes)
 }
 
-fn print_file<X: Write>(
-    rt: &HostRuntime,
+/// Says that a file isn't what is printed, or why it can't be read.
+fn tell_other<X: Write>(
+    alloc: Global,
+    name: &str,
+    found: Result<bool, FileError>,
+    errors: &mut X,
+) -> Result<u8, RunError>
+    ensures { IfOk result (λ status. TellsOther name.now found status
+        (X.contents errors.old) (X.contents errors.new)) }
+{
+    let why = match found {
+        Ok(_) => " isn't what is printed",
+        Err(error) => error.after_name(),
+    };
+    say(alloc, errors, "", name, why)?;
+    Ok(FAULTY)
+}
+
+/// Writes a printed file that isn't there, or compares it. Returns the exit status.
+fn print_file<F: Files, X: Write>(
+    files: &F,
+    alloc: Global,
     folder: Folder<'_>,
     file: &PrintedFile,
     errors: &mut X,
-) -> Result<u8, RunError> {
+) -> Result<u8, RunError>
+    ensures { IfOk result (λ status. PrintsFile (F.disk files.now) folder.path.now folder.check
+        file.now status (X.contents errors.old) (X.contents errors.new)) }
+{
     let (folder_path, path) = (folder.path, file.path.as_str());
-    let name = format!(in rt.alloc(); "{folder_path}/{path}")?;
+    let name = format!(in alloc; "{folder_path}/{path}")?;
     let bytes = file.text.as_bytes();
-    if holds(rt, name.as_str(), bytes) {
+    let found = holds(files, alloc, name.as_str(), bytes)?;
+    if matches!(found, Ok(true)) {
         return Ok(CLEAN);
     }
     if folder.check {
-        say(
-            rt.alloc(),
-            errors,
-            "",
-            name.as_str(),
-            " isn't what is printed",
-        )?;
-        return Ok(FAULTY);
+        return tell_other(alloc, name.as_str(), found, errors);
     }
-    match put_file(rt, name.as_str(), bytes) {
-        Ok(()) => Ok(CLEAN),
-        Err(RunError::OutOfMemory) => Err(RunError::OutOfMemory),
-        Err(_) => fail(rt.alloc(), errors, "can't write ", name.as_str(), ""),
-    }
+    put_file(files, alloc, name.as_str(), bytes, errors)
 }
 
 /// Stops at the first file that can't be written.
-fn print_files<X: Write>(
-    rt: &HostRuntime,
+fn print_files<F: Files, X: Write>(
+    files: &F,
+    alloc: Global,
     folder: Folder<'_>,
-    files: &[PrintedFile],
+    printed: &[PrintedFile],
     errors: &mut X,
-) -> Result<u8, RunError> {
+) -> Result<u8, RunError>
+    ensures { IfOk result (λ status. PrintsAll (F.disk files.now) folder.path.now folder.check
+        printed.now 0 status (X.contents errors.old) (X.contents errors.new)) }
+{
     let mut worst = CLEAN;
-    for file in files {
-        let status = print_file(rt, folder, file, errors)?;
+    'printed: for file in printed {
+        let status = print_file(files, alloc, folder, file, errors)?;
         if status == FAILED {
             return Ok(FAILED);
         }
@@ -184,51 +221,57 @@ fn say_line<X: Write>(alloc: Global, name: &str, errors: &mut X) -> Result<(), R
     )
 }
 
-fn print_to<X: Write>(
-    rt: &HostRuntime,
+/// Writes or compares the files of a crate. Returns the exit status.
+fn print_to<F: Files, X: Write>(
+    files: &F,
+    alloc: Global,
     schema: &Schema,
     folder: Folder<'_>,
     errors: &mut X,
 ) -> Result<u8, RunError>
     requires { is_crate_name_lem folder.name.now ≡ true }
+    ensures { IfOk result (λ status. status ≡ 0 → PrintsCrate (F.disk files.now) folder.path.now
+        folder.name.now folder.check schema.now (X.contents errors.old) (X.contents errors.new)) }
 {
-    match print_crate(rt.alloc(), schema, folder.name) {
-        Ok(files) => {
-            let status = print_files(rt, folder, &files, errors)?;
+    match print_crate(alloc, schema, folder.name) {
+        Ok(printed) => {
+            let status = print_files(files, alloc, folder, &printed, errors)?;
             if status == CLEAN && !folder.check {
-                say_line(rt.alloc(), folder.name, errors)?;
+                say_line(alloc, folder.name, errors)?;
             }
             Ok(status)
         }
         Err(Refusal::OutOfMemory) => Err(RunError::OutOfMemory),
         Err(Refusal::Untied) => fail(
-            rt.alloc(),
+            alloc,
             errors,
             "",
             folder.path,
             ": its code isn't the schema's",
         ),
-        Err(Refusal::Unsupported { what, name }) => {
-            say_unsupported(rt.alloc(), what, &name, errors)
-        }
+        Err(Refusal::Unsupported { what, name }) => say_unsupported(alloc, what, &name, errors),
     }
 }
 
 /// Writes the code of a schema as a crate, or compares the crate with it. Returns the exit status.
-pub fn print_code<X: Write>(
-    rt: &HostRuntime,
+pub fn print_code<F: Files, X: Write>(
+    files: &F,
+    alloc: Global,
     words: &Words<'_>,
     errors: &mut X,
-) -> Result<u8, RunError> {
+) -> Result<u8, RunError>
+    ensures { IfOk result (λ status. status ≡ 0 → PrintsCode (F.disk files.now) (words_of words.now)
+        (X.contents errors.old) (X.contents errors.new)) }
+{
     let path = words.output.unwrap_or("");
-    let Some(folder) = folder_or_report(rt.alloc(), path, words.check, errors)? else {
+    let Some(folder) = folder_or_report(alloc, path, words.check, errors)? else {
         return Ok(FAILED);
     };
     let Some(schema) = words.files.first() else {
         return Ok(FAILED);
     };
-    match schema_at(rt, &words.folders, *schema, errors)? {
-        Ok(schema) => print_to(rt, &schema, folder, errors),
+    match schema_at(files, alloc, &words.folders, *schema, errors)? {
+        Ok(schema) => print_to(files, alloc, &schema, folder, errors),
         Err(status) => Ok(status),
     }
 }

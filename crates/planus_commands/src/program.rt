@@ -3,82 +3,107 @@
 ghost use Rattle.std.specs.Prelude.{map, IfOk};
 ghost use Rattle.std.specs.String.{string_bytes};
 ghost use Rattle.planus_commands.specs.Arguments.{request_of as request_lem};
+ghost use Rattle.planus_commands.specs.Arguments.{asked, words_of};
+ghost use Rattle.planus_commands.specs.Running.{RunsFile, RunsFiles, Runs, RunsIf};
 ghost use Rattle.planus_commands.specs.Said.{said_of, SaysIf};
 
 use crate::arguments::{Command, Request, Words, request_of};
 use crate::buffers::view_file;
+use crate::files::{Files, HostFiles};
 use crate::printing::print_code;
 use crate::rewrite::format_file;
 use crate::said::{CLEAN, FAILED, say as say_of};
 use crate::sources::check_at;
 use crate::streams::{RunError, reason_of, write_out};
+use std::alloc::Global;
 use std::env;
 use std::io::Write;
 
-fn run_file<W: Write, X: Write>(
-    rt: &HostRuntime,
+/// Checks or formats a file. Returns the exit status.
+fn run_file<F: Files, W: Write, X: Write>(
+    files: &F,
+    alloc: Global,
     command: Command,
     words: &Words<'_>,
-    name: &str,
+    word: &str,
     writer: &mut W,
     errors: &mut X,
-) -> Result<u8, RunError> {
+) -> Result<u8, RunError>
+    ensures { IfOk result (λ status. RunsFile (F.disk files.now) command (words_of words.now)
+        word.now status (W.contents writer.old) (W.contents writer.new)
+        (X.contents errors.old) (X.contents errors.new)) }
+{
     if let Command::Format = command {
-        return format_file(rt, words, name, writer, errors);
+        return format_file(files, alloc, words, word, writer, errors);
     }
-    check_at(rt, &words.folders, name, errors)
+    check_at(files, alloc, &words.folders, word, errors)
 }
 
 /// Checks or formats each file. Returns the worst exit status.
-fn run_files<W: Write, X: Write>(
-    rt: &HostRuntime,
+fn run_files<F: Files, W: Write, X: Write>(
+    files: &F,
+    alloc: Global,
     command: Command,
     words: &Words<'_>,
     writer: &mut W,
     errors: &mut X,
-) -> Result<u8, RunError> {
+) -> Result<u8, RunError>
+    ensures { IfOk result (λ status. RunsFiles (RunsFile (F.disk files.now) command
+        (words_of words.now)) (words_of words.now).files 0 status
+        (W.contents writer.old) (W.contents writer.new)
+        (X.contents errors.old) (X.contents errors.new)) }
+{
     let mut worst = CLEAN;
-    for name in &words.files {
-        let status = run_file(rt, command, words, *name, writer, errors)?;
+    'words: for word in &words.files {
+        let status = run_file(files, alloc, command, words, *word, writer, errors)?;
         worst = worst.max(status);
     }
     Ok(worst)
 }
 
-fn run_request<W: Write, X: Write>(
-    rt: &HostRuntime,
+fn run_request<F: Files, W: Write, X: Write>(
+    files: &F,
+    alloc: Global,
     request: &Request<'_>,
     writer: &mut W,
     errors: &mut X,
-) -> Result<u8, RunError> {
+) -> Result<u8, RunError>
+    ensures { IfOk result (λ status. Runs (F.disk files.now) (asked request.now) status
+        (W.contents writer.old) (W.contents writer.new)
+        (X.contents errors.old) (X.contents errors.new)) }
+{
     let Request::Run { command, words } = request else {
         return Ok(FAILED);
     };
     match command {
-        Command::View => view_file(rt, words, writer, errors),
-        Command::Rattle => print_code(rt, words, errors),
-        command => run_files(rt, *command, words, writer, errors),
+        Command::View => view_file(files, alloc, words, writer, errors),
+        Command::Rattle => print_code(files, alloc, words, errors),
+        command => run_files(files, alloc, *command, words, writer, errors),
     }
 }
 
 /// Runs the program with these words after its name. Returns the exit status.
 ///
 /// Fails where memory is refused or writing fails.
-pub fn run_words<W: Write, X: Write>(
-    rt: &HostRuntime,
+pub fn run_words<F: Files, W: Write, X: Write>(
+    files: &F,
+    alloc: Global,
     words: &[String],
     writer: &mut W,
     errors: &mut X,
 ) -> Result<u8, RunError>
-    ensures { IfOk result (λ status. SaysIf (said_of (request_lem (map string_bytes words.now)))
+    ensures says { IfOk result (λ status. SaysIf (said_of (request_lem (map string_bytes words.now)))
         status (W.contents writer.old) (W.contents writer.new)
         (X.contents errors.old) (X.contents errors.new)) }
+    ensures runs { IfOk result (λ status. RunsIf (F.disk files.now)
+        (request_lem (map string_bytes words.now)) status
+        (W.contents writer.old) (W.contents writer.new)
+        (X.contents errors.old) (X.contents errors.new)) }
 {
-    let alloc = rt.alloc();
     let request = request_of(alloc, words)?;
     match say_of(alloc, &request, writer, errors)? {
         Some(status) => Ok(status),
-        None => run_request(rt, &request, writer, errors),
+        None => run_request(files, alloc, &request, writer, errors),
     }
 }
 
@@ -102,7 +127,7 @@ fn run<W: Write, X: Write>(
     errors: &mut X,
 ) -> Result<u8, RunError> {
     let words = words_of(rt)?;
-    run_words(rt, &words, writer, errors)
+    run_words(&HostFiles { rt }, rt.alloc(), &words, writer, errors)
 }
 
 /// Runs the program. Returns the exit status: 0 where all is well, 1 where a schema or a buffer has

@@ -1,29 +1,19 @@
 //! A schema in its canonical layout, printed or written in place.
 
 ghost use Rattle.std.specs.Prelude.{IfOk};
-ghost use Rattle.planus_commands.specs.Rewriting.{FormatsText, IsRewritten};
+ghost use Rattle.planus_commands.specs.Arguments.{words_of};
+ghost use Rattle.planus_commands.specs.Rewriting.{FormatsText, IsRewritten, Rewrites};
+ghost use Rattle.planus_commands.specs.Rewriting.{FormatsBy, FormatsFile};
 
 use crate::arguments::Words;
-use crate::files::HostFiles;
+use crate::files::Files;
 use crate::outcome::{Outcome, Printed, Rewritten};
 use crate::said::{CLEAN, FAILED, FAULTY, fail};
 use crate::sources::text_of;
 use crate::streams::{RunError, say, write_out};
 use crate::texts::{format, has_comments, outcome_of};
 use std::alloc::{AllocError, Global};
-use std::fs;
 use std::io::Write;
-
-/// Replaces the file only once all bytes are written beside it.
-pub(crate) fn replace(rt: &HostRuntime, name: &str, bytes: &[u8]) -> Result<(), RunError> {
-    let beside = format!(in rt.alloc(); "{name}.planus")?;
-    if fs::write(rt, beside.as_str(), bytes).is_err()
-        || fs::rename(rt, beside.as_str(), name).is_err()
-    {
-        return Err(RunError::Write);
-    }
-    Ok(())
-}
 
 /// Returns what replaces a text. Without `drop_comments` nothing does where comments would be lost.
 pub fn rewritten(
@@ -45,14 +35,18 @@ pub fn rewritten(
     }
 }
 
-fn rewrite<X: Write>(
-    rt: &HostRuntime,
+/// Replaces the text of a file by its canonical text, or reports why not. Returns the exit status.
+fn rewrite<F: Files, X: Write>(
+    files: &F,
+    alloc: Global,
     drop_comments: bool,
     name: &str,
     text: &[u8],
     errors: &mut X,
-) -> Result<u8, RunError> {
-    let alloc = rt.alloc();
+) -> Result<u8, RunError>
+    ensures { IfOk result (λ status. Rewrites (F.disk files.now) drop_comments name.now text.now
+        status (X.contents errors.old) (X.contents errors.new)) }
+{
     match rewritten(alloc, drop_comments, name, text)? {
         Rewritten::Faulty(report) => {
             write_out(errors, &report)?;
@@ -62,9 +56,9 @@ fn rewrite<X: Write>(
             let why = ": its comments would be lost; see --drop-comments";
             fail(alloc, errors, "", name, why)
         }
-        Rewritten::By(out) => match replace(rt, name, &out) {
+        Rewritten::By(out) => match files.write(alloc, name, &out) {
             Ok(()) => Ok(CLEAN),
-            Err(_) => fail(alloc, errors, "can't write ", name, ""),
+            Err(error) => fail(alloc, errors, "can't write ", name, error.after_name()),
         },
     }
 }
@@ -95,23 +89,44 @@ pub fn print_text<W: Write, X: Write>(
 }
 
 /// Prints a canonical text, or writes it in place of its file. Returns the exit status.
-pub fn format_file<W: Write, X: Write>(
-    rt: &HostRuntime,
+fn format_text<F: Files, W: Write, X: Write>(
+    files: &F,
+    alloc: Global,
     words: &Words<'_>,
     name: &str,
+    text: &[u8],
     writer: &mut W,
     errors: &mut X,
-) -> Result<u8, RunError> {
-    let alloc = rt.alloc();
-    let Some(text) = text_of(&HostFiles { rt }, alloc, name, errors)? else {
-        return Ok(FAILED);
-    };
+) -> Result<u8, RunError>
+    ensures { IfOk result (λ status. FormatsBy (F.disk files.now) (words_of words.now) name.now
+        text.now status (W.contents writer.old) (W.contents writer.new)
+        (X.contents errors.old) (X.contents errors.new)) }
+{
     if !words.write {
-        return print_text(alloc, words.drop_comments, name, &text, writer, errors);
+        return print_text(alloc, words.drop_comments, name, text, writer, errors);
     }
     if name == "-" {
         let why = "--write needs a file, and - is standard input";
         return fail(alloc, errors, why, "", "");
     }
-    rewrite(rt, words.drop_comments, name, &text, errors)
+    rewrite(files, alloc, words.drop_comments, name, text, errors)
+}
+
+/// Reads a file, and does what [`format_text`] does. Returns the exit status.
+pub fn format_file<F: Files, W: Write, X: Write>(
+    files: &F,
+    alloc: Global,
+    words: &Words<'_>,
+    name: &str,
+    writer: &mut W,
+    errors: &mut X,
+) -> Result<u8, RunError>
+    ensures { IfOk result (λ status. FormatsFile (F.disk files.now) (words_of words.now) name.now
+        status (W.contents writer.old) (W.contents writer.new)
+        (X.contents errors.old) (X.contents errors.new)) }
+{
+    match text_of(files, alloc, name, errors)? {
+        Some(text) => format_text(files, alloc, words, name, &text, writer, errors),
+        None => Ok(FAILED),
+    }
 }

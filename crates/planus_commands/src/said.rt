@@ -1,6 +1,7 @@
 //! What is written of a call that names no schema.
 
-ghost use Rattle.std.specs.Prelude.{◌≡◌, ◌++◌, codes, true, false, IfOk};
+ghost use Rattle.std.specs.Prelude.{◌≡◌, ◌++◌, codes, true, false, IfOk, OnOk};
+ghost use Rattle.planus_commands.specs.Outcomes.{line_of};
 ghost use Rattle.std.specs.Option.{option_map};
 ghost use Rattle.planus_commands.specs.Arguments.{asked};
 ghost use Rattle.planus_commands.specs.Said.{first_letter as first_letter_lem};
@@ -112,7 +113,11 @@ pub fn fail<X: Write>(
     before: &str,
     name: &str,
     after: &str,
-) -> Result<u8, RunError> {
+) -> Result<u8, RunError>
+    ensures status { IfOk result (λ status. status ≡ 2) }
+    ensures told { OnOk result (Appends (X.contents errors.old) (X.contents errors.new)
+        (line_of before.now name.now after.now)) }
+{
     say_line(alloc, errors, before, name, after)?;
     Ok(FAILED)
 }

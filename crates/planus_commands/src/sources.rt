@@ -9,14 +9,16 @@ ghost use Rattle.planus_commands.specs.Files.{AreRead, EndsWith, IsTextOf};
 ghost use Rattle.planus_commands.specs.Files.{SaysUnread, FailsReading};
 ghost use Rattle.planus_commands.specs.Including.{IsFirstThere, tried, path_of};
 ghost use Rattle.planus_commands.specs.Including.{text_or_empty as text_or_empty_lem};
-ghost use Rattle.planus_commands.specs.Loading.{disk_of, enter, IsSource, Begins, Adds, Once};
+ghost use Rattle.planus_commands.specs.Loading.{places_of, enter, IsSource, Begins, Adds, Once};
 ghost use Rattle.planus_commands.specs.Loading.{has_begun as has_begun_lem};
 ghost use Rattle.planus_commands.specs.Loading.{LoadsBy, Loads, Includes, IncludesAll, Refuses};
+ghost use Rattle.planus_commands.specs.Including.{file_named as file_named_lem};
 ghost use Rattle.planus_commands.specs.Sources.{HasNoSchema, ChecksFile, MeansAll};
 ghost use Rattle.std.specs.Io.KnownBytes.{Keeps};
 
 use crate::checking::{File, resolve_or_report};
-use crate::files::{Files, HostFiles};
+use crate::file_error::FileError;
+use crate::files::Files;
 use crate::include::{file_beside, file_in, normal};
 use crate::parsed::{Parsed, parse_or_report};
 use crate::placed::placed_report;
@@ -75,11 +77,11 @@ pub fn bytes_of<F: Files, X: Write>(
     errors: &mut X,
 ) -> Result<Option<Vec<u8>>, RunError>
     ensures bytes { IfOk result (λ found. IfSome found (λ bytes.
-        F.holds files.now name.now bytes.items)) }
+        (F.disk files.now).Holds name.now bytes.items)) }
     ensures kept { IfOk result (λ found. IfSome found (λ _.
         Keeps (X.contents errors.old) (X.contents errors.new))) }
     ensures unread { IfOk result (λ found. IfNone found
-        (SaysUnread name.now (X.contents errors.old) (X.contents errors.new))) }
+        (SaysUnread (F.disk files.now) name.now (X.contents errors.old) (X.contents errors.new))) }
 {
     match files.read(alloc, name) {
         Ok(bytes) if bytes.len() <= GREATEST_TEXT => Ok(Some(bytes)),
@@ -87,9 +89,9 @@ pub fn bytes_of<F: Files, X: Write>(
             say(alloc, errors, "", name, " is longer than 16777216 bytes")?;
             Ok(None)
         }
-        Err(RunError::OutOfMemory) => Err(RunError::OutOfMemory),
-        Err(_) => {
-            say(alloc, errors, "can't read ", name, "")?;
+        Err(FileError::OutOfMemory) => Err(RunError::OutOfMemory),
+        Err(error) => {
+            say(alloc, errors, "can't read ", name, error.after_name())?;
             Ok(None)
         }
     }
@@ -104,11 +106,11 @@ pub fn text_of<F: Files, X: Write>(
     errors: &mut X,
 ) -> Result<Option<Vec<u8>>, RunError>
     ensures text { IfOk result (λ found. IfSome found (λ text.
-        IsTextOf (F.holds files.now) name.now text.items)) }
+        IsTextOf (F.disk files.now).Holds name.now text.items)) }
     ensures kept { IfOk result (λ found. IfSome found (λ _.
         Keeps (X.contents errors.old) (X.contents errors.new))) }
     ensures unread { IfOk result (λ found. IfNone found
-        (SaysUnread name.now (X.contents errors.old) (X.contents errors.new))) }
+        (SaysUnread (F.disk files.now) name.now (X.contents errors.old) (X.contents errors.new))) }
 {
     match bytes_of(files, alloc, name, errors)? {
         None => Ok(None),
@@ -127,7 +129,7 @@ fn included<F: Files>(
     name: &str,
     path: &str,
 ) -> Result<Option<String>, AllocError>
-    ensures { IfOk result (λ found. IsFirstThere (F.there files.now)
+    ensures { IfOk result (λ found. IsFirstThere (F.disk files.now).There
         (tried (map (λ folder. folder.now) folders.now) name.now path.now)
         (option_map string_bytes found)) }
 {
@@ -162,12 +164,18 @@ fn included_by<F: Files>(
     file: &File,
     string: &[u8],
 ) -> Result<Option<String>, AllocError>
-    ensures { IfOk result (λ found. IsFirstThere (F.there files.now)
+    ensures { IfOk result (λ found. IsFirstThere (F.disk files.now).There
         (tried (map (λ folder. folder.now) folders.now) (string_bytes file.now.name)
         (path_of string.now)) (option_map string_bytes found)) }
 {
     let text = string_text(alloc, string)?;
-    included(files, alloc, folders, file.name.as_str(), text_or_empty(&text))
+    included(
+        files,
+        alloc,
+        folders,
+        file.name.as_str(),
+        text_or_empty(&text),
+    )
 }
 
 /// Reports a fault at an `include`. Returns the exit status.
@@ -196,9 +204,9 @@ fn read_file<F: Files, X: Write>(
     errors: &mut X,
 ) -> Result<Result<Source, u8>, RunError>
     ensures source { IfOk result (λ read. IfOk read (λ source.
-        IsSource (F.holds files.now) name.now source)) }
+        IsSource (F.disk files.now).Holds name.now source)) }
     ensures failed { IfOk result (λ read. IfErr read (λ status.
-        FailsReading (F.holds files.now) name.now status
+        FailsReading (F.disk files.now) name.now status
         (X.contents errors.old) (X.contents errors.new))) }
     ensures kept { IfOk result (λ read. IfOk read (λ _.
         Keeps (X.contents errors.old) (X.contents errors.new))) }
@@ -230,13 +238,13 @@ fn load<F: Files, X: Write>(
     sources: &mut Sources,
     errors: &mut X,
 ) -> Result<u8, RunError>
-    requires { AreRead (F.holds files.now) sources.old.files.items sources.old.declarations.items }
+    requires { AreRead (F.disk files.now).Holds sources.old.files.items sources.old.declarations.items }
     ensures read { OnOk result
-        (AreRead (F.holds files.now) sources.new.files.items sources.new.declarations.items) }
+        (AreRead (F.disk files.now).Holds sources.new.files.items sources.new.declarations.items) }
     ensures kept { IfOk result (λ status. status ≡ 0
         → Keeps (X.contents errors.old) (X.contents errors.new)) }
     ensures loads { IfOk result (λ status.
-        Once (Loads (disk_of (F.holds files.now) (F.there files.now) folders.now) left) name.now
+        Once (Loads (places_of (F.disk files.now) folders.now) left) name.now
         sources.old (X.contents errors.old) status sources.new (X.contents errors.new)) }
 {
     if sources.has_begun(name) {
@@ -255,15 +263,15 @@ fn load_file<F: Files, X: Write>(
     sources: &mut Sources,
     errors: &mut X,
 ) -> Result<u8, RunError>
-    requires { AreRead (F.holds files.now) sources.old.files.items sources.old.declarations.items }
+    requires { AreRead (F.disk files.now).Holds sources.old.files.items sources.old.declarations.items }
     ensures read { OnOk result
-        (AreRead (F.holds files.now) sources.new.files.items sources.new.declarations.items) }
+        (AreRead (F.disk files.now).Holds sources.new.files.items sources.new.declarations.items) }
     ensures last { IfOk result (λ status. status ≡ 0
         → EndsWith sources.new.files.items name.now) }
     ensures kept { IfOk result (λ status. status ≡ 0
         → Keeps (X.contents errors.old) (X.contents errors.new)) }
     ensures loads { IfOk result (λ status.
-        Loads (disk_of (F.holds files.now) (F.there files.now) folders.now) left name.now
+        Loads (places_of (F.disk files.now) folders.now) left name.now
         sources.old (X.contents errors.old) status sources.new (X.contents errors.new)) }
 {
     sources.begin(alloc, name)?;
@@ -288,16 +296,16 @@ fn load_includes<F: Files, X: Write>(
     sources: &mut Sources,
     errors: &mut X,
 ) -> Result<u8, RunError>
-    requires are { AreRead (F.holds files.now)
+    requires are { AreRead (F.disk files.now).Holds
         sources.old.files.items sources.old.declarations.items }
     requires is { IsSpelled source.now.file.text.items source.now.declarations.items }
     ensures read { OnOk result
-        (AreRead (F.holds files.now) sources.new.files.items sources.new.declarations.items) }
+        (AreRead (F.disk files.now).Holds sources.new.files.items sources.new.declarations.items) }
     ensures kept { IfOk result (λ status. status ≡ 0
         → Keeps (X.contents errors.old) (X.contents errors.new)) }
     ensures loads { IfOk result (λ status. IncludesAll
-        (Includes (disk_of (F.holds files.now) (F.there files.now) folders.now)
-        (enter (disk_of (F.holds files.now) (F.there files.now) folders.now) left)
+        (Includes (places_of (F.disk files.now) folders.now)
+        (enter (places_of (F.disk files.now) folders.now) left)
         source.now.file) source.now.declarations.items 0
         sources.old (X.contents errors.old) status sources.new (X.contents errors.new)) }
 {
@@ -305,7 +313,9 @@ fn load_includes<F: Files, X: Write>(
     'declarations: for declaration in &source.declarations {
         if let Item::Include(path) = &declaration.item {
             let at = declaration.left;
-            let one = include(files, alloc, folders, left, source, at, path, sources, errors)?;
+            let one = include(
+                files, alloc, folders, left, source, at, path, sources, errors,
+            )?;
             worst = worst.max(one);
         }
     }
@@ -325,16 +335,16 @@ fn include<F: Files, X: Write>(
     sources: &mut Sources,
     errors: &mut X,
 ) -> Result<u8, RunError>
-    requires are { AreRead (F.holds files.now)
+    requires are { AreRead (F.disk files.now).Holds
         sources.old.files.items sources.old.declarations.items }
     requires is { IsSpelled source.now.file.text.items source.now.declarations.items }
     ensures read { OnOk result
-        (AreRead (F.holds files.now) sources.new.files.items sources.new.declarations.items) }
+        (AreRead (F.disk files.now).Holds sources.new.files.items sources.new.declarations.items) }
     ensures kept { IfOk result (λ status. status ≡ 0
         → Keeps (X.contents errors.old) (X.contents errors.new)) }
     ensures loads { IfOk result (λ status. Includes
-        (disk_of (F.holds files.now) (F.there files.now) folders.now)
-        (enter (disk_of (F.holds files.now) (F.there files.now) folders.now) left)
+        (places_of (F.disk files.now) folders.now)
+        (enter (places_of (F.disk files.now) folders.now) left)
         source.now.file at string.now
         sources.old (X.contents errors.old) status sources.new (X.contents errors.new)) }
 {
@@ -372,10 +382,10 @@ pub fn schema_of<F: Files, X: Write>(
     errors: &mut X,
 ) -> Result<Result<Schema, u8>, RunError>
     ensures means { IfOk result (λ found. IfOk found (λ schema.
-        MeansAll (disk_of (F.holds files.now) (F.there files.now) folders.now) name.now
+        MeansAll (places_of (F.disk files.now) folders.now) name.now
         (Some schema) (X.contents errors.old) (X.contents errors.new))) }
     ensures none { IfOk result (λ found. IfErr found (λ status.
-        HasNoSchema (disk_of (F.holds files.now) (F.there files.now) folders.now) name.now status
+        HasNoSchema (places_of (F.disk files.now) folders.now) name.now status
         (X.contents errors.old) (X.contents errors.new))) }
 {
     let mut sources = Sources {
@@ -410,7 +420,7 @@ pub fn check_file<F: Files, X: Write>(
     errors: &mut X,
 ) -> Result<u8, RunError>
     ensures { IfOk result (λ status. ChecksFile
-        (disk_of (F.holds files.now) (F.there files.now) folders.now) name.now status
+        (places_of (F.disk files.now) folders.now) name.now status
         (X.contents errors.old) (X.contents errors.new)) }
 {
     match schema_of(files, alloc, folders, name, errors)? {
@@ -419,34 +429,47 @@ pub fn check_file<F: Files, X: Write>(
     }
 }
 
-fn name_of(alloc: Global, name: &str) -> Result<String, AllocError> {
-    if name == "-" {
-        String::from_str(alloc, name)
+/// Returns the name of the file that a word of the call names.
+fn file_named(alloc: Global, word: &str) -> Result<String, AllocError>
+    ensures { IfOk result (λ name. string_bytes name ≡ file_named_lem word.now) }
+{
+    if word == "-" {
+        String::from_str(alloc, word)
     } else {
-        normal(alloc, name)
+        normal(alloc, word)
     }
 }
 
-/// Does what [`schema_of`] does with a file of the system.
-pub fn schema_at<X: Write>(
-    rt: &HostRuntime,
+/// Does what [`schema_of`] does with the file that a word of the call names.
+pub fn schema_at<F: Files, X: Write>(
+    files: &F,
+    alloc: Global,
     folders: &[&str],
-    name: &str,
+    word: &str,
     errors: &mut X,
-) -> Result<Result<Schema, u8>, RunError> {
-    let alloc = rt.alloc();
-    let name = name_of(alloc, name)?;
-    schema_of(&HostFiles { rt }, alloc, folders, name.as_str(), errors)
+) -> Result<Result<Schema, u8>, RunError>
+    ensures means { IfOk result (λ found. IfOk found (λ schema.
+        MeansAll (places_of (F.disk files.now) folders.now) (file_named_lem word.now)
+        (Some schema) (X.contents errors.old) (X.contents errors.new))) }
+    ensures none { IfOk result (λ found. IfErr found (λ status.
+        HasNoSchema (places_of (F.disk files.now) folders.now) (file_named_lem word.now) status
+        (X.contents errors.old) (X.contents errors.new))) }
+{
+    let name = file_named(alloc, word)?;
+    schema_of(files, alloc, folders, name.as_str(), errors)
 }
 
-/// Does what [`check_file`] does with a file of the system.
-pub fn check_at<X: Write>(
-    rt: &HostRuntime,
+/// Does what [`check_file`] does with the file that a word of the call names.
+pub fn check_at<F: Files, X: Write>(
+    files: &F,
+    alloc: Global,
     folders: &[&str],
-    name: &str,
+    word: &str,
     errors: &mut X,
-) -> Result<u8, RunError> {
-    let alloc = rt.alloc();
-    let name = name_of(alloc, name)?;
-    check_file(&HostFiles { rt }, alloc, folders, name.as_str(), errors)
+) -> Result<u8, RunError>
+    ensures { IfOk result (λ status. ChecksFile (places_of (F.disk files.now) folders.now)
+        (file_named_lem word.now) status (X.contents errors.old) (X.contents errors.new)) }
+{
+    let name = file_named(alloc, word)?;
+    check_file(files, alloc, folders, name.as_str(), errors)
 }

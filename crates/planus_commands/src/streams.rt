@@ -5,9 +5,10 @@ ghost use Rattle.std.specs.Io.KnownBytes.{Appends};
 ghost use Rattle.planus_dump.specs.Writing.{WritesBeginning};
 ghost use Rattle.planus_commands.specs.Outcomes.{greatest_text, line_of, reason_of as reason_lem};
 
+use crate::file_error::FileError;
 use crate::shown::put_shown;
 use std::alloc::{AllocError, Global};
-use std::io::{ErrorKind, Read, Write};
+use std::io::{Read, Write};
 
 /// The greatest length of a text, in bytes.
 pub const GREATEST_TEXT: usize = 16777216;
@@ -15,12 +16,12 @@ pub const GREATEST_TEXT: usize = 16777216;
 /// One byte more shows that a text is too long.
 const MOST_READ: u64 = GREATEST_TEXT as u64 + 1;
 
-/// Why a text was not read, or a report not written.
+/// Why a call ends before what it does is done.
 #[derive(Clone, Copy)]
 pub enum RunError {
     /// Memory was refused.
     OutOfMemory,
-    /// Reading failed.
+    /// A word of the call can't be read.
     Read,
     /// Writing failed.
     Write,
@@ -40,15 +41,14 @@ impl From<AllocError> for RunError {
 }
 
 /// Returns the bytes of a text, at most one more than [`GREATEST_TEXT`].
-pub fn read_all<R: Read>(alloc: Global, reader: &mut R) -> Result<Vec<u8>, RunError>
+pub fn read_all<R: Read>(alloc: Global, reader: &mut R) -> Result<Vec<u8>, FileError>
     ensures { IfOk result (λ text. IfSome (R.remaining reader.old)
         (λ bytes. text.items ≡ take (greatest_text + 1) bytes)) }
 {
     let mut text = Vec::new(alloc);
     match reader.take(MOST_READ).read_to_end(&mut text) {
         Ok(_) => Ok(text),
-        Err(error) if error.kind() == ErrorKind::OutOfMemory => Err(RunError::OutOfMemory),
-        Err(_) => Err(RunError::Read),
+        Err(error) => Err(FileError::of(error.kind())),
     }
 }
 

@@ -13,5 +13,5 @@ returns c =
     let segments = c.in_ok-segments.segments.items in
     let same = sym (reverse-reverse (map (λ s. s.now) segments)) ∙ ap reverse c.in_ok-segments.ensures in
     let joined = c.in_ok-name.ensures.ok ∙ ap (λ items. join_by (λ s. s.now) (codes "/") items) c.deref.ensures.value
-        ∙ joined_texts (codes "/") segments ∙ ap (λ items. join_by (λ s. s) (codes "/") items) same in
+    ∙ joined_texts (codes "/") segments ∙ ap (λ items. join_by (λ s. s) (codes "/") items) same in
     subst (λ name. IfOk c.named.result (λ all. string_bytes all ≡ named c.args.path.now name)) joined c.named.ensures

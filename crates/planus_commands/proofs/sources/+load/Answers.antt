@@ -4,7 +4,7 @@ use Rattle.std.specs.Option.{option_map}
 use Rattle.std.specs.Io.KnownBytes.{Keeps}
 use Rattle.std.specs.String.{string_bytes}
 use Rattle.planus_commands.specs.Including.{IsFirstThere, tried, path_of}
-use Rattle.planus_commands.specs.Loading.{IsSource, Refuses, disk_of, enter, Includes, IncludesItem, IncludesAll, IfBegun, Loads, Once}
+use Rattle.planus_commands.specs.Loading.{IsSource, Refuses, places_of, enter, Includes, IncludesItem, IncludesAll, IfBegun, Loads, Once}
 use Rattle.planus_commands.proofs.SpelledFiles.{spelled_tokens, read_more}
 use Rattle.planus_commands.proofs.LoadedFiles.{if_ok, never_clean, too_deep, entered, not_begun, nothing_included, one_included, next_included, all_included}
 use Rattle.planus_commands.proofs.sources.+load.Goals as goal
@@ -21,7 +21,7 @@ include-returns-in_default-clause-kept g t c = never_clean _ c.refuse.result c.r
 
 pub include-returns-in_default-clause-loads : goal.include-returns-in_default-clause-loads
 include-returns-in_default-clause-loads g t c =
-    let there = g.F.Files.there c.args.files.now in
+    let there = (g.F.Files.disk c.args.files.now).There in
     let names = tried (map (λ folder. folder.now) c.args.folders.now) (string_bytes c.args.source.now.file.name) (path_of c.args.string.now) in
     let first = subst (λ found. IsFirstThere there names (option_map string_bytes found)) c.in_default.is c.in_ok-name.ensures in
     if_ok c.refuse.result (λ status refuses. (None, first, refuses c.args.sources.now)) c.refuse.ensures.told
@@ -31,22 +31,22 @@ include-returns-then-left-eq0-clause-kept g t c = never_clean _ c.refuse-then-le
 
 pub include-returns-then-left-eq0-clause-loads : goal.include-returns-then-left-eq0-clause-loads
 include-returns-then-left-eq0-clause-loads g t c =
-    let there = g.F.Files.there c.args.files.now in
-    let disk = disk_of (g.F.Files.holds c.args.files.now) there c.args.folders.now in
+    let there = (g.F.Files.disk c.args.files.now).There in
+    let places = places_of (g.F.Files.disk c.args.files.now) c.args.folders.now in
     let name = string_bytes c.in-Some.name in
     let names = tried (map (λ folder. folder.now) c.args.folders.now) (string_bytes c.args.source.now.file.name) (path_of c.args.string.now) in
     let first = subst (λ found. IsFirstThere there names (option_map string_bytes found)) c.in-Some.is c.in_ok-name.ensures in
     if_ok c.refuse-then-left-eq0.result (λ status refuses. (
       Some name,
       first,
-      too_deep disk c.args.left name _ c.args.sources.now c.args.sources.now _ _ status c.if-left-eq0.true (refuses c.args.sources.now),
+      too_deep places c.args.left name _ c.args.sources.now c.args.sources.now _ _ status c.if-left-eq0.true (refuses c.args.sources.now),
     ))
     c.refuse-then-left-eq0.ensures.told
 
 pub include-returns-clause-loads : goal.include-returns-clause-loads
 include-returns-clause-loads g t c =
-    let there = g.F.Files.there c.args.files.now in
-    let disk = disk_of (g.F.Files.holds c.args.files.now) there c.args.folders.now in
+    let there = (g.F.Files.disk c.args.files.now).There in
+    let places = places_of (g.F.Files.disk c.args.files.now) c.args.folders.now in
     let name = string_bytes c.in-Some.name in
     let names = tried (map (λ folder. folder.now) c.args.folders.now) (string_bytes c.args.source.now.file.name) (path_of c.args.string.now) in
     let first = subst (λ found. IsFirstThere there names (option_map string_bytes found)) c.in-Some.is c.in_ok-name.ensures in
@@ -55,20 +55,20 @@ include-returns-clause-loads g t c =
     if_ok c.load.result (λ status loads. (
       Some name,
       first,
-      entered disk c.args.left name _ c.args.sources.now c.load.new.sources unsaid said status c.if-left-eq0.false
-          (subst (λ text. Once (Loads disk (c.args.left - 1)) text c.args.sources.now unsaid status c.load.new.sources said)
+      entered places c.args.left name _ c.args.sources.now c.load.new.sources unsaid said status c.if-left-eq0.false
+          (subst (λ text. Once (Loads places (c.args.left - 1)) text c.args.sources.now unsaid status c.load.new.sources said)
           c.as_str.ensures.value loads),
     ))
     c.load.ensures.loads
 
 pub load-returns-clause-loads : goal.load-returns-clause-loads
 load-returns-clause-loads g t c =
-    let disk = disk_of (g.F.Files.holds c.args.files.now) (g.F.Files.there c.args.files.now) c.args.folders.now in
-    if_ok c.load_file.result (λ status loads. not_begun (Loads disk c.args.left c.args.name.now) _ c.args.sources.now _ _ _ status (sym c.has_begun.ensures ∙ c.if-has_begun.false) loads) c.load_file.ensures.loads
+    let places = places_of (g.F.Files.disk c.args.files.now) c.args.folders.now in
+    if_ok c.load_file.result (λ status loads. not_begun (Loads places c.args.left c.args.name.now) _ c.args.sources.now _ _ _ status (sym c.has_begun.ensures ∙ c.if-has_begun.false) loads) c.load_file.ensures.loads
 
 pub load_file-returns-in_ok-add-in-Ok-clause-read : goal.load_file-returns-in_ok-add-in-Ok-clause-read
 load_file-returns-in_ok-add-in-Ok-clause-read g t c =
-    let Holds = g.F.Files.holds c.args.files.now in
+    let Holds = (g.F.Files.disk c.args.files.now).Holds in
     let name = c.args.name.now in
     let before = c.load_includes.new.sources in
     let after = c.add.new.self in
@@ -79,7 +79,7 @@ load_file-returns-in_ok-add-in-Ok-clause-read g t c =
 
 pub load_file-returns-in_ok-add-in-Ok-clause-last : goal.load_file-returns-in_ok-add-in-Ok-clause-last
 load_file-returns-in_ok-add-in-Ok-clause-last g t c = λ clean.
-    let Holds = g.F.Files.holds c.args.files.now in
+    let Holds = (g.F.Files.disk c.args.files.now).Holds in
     let name = c.args.name.now in
     let is = subst (λ read. IfOk read (λ s. IsSource Holds name s)) c.in-Ok.is c.in_ok-status.ensures.source in
     record {
@@ -91,7 +91,7 @@ load_file-returns-in_ok-add-in-Ok-clause-last g t c = λ clean.
 
 pub load_file-returns-in_ok-add-in-Ok-clause-loads : goal.load_file-returns-in_ok-add-in-Ok-clause-loads
 load_file-returns-in_ok-add-in-Ok-clause-loads g t c =
-    let Holds = g.F.Files.holds c.args.files.now in
+    let Holds = (g.F.Files.disk c.args.files.now).Holds in
     let name = c.args.name.now in
     let is = subst (λ read. IfOk read (λ s. IsSource Holds name s)) c.in-Ok.is c.in_ok-status.ensures.source in
     inr (record {
@@ -109,8 +109,8 @@ load_file-returns-in_ok-add-in-Ok-clause-loads g t c =
 
 pub load_includes-declarations-preserved : goal.load_includes-declarations-preserved
 load_includes-declarations-preserved g t c =
-    let disk = disk_of (g.F.Files.holds c.args.files.now) (g.F.Files.there c.args.files.now) c.args.folders.now in
-    let Include = Includes disk (enter disk c.args.left) c.args.source.now.file in
+    let places = places_of (g.F.Files.disk c.args.files.now) c.args.folders.now in
+    let Include = Includes places (enter places c.args.left) c.args.source.now.file in
     let all = c.deref-declaration-items.result.now in
     let same = c.deref-declaration-items.ensures.value in
     let index = c.declarations.declaration-index in
@@ -146,8 +146,8 @@ load_includes-declarations-preserved g t c =
 
 pub load_includes-returns-clause-loads : goal.load_includes-returns-clause-loads
 load_includes-returns-clause-loads g t c =
-    let disk = disk_of (g.F.Files.holds c.args.files.now) (g.F.Files.there c.args.files.now) c.args.folders.now in
-    let Include = Includes disk (enter disk c.args.left) c.args.source.now.file in
+    let places = places_of (g.F.Files.disk c.args.files.now) c.args.folders.now in
+    let Include = Includes places (enter places c.args.left) c.args.source.now.file in
     let end = subst (λ ds. length ds ≤ c.declarations.declaration-index) c.deref-declaration-items.ensures.value c.declarations-test.false in
     c.declarations.invariant.loads c.declarations.worst c.declarations.sources (g.X.Write.contents c.declarations.errors)
     (all_included Include c.args.source.now.declarations.items c.declarations.declaration-index c.declarations.worst c.declarations.sources

@@ -2,7 +2,7 @@ use Rattle.std.proofs.Common.{◌≡◌, ◌+◌, ◌*◌, ℕ, List, drop}
 use Rattle.std.specs.Prelude.{Option}
 use Rattle.std.specs.Io.KnownBytes.{Keeps}
 use Rattle.planus_commands.specs.Files.{AreRead}
-use Rattle.planus_commands.specs.Loading.{disk_of, enter, Includes, IncludesAll}
+use Rattle.planus_commands.specs.Loading.{places_of, enter, Includes, IncludesAll}
 use Rattle.planus_commands.specs.declared.sources.Sources.{Sources}
 use Rattle.planus_commands.proofs.sources.+load.Given as goal
 
@@ -21,10 +21,10 @@ decreases-include g l = 4 * l.left
 
 abbrev pub invariant-load_includes-declarations : goal.invariant-load_includes-declarations
 invariant-load_includes-declarations g l =
-    let disk = disk_of (g.F.Files.holds l.files) (g.F.Files.there l.files) l.folders in
-    let Include = Includes disk (enter disk l.left) l.source.file in
+    let places = places_of (g.F.Files.disk l.files) l.folders in
+    let Include = Includes places (enter places l.left) l.source.file in
     record {
-      read : AreRead (g.F.Files.holds l.files) l.sources.files.items l.sources.declarations.items;
+      read : AreRead (g.F.Files.disk l.files).Holds l.sources.files.items l.sources.declarations.items;
       kept : l.worst ≡ 0 → Keeps (g.X.Write.contents l.initial.errors) (g.X.Write.contents l.errors);
       loads : (status : ℕ) (new : Sources) (said : Option (List ℕ))
           → IncludesAll Include (drop l.declaration-index l.source.declarations.items) l.worst l.sources (g.X.Write.contents l.errors) status new said

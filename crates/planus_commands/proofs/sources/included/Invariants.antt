@@ -5,5 +5,5 @@ use Rattle.planus_commands.proofs.sources.included.Given as goal
 
 abbrev pub invariant-folders : goal.invariant-folders
 invariant-folders g l = (found : Option (List ℕ))
-    → IsFirstThere (g.F.Files.there l.files) (map (λ folder. file_in folder l.path) (map (λ f. f.now) (drop l.folder-index l.folders))) found
-    → IsFirstThere (g.F.Files.there l.files) (tried (map (λ f. f.now) l.folders) l.name l.path) found
+    → IsFirstThere (g.F.Files.disk l.files).There (map (λ folder. file_in folder l.path) (map (λ f. f.now) (drop l.folder-index l.folders))) found
+    → IsFirstThere (g.F.Files.disk l.files).There (tried (map (λ f. f.now) l.folders) l.name l.path) found

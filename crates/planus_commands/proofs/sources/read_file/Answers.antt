@@ -9,7 +9,7 @@ use Rattle.planus_commands.proofs.sources.read_file.Goals as goal
 
 pub returns-in_ok-write_out-in-Faulty-clause-failed : goal.returns-in_ok-write_out-in-Faulty-clause-failed
 returns-in_ok-write_out-in-Faulty-clause-failed g c =
-    let Holds = g.F.Files.holds c.args.files.now in
+    let Holds = (g.F.Files.disk c.args.files.now).Holds in
     let name = c.args.name.now in
     let text = c.in-Some.text.items in
     let report = c.in-Faulty.report.items in

@@ -1,7 +1,7 @@
 use Rattle.std.proofs.Common.{subst, refl, inl, inr}
 use Rattle.std.specs.Prelude.{None, Some}
 use Rattle.planus_commands.specs.Checks.{ResolvesFiles}
-use Rattle.planus_commands.specs.Loading.{disk_of}
+use Rattle.planus_commands.specs.Loading.{places_of}
 use Rattle.planus_commands.specs.Sources.{most_includes}
 use Rattle.planus_commands.proofs.LoadedFiles.{are_loaded, means_all}
 use Rattle.planus_commands.proofs.sources.schema_of.Goals as goal
@@ -21,36 +21,36 @@ returns-then-status-ne-CLEAN-clause-none g c = inl (record {
 pub returns-in-Some-clause-means : goal.returns-in-Some-clause-means
 unfolding most_includes
 returns-in-Some-clause-means g c =
-    let disk = disk_of (g.F.Files.holds c.args.files.now) (g.F.Files.there c.args.files.now) c.args.folders.now in
+    let places = places_of (g.F.Files.disk c.args.files.now) c.args.folders.now in
     let name = c.args.name.now in
     let sources = c.load_file.new.sources in
     let unsaid = g.X.Write.contents c.args.errors.now in
     let told = g.X.Write.contents c.load_file.new.errors in
     let said = g.X.Write.contents c.resolve_or_report.new.errors in
     let loads = c.in_ok-status.ensures in
-    let loaded = are_loaded disk name (record { begun = c.new.result; files = c.new-2.result; declarations = c.new-3.result }) sources unsaid told
+    let loaded = are_loaded places name (record { begun = c.new.result; files = c.new-2.result; declarations = c.new-3.result }) sources unsaid told
     c.in_ok-status.status (record { begun = c.new.ensures.items; files = c.new-2.ensures.items; declarations = c.new-3.ensures.items })
     c.if-status-ne-CLEAN.false loads.loads loads.read loads.last loads.kept in
     let found = subst (λ found. ResolvesFiles c.deref.result.now c.deref-2.result.now found told said) c.in-Some.is c.in_ok-schema.ensures.resolved in
-    means_all disk name sources unsaid told said (Some c.in-Some.schema) c.deref.result.now c.deref-2.result.now loaded c.deref.ensures.value
+    means_all places name sources unsaid told said (Some c.in-Some.schema) c.deref.result.now c.deref-2.result.now loaded c.deref.ensures.value
     c.deref-2.ensures.value found
 
 pub returns-clause-none : goal.returns-clause-none
 unfolding most_includes
 returns-clause-none g c =
-    let disk = disk_of (g.F.Files.holds c.args.files.now) (g.F.Files.there c.args.files.now) c.args.folders.now in
+    let places = places_of (g.F.Files.disk c.args.files.now) c.args.folders.now in
     let name = c.args.name.now in
     let sources = c.load_file.new.sources in
     let unsaid = g.X.Write.contents c.args.errors.now in
     let told = g.X.Write.contents c.load_file.new.errors in
     let said = g.X.Write.contents c.resolve_or_report.new.errors in
     let loads = c.in_ok-status.ensures in
-    let loaded = are_loaded disk name (record { begun = c.new.result; files = c.new-2.result; declarations = c.new-3.result }) sources unsaid told
+    let loaded = are_loaded places name (record { begun = c.new.result; files = c.new-2.result; declarations = c.new-3.result }) sources unsaid told
     c.in_ok-status.status (record { begun = c.new.ensures.items; files = c.new-2.ensures.items; declarations = c.new-3.ensures.items })
     c.if-status-ne-CLEAN.false loads.loads loads.read loads.last loads.kept in
     let found = subst (λ found. ResolvesFiles c.deref.result.now c.deref-2.result.now found told said) c.in-None.is c.in_ok-schema.ensures.resolved in
     inr (
       refl,
-      means_all disk name sources unsaid told said None c.deref.result.now c.deref-2.result.now loaded c.deref.ensures.value
+      means_all places name sources unsaid told said None c.deref.result.now c.deref-2.result.now loaded c.deref.ensures.value
           c.deref-2.ensures.value found,
     )

@@ -1,5 +1,5 @@
 use Rattle.std.proofs.Common.{◌≡◌, drop}
-use Rattle.planus_commands.specs.Files.{text_named}
+use Rattle.planus_commands.specs.Disks.{text_named}
 use Rattle.planus_commands.proofs.files.GivenFilesFiles.read.Given as goal
 
 abbrev pub invariant-files : goal.invariant-files

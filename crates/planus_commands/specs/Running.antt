@@ -1,0 +1,88 @@
+-- What a call does with files.
+use Rattle.std.specs.Prelude.{◌≡◌, ◌⊎◌, ⊤, ℕ, List, [], ◌∷◌, max, Option, Some}
+use Rattle.std.specs.Io.KnownBytes.{Keeps}
+use Rattle.planus_layout.specs.declared.schema.Schema.{Schema}
+use Rattle.planus_commands.specs.Arguments.{WordsV, Asked, run}
+use Rattle.planus_commands.specs.Buffers.{ViewsBy}
+use Rattle.planus_commands.specs.Disks.{Disk}
+use Rattle.planus_commands.specs.Files.{SaysUnread}
+use Rattle.planus_commands.specs.Including.{file_named}
+use Rattle.planus_commands.specs.Loading.{Places}
+use Rattle.planus_commands.specs.Printing.{PrintsCode}
+use Rattle.planus_commands.specs.Rewriting.{FormatsFile}
+use Rattle.planus_commands.specs.Sources.{ChecksFile, HasNoSchema, MeansAll}
+use Rattle.planus_commands.specs.declared.arguments.Command.{Command}
+use Rattle.planus_commands.specs.declared.arguments.Command.TheVariants.{Check, Format, View}
+use Rattle.planus_commands.specs.declared.arguments.Command.TheVariants.{Rattle as RattleCommand}
+
+-- A status, what was written before and after, and what was reported.
+abbrev pub Does : Type 1
+Does = ℕ → Option (List ℕ) → Option (List ℕ) → Option (List ℕ) → Option (List ℕ) → Type 0
+
+abbrev pub places_in : Disk → WordsV → Places
+places_in disk words = record { disk = disk; folders = words.folders }
+
+-- what `check` and `format` do with one file
+abbrev pub RunsFile : Disk → Command → WordsV → List ℕ → Does
+RunsFile disk Format words word status before after unsaid said =
+    FormatsFile disk words word status before after unsaid said
+RunsFile disk other words word status before after unsaid said =
+    (after ≡ before) × ChecksFile (places_in disk words) (file_named word) status unsaid said
+
+-- One file after the other. The worst status before stays.
+abbrev pub RunsFiles : (List ℕ → Does) → List (List ℕ) → ℕ → Does
+RunsFiles One [] worst status before after unsaid said =
+    (status ≡ worst) × (after ≡ before) × (said ≡ unsaid)
+RunsFiles One (word ∷ words) worst status before after unsaid said =
+    (one : ℕ) × (written : Option (List ℕ)) × (told : Option (List ℕ))
+    × One word one before written unsaid told
+    × RunsFiles One words (max worst one) status written after told said
+
+-- A file was read and viewed.
+pub record ViewsRead (disk : Disk) (schema : Schema) (words : WordsV) (name : List ℕ) (status : ℕ)
+    (before after unsaid said : Option (List ℕ)) : Type 0 where
+  pub bytes : List ℕ
+  pub holds : disk.Holds name bytes
+  pub told : Option (List ℕ)
+  pub kept : Keeps unsaid told
+  pub views : ViewsBy schema words name bytes status before after told said
+
+abbrev pub ViewsFile : Disk → Schema → WordsV → List ℕ → Does
+ViewsFile disk schema words name status before after unsaid said =
+    ((status ≡ 2) × (after ≡ before) × SaysUnread disk name unsaid said)
+    ⊎ ViewsRead disk schema words name status before after unsaid said
+
+-- What a schema means was found, and the buffer's file viewed by it.
+pub record ViewsMeaning (disk : Disk) (words : WordsV) (schema buffer : List ℕ) (status : ℕ)
+    (before after unsaid said : Option (List ℕ)) : Type 0 where
+  pub means : Schema
+  pub told : Option (List ℕ)
+  pub found : MeansAll (places_in disk words) (file_named schema) (Some means) unsaid told
+  pub views : ViewsFile disk means words buffer status before after told said
+
+-- what `view` does with two files
+abbrev pub ViewsFiles : Disk → WordsV → List (List ℕ) → Does
+ViewsFiles disk words (schema ∷ buffer ∷ []) status before after unsaid said =
+    ((after ≡ before) × HasNoSchema (places_in disk words) (file_named schema) status unsaid said)
+    ⊎ ViewsMeaning disk words schema buffer status before after unsaid said
+ViewsFiles disk words other status before after unsaid said = status ≡ 2
+
+abbrev pub RunsCommand : Disk → Command → WordsV → Does
+RunsCommand disk View words status before after unsaid said =
+    ViewsFiles disk words words.files status before after unsaid said
+RunsCommand disk RattleCommand words status before after unsaid said =
+    (after ≡ before) × (status ≡ 0 → PrintsCode disk words unsaid said)
+RunsCommand disk command words status before after unsaid said =
+    RunsFiles (RunsFile disk command words) words.files 0 status before after unsaid said
+
+-- what a call does with the files that it names
+abbrev pub Runs : Disk → Asked → Does
+Runs disk (run command words) status before after unsaid said =
+    RunsCommand disk command words status before after unsaid said
+Runs disk other status before after unsaid said = ⊤
+
+-- It was done, after nothing was said of the call.
+abbrev pub RunsIf : Disk → Asked → Does
+RunsIf disk request status before after unsaid said = (written : Option (List ℕ))
+    × (told : Option (List ℕ)) × Keeps before written × Keeps unsaid told
+    × Runs disk request status written after told said
