@@ -5,6 +5,7 @@ pub mod Nearby
 pub mod SpelledFiles
 pub mod Sized
 pub mod LoadedFiles
+pub mod RunFiles
 pub mod Seen
 mod ViewedBuffer
 mod Failing

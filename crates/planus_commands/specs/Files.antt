@@ -46,6 +46,13 @@ SaysUnread disk name unsaid said =
     × Appends unsaid said (line_of (codes "can't read ") name (after_name error)))
     ⊎ Appends unsaid said (line_of [] name (codes " is longer than 16777216 bytes"))
 
+-- It was written, with status 0, or it was said why not, with status 2.
+abbrev pub PutsFile : Disk → List ℕ → List ℕ → ℕ → Option (List ℕ) → Option (List ℕ) → Type 0
+PutsFile disk name bytes status unsaid said =
+    ((status ≡ 0) × disk.Wrote name bytes × (said ≡ unsaid))
+    ⊎ ((status ≡ 2) × ((error : FileError) × disk.Fails name error
+    × Appends unsaid said (line_of (codes "can't write ") name (after_name error))))
+
 -- The first fault of the file's text was reported.
 pub record ReportsFile (Holds : List ℕ → List ℕ → Type 0) (name : List ℕ)
     (unsaid said : Option (List ℕ)) : Type 0 where

@@ -1,16 +1,16 @@
 -- Crates of printed code: their names, and how their files are written or compared.
 use Rattle.std.specs.Prelude.{◌≡◌, ℕ, Bool, false, ◌&&◌, ◌||◌, ◌==◌, not, ⊤, List, [], ◌∷◌, codes, nat_eq}
-use Rattle.std.specs.Prelude.{◌≢◌, ◌≤◌, ◌⊎◌, true, max, length, map, Option, Some, Result, Ok, Err}
+use Rattle.std.specs.Prelude.{◌++◌, ◌≢◌, ◌≤◌, ◌⊎◌, true, max, length, map, Option, Some, Result, Ok, Err}
 use Rattle.std.specs.Io.KnownBytes.{Appends}
 use Rattle.std.specs.List.{list_all, starts_with}
 use Rattle.std.specs.Int.{is_in_range}
 use Rattle.planus_plan.specs.Names.{is_in, is_reserved}
 use Rattle.std.specs.String.{string_bytes}
 use Rattle.planus_layout.specs.declared.schema.Schema.{Schema}
-use Rattle.planus_tie.specs.declared.printed_file.PrintedFile.{PrintedFile}
+use Rattle.planus_tie.specs.declared.files.PrintedFile.{PrintedFile}
 use Rattle.planus_codegen.specs.Printed.{IsPrinted}
-use Rattle.planus_commands.specs.Arguments.{WordsV}
 use Rattle.planus_commands.specs.Disks.{Disk, after_name}
+use Rattle.planus_commands.specs.Files.{PutsFile}
 use Rattle.planus_commands.specs.Including.{file_named}
 use Rattle.planus_commands.specs.Loading.{Places}
 use Rattle.planus_commands.specs.Sources.{MeansAll}
@@ -96,13 +96,6 @@ IsHeld disk name bytes (Ok true) = disk.Holds name bytes
 IsHeld disk name bytes (Ok false) = ⊤
 IsHeld disk name bytes (Err error) = disk.Fails name error
 
--- It was written, with status 0, or it was said why not, with status 2.
-abbrev pub PutsFile : Disk → List ℕ → List ℕ → ℕ → Option (List ℕ) → Option (List ℕ) → Type 0
-PutsFile disk name bytes status unsaid said =
-    ((status ≡ 0) × disk.Wrote name bytes × (said ≡ unsaid))
-    ⊎ ((status ≡ 2) × ((error : FileError) × disk.Fails name error
-    × Appends unsaid said (line_of (codes "can't write ") name (after_name error))))
-
 abbrev pub other_why : Result Bool FileError → List ℕ
 other_why (Ok held) = codes " isn't what is printed"
 other_why (Err error) = after_name error
@@ -162,15 +155,22 @@ pub record PrintsCrate (disk : Disk) (folder name : List ℕ) (check : Bool) (sc
   pub says : SaysLine check name told said
 
 -- A crate has the code of what the named file means.
-pub record PrintsCode (disk : Disk) (words : WordsV) (unsaid said : Option (List ℕ)) : Type 0 where
-  pub file : List ℕ
-  pub files : List (List ℕ)
-  pub are : words.files ≡ file ∷ files
+pub record PrintsNamed (places : Places) (word folder name : List ℕ) (check : Bool)
+    (unsaid said : Option (List ℕ)) : Type 0 where
   pub schema : Schema
   pub told : Option (List ℕ)
-  pub means : MeansAll (record { disk = disk; folders = words.folders }) (file_named file)
-      (Some schema) unsaid told
+  pub means : MeansAll places (file_named word) (Some schema) unsaid told
+  pub prints : PrintsCrate places.disk folder name check schema told said
+
+-- The crate has a name that crates can have.
+pub record PrintsOne (places : Places) (check : Bool) (word : List ℕ)
+    (unsaid said : Option (List ℕ)) : Type 0 where
   pub folder : List ℕ
   pub name : List ℕ
   pub is : is_crate_name name ≡ true
-  pub prints : PrintsCrate disk folder name words.check schema told said
+  pub prints : PrintsNamed places word folder name check unsaid said
+
+-- `rattle` has one schema.
+abbrev pub PrintsCode : Places → Bool → List (List ℕ) → Option (List ℕ) → Option (List ℕ) → Type 0
+PrintsCode places check (word ∷ []) unsaid said = PrintsOne places check word unsaid said
+PrintsCode places check other unsaid said = ⊥

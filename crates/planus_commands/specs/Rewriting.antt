@@ -5,9 +5,8 @@ use Rattle.planus_commands.specs.declared.outcome.Rewritten.{Rewritten}
 use Rattle.planus_commands.specs.declared.outcome.Rewritten.TheVariants as rewritten
 use Rattle.std.specs.Str.{bytes_eq}
 use Rattle.planus_commands.specs.Arguments.{WordsV}
-use Rattle.planus_commands.specs.Disks.{Disk, after_name}
-use Rattle.planus_commands.specs.Files.{IsTextOf, SaysUnread}
-use Rattle.planus_commands.specs.declared.file_error.FileError.{FileError}
+use Rattle.planus_commands.specs.Disks.{Disk}
+use Rattle.planus_commands.specs.Files.{IsTextOf, PutsFile, SaysUnread}
 use Rattle.planus_commands.specs.Outcomes.{Formats, SaysComments, Reports, line_of}
 
 -- This was said, if comments are left out.
@@ -51,9 +50,7 @@ IsRewritten drop name text (rewritten.Faulty report) = Reports name text report.
 -- It was written in place of its file, or it was said why not.
 abbrev pub Replaces : Disk → List ℕ → Rewritten → ℕ → Option (List ℕ) → Option (List ℕ) → Type 0
 Replaces disk name (rewritten.By out) status unsaid said =
-    ((status ≡ 0) × disk.Wrote name out.items × (said ≡ unsaid))
-    ⊎ ((status ≡ 2) × ((error : FileError) × disk.Fails name error
-    × Appends unsaid said (line_of (codes "can't write ") name (after_name error))))
+    PutsFile disk name out.items status unsaid said
 Replaces disk name rewritten.LosesComments status unsaid said = (status ≡ 2)
     × Appends unsaid said (line_of [] name (codes ": its comments would be lost; see --drop-comments"))
 Replaces disk name (rewritten.Faulty report) status unsaid said =

@@ -1,5 +1,5 @@
 -- What a call does with files.
-use Rattle.std.specs.Prelude.{◌≡◌, ◌⊎◌, ⊤, ℕ, List, [], ◌∷◌, max, Option, Some}
+use Rattle.std.specs.Prelude.{◌≡◌, ◌⊎◌, ⊤, ℕ, Bool, true, false, List, [], ◌∷◌, max, Option, Some, None}
 use Rattle.std.specs.Io.KnownBytes.{Keeps}
 use Rattle.planus_layout.specs.declared.schema.Schema.{Schema}
 use Rattle.planus_commands.specs.Arguments.{WordsV, Asked, run}
@@ -10,6 +10,7 @@ use Rattle.planus_commands.specs.Including.{file_named}
 use Rattle.planus_commands.specs.Loading.{Places}
 use Rattle.planus_commands.specs.Printing.{PrintsCode}
 use Rattle.planus_commands.specs.Rewriting.{FormatsFile}
+use Rattle.planus_commands.specs.Said.{SaidV, SaysBy, said_of}
 use Rattle.planus_commands.specs.Sources.{ChecksFile, HasNoSchema, MeansAll}
 use Rattle.planus_commands.specs.declared.arguments.Command.{Command}
 use Rattle.planus_commands.specs.declared.arguments.Command.TheVariants.{Check, Format, View}
@@ -22,11 +23,11 @@ Does = ℕ → Option (List ℕ) → Option (List ℕ) → Option (List ℕ) →
 abbrev pub places_in : Disk → WordsV → Places
 places_in disk words = record { disk = disk; folders = words.folders }
 
--- what `check` and `format` do with one file
-abbrev pub RunsFile : Disk → Command → WordsV → List ℕ → Does
-RunsFile disk Format words word status before after unsaid said =
+-- what `format` does with one file, or `check`
+abbrev pub RunsFile : Disk → Bool → WordsV → List ℕ → Does
+RunsFile disk true words word status before after unsaid said =
     FormatsFile disk words word status before after unsaid said
-RunsFile disk other words word status before after unsaid said =
+RunsFile disk false words word status before after unsaid said =
     (after ≡ before) × ChecksFile (places_in disk words) (file_named word) status unsaid said
 
 -- One file after the other. The worst status before stays.
@@ -60,20 +61,25 @@ pub record ViewsMeaning (disk : Disk) (words : WordsV) (schema buffer : List ℕ
   pub found : MeansAll (places_in disk words) (file_named schema) (Some means) unsaid told
   pub views : ViewsFile disk means words buffer status before after told said
 
--- what `view` does with two files
-abbrev pub ViewsFiles : Disk → WordsV → List (List ℕ) → Does
-ViewsFiles disk words (schema ∷ buffer ∷ []) status before after unsaid said =
+-- what `view` does with a schema and a buffer
+abbrev pub ViewsPair : Disk → WordsV → List ℕ → List ℕ → Does
+ViewsPair disk words schema buffer status before after unsaid said =
     ((after ≡ before) × HasNoSchema (places_in disk words) (file_named schema) status unsaid said)
     ⊎ ViewsMeaning disk words schema buffer status before after unsaid said
-ViewsFiles disk words other status before after unsaid said = status ≡ 2
+
+abbrev pub ViewsFiles : Disk → WordsV → List (List ℕ) → Does
+ViewsFiles disk words (schema ∷ buffer ∷ []) = ViewsPair disk words schema buffer
+ViewsFiles disk words other = λ status before after unsaid said. status ≡ 2
 
 abbrev pub RunsCommand : Disk → Command → WordsV → Does
 RunsCommand disk View words status before after unsaid said =
     ViewsFiles disk words words.files status before after unsaid said
 RunsCommand disk RattleCommand words status before after unsaid said =
-    (after ≡ before) × (status ≡ 0 → PrintsCode disk words unsaid said)
-RunsCommand disk command words status before after unsaid said =
-    RunsFiles (RunsFile disk command words) words.files 0 status before after unsaid said
+    (after ≡ before) × (status ≡ 0 → PrintsCode (places_in disk words) words.check words.files unsaid said)
+RunsCommand disk Check words status before after unsaid said =
+    RunsFiles (RunsFile disk false words) words.files 0 status before after unsaid said
+RunsCommand disk Format words status before after unsaid said =
+    RunsFiles (RunsFile disk true words) words.files 0 status before after unsaid said
 
 -- what a call does with the files that it names
 abbrev pub Runs : Disk → Asked → Does
@@ -82,7 +88,19 @@ Runs disk (run command words) status before after unsaid said =
 Runs disk other status before after unsaid said = ⊤
 
 -- It was done, after nothing was said of the call.
-abbrev pub RunsIf : Disk → Asked → Does
-RunsIf disk request status before after unsaid said = (written : Option (List ℕ))
-    × (told : Option (List ℕ)) × Keeps before written × Keeps unsaid told
-    × Runs disk request status written after told said
+pub record RunsAfter (disk : Disk) (request : Asked) (status : ℕ)
+    (before after unsaid said : Option (List ℕ)) : Type 0 where
+  pub written : Option (List ℕ)
+  pub told : Option (List ℕ)
+  pub kept : Keeps before written
+  pub quiet : Keeps unsaid told
+  pub runs : Runs disk request status written after told said
+
+abbrev pub SaysOr : Does → Option SaidV → Does
+SaysOr runs None status before after unsaid said = runs status before after unsaid said
+SaysOr runs (Some s) status before after unsaid said =
+    SaysBy s.wrong s.text (Some status) before after unsaid said
+
+-- What is said of a call was written; or else what it asks for was done.
+abbrev pub SaysOrRuns : Disk → Asked → Does
+SaysOrRuns disk request = SaysOr (RunsAfter disk request) (said_of request)

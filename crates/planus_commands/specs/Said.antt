@@ -1,5 +1,5 @@
 -- What is written of a call that names no schema.
-use Rattle.std.specs.Prelude.{◌≡◌, ℕ, ⊤, Bool, true, false, ◌==◌, List, [], ◌∷◌, ◌++◌, codes}
+use Rattle.std.specs.Prelude.{◌≡◌, ℕ, Bool, true, false, ◌==◌, List, [], ◌∷◌, ◌++◌, codes}
 use Rattle.std.specs.Prelude.{Option, Some, None, if◌then◌else◌}
 use Rattle.std.specs.Io.KnownBytes.{Appends, Keeps}
 use Rattle.planus_commands.specs.declared.arguments.Command.{Command}
@@ -140,10 +140,3 @@ Says None status before after unsaid said =
     (status ≡ None) × Keeps before after × Keeps unsaid said
 Says (Some s) status before after unsaid said =
     SaysBy s.wrong s.text status before after unsaid said
-
--- This was written, if the call alone says anything.
-abbrev pub SaysIf : Option SaidV → ℕ → Option (List ℕ) → Option (List ℕ)
-    → Option (List ℕ) → Option (List ℕ) → Type 0
-SaysIf None status before after unsaid said = ⊤
-SaysIf (Some s) status before after unsaid said =
-    SaysBy s.wrong s.text (Some status) before after unsaid said

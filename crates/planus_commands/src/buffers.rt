@@ -12,7 +12,7 @@ ghost use Rattle.planus_commands.specs.Buffers.{FailsIdentifier, FailsOne, Fails
 ghost use Rattle.planus_commands.specs.Buffers.{FailsBy};
 ghost use Rattle.planus_dump.specs.Writing.{WritesBeginning};
 ghost use Rattle.planus_commands.specs.Arguments.{words_of};
-ghost use Rattle.planus_commands.specs.Running.{ViewsFile, ViewsFiles};
+ghost use Rattle.planus_commands.specs.Running.{ViewsFile, ViewsPair, ViewsFiles};
 ghost use Rattle.planus_commands.specs.Viewing.{SplitsSized, EndsEarly};
 
 use crate::arguments::{Words, number_of};
@@ -271,27 +271,6 @@ pub fn view_by<W: Write, X: Write>(
     view_bytes(alloc, schema, how, name, bytes, writer, errors)
 }
 
-/// Writes what a buffer holds by a schema, both of which are files. Returns the exit status.
-pub fn view_file<F: Files, W: Write, X: Write>(
-    files: &F,
-    alloc: Global,
-    words: &Words<'_>,
-    writer: &mut W,
-    errors: &mut X,
-) -> Result<u8, RunError>
-    ensures { IfOk result (λ status. ViewsFiles (F.disk files.now) (words_of words.now)
-        (words_of words.now).files status (W.contents writer.old) (W.contents writer.new)
-        (X.contents errors.old) (X.contents errors.new)) }
-{
-    let [schema, buffer] = words.files.as_slice() else {
-        return Ok(FAILED);
-    };
-    match schema_at(files, alloc, &words.folders, *schema, errors)? {
-        Ok(schema) => view_by_file(files, alloc, &schema, words, *buffer, writer, errors),
-        Err(status) => Ok(status),
-    }
-}
-
 /// Reads a file, and does what [`view_by`] does.
 fn view_by_file<F: Files, W: Write, X: Write>(
     files: &F,
@@ -309,5 +288,44 @@ fn view_by_file<F: Files, W: Write, X: Write>(
     match bytes_of(files, alloc, name, errors)? {
         Some(bytes) => view_by(alloc, schema, words, name, &bytes, writer, errors),
         None => Ok(FAILED),
+    }
+}
+
+/// Reads a schema, and does what [`view_by_file`] does.
+fn view_pair<F: Files, W: Write, X: Write>(
+    files: &F,
+    alloc: Global,
+    words: &Words<'_>,
+    schema: &str,
+    buffer: &str,
+    writer: &mut W,
+    errors: &mut X,
+) -> Result<u8, RunError>
+    ensures { IfOk result (λ status. ViewsPair (F.disk files.now) (words_of words.now)
+        schema.now buffer.now status (W.contents writer.old) (W.contents writer.new)
+        (X.contents errors.old) (X.contents errors.new)) }
+{
+    let found = schema_at(files, alloc, &words.folders, schema, errors)?;
+    match &found {
+        Ok(schema) => view_by_file(files, alloc, schema, words, buffer, writer, errors),
+        Err(status) => Ok(*status),
+    }
+}
+
+/// Writes what a buffer holds by a schema, both of which are files. Returns the exit status.
+pub fn view_file<F: Files, W: Write, X: Write>(
+    files: &F,
+    alloc: Global,
+    words: &Words<'_>,
+    writer: &mut W,
+    errors: &mut X,
+) -> Result<u8, RunError>
+    ensures { IfOk result (λ status. ViewsFiles (F.disk files.now) (words_of words.now)
+        (words_of words.now).files status (W.contents writer.old) (W.contents writer.new)
+        (X.contents errors.old) (X.contents errors.new)) }
+{
+    match words.files.as_slice() {
+        [schema, buffer] => view_pair(files, alloc, words, *schema, *buffer, writer, errors),
+        _ => Ok(FAILED),
     }
 }

@@ -2,13 +2,15 @@
 
 ghost use Rattle.std.specs.Prelude.{◌≤◌, length, IfOk, IfErr, OnOk};
 ghost use Rattle.planus_commands.specs.Disks.{Disk};
+ghost use Rattle.planus_commands.specs.Files.{PutsFile};
 ghost use Rattle.planus_commands.specs.Outcomes.{greatest_text};
 
 use crate::checking::File;
 use crate::file_error::FileError;
-use crate::streams::read_all;
+use crate::said::{CLEAN, fail};
+use crate::streams::{RunError, read_all};
 use std::alloc::Global;
-use std::io::Input;
+use std::io::{Input, Write};
 use std::{fs, io};
 
 /// Where files are read and written.
@@ -33,6 +35,23 @@ pub trait Files {
     fn write(&self, alloc: Global, name: &str, bytes: &[u8]) -> Result<(), FileError>
         ensures written { OnOk result ((Self.disk self.now).Wrote name.now bytes.now) }
         ensures error { IfErr result (λ error. (Self.disk self.now).Fails name.now error) };
+}
+
+/// Writes a file, or says why not. Returns the exit status.
+pub(crate) fn put_file<F: Files, X: Write>(
+    files: &F,
+    alloc: Global,
+    name: &str,
+    bytes: &[u8],
+    errors: &mut X,
+) -> Result<u8, RunError>
+    ensures { IfOk result (λ status. PutsFile (F.disk files.now) name.now bytes.now status
+        (X.contents errors.old) (X.contents errors.new)) }
+{
+    match files.write(alloc, name, bytes) {
+        Ok(()) => Ok(CLEAN),
+        Err(error) => fail(alloc, errors, "can't write ", name, error.after_name()),
+    }
 }
 
 /// The files of the system, and standard input under the name `-`. No clause says what they hold.

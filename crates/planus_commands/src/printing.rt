@@ -3,8 +3,10 @@
 ghost use Rattle.std.specs.Prelude.{◌≡◌, true, IfOk, OnOk, MatchOption};
 ghost use Rattle.std.specs.Io.KnownBytes.{Appends};
 ghost use Rattle.planus_commands.specs.Arguments.{words_of};
-ghost use Rattle.planus_commands.specs.Printing.{crates_line, RefusesName, IsHeld, PutsFile};
-ghost use Rattle.planus_commands.specs.Printing.{TellsOther, PrintsFile, PrintsAll, PrintsCrate};
+ghost use Rattle.planus_commands.specs.Loading.{places_of};
+ghost use Rattle.planus_commands.specs.Printing.{crates_line, RefusesName, IsHeld};
+ghost use Rattle.planus_commands.specs.Printing.{TellsOther, PrintsBytes, PrintsFile, PrintsAll};
+ghost use Rattle.planus_commands.specs.Printing.{PrintsCrate, PrintsNamed};
 ghost use Rattle.planus_commands.specs.Printing.{PrintsCode};
 ghost use Rattle.planus_commands.specs.Printing.{is_small_letter as is_small_letter_lem};
 ghost use Rattle.planus_commands.specs.Printing.{is_in_name as is_in_name_lem};
@@ -14,7 +16,7 @@ ghost use Rattle.planus_commands.specs.Printing.{is_crate_name as is_crate_name_
 
 use crate::arguments::Words;
 use crate::file_error::FileError;
-use crate::files::Files;
+use crate::files::{Files, put_file};
 use crate::libraries::is_library;
 use crate::said::{CLEAN, FAILED, FAULTY, fail};
 use crate::sources::schema_at;
@@ -87,7 +89,8 @@ fn folder_or_report<'a, X: Write>(
 ) -> Result<Option<Folder<'a>>, RunError>
     ensures { IfOk result (λ found. MatchOption found
         (RefusesName (X.contents errors.old) (X.contents errors.new))
-        (λ folder. (is_crate_name_lem folder.name.now ≡ true) × (folder.check ≡ check))) }
+        (λ folder. (is_crate_name_lem folder.name.now ≡ true) × (folder.check ≡ check)
+        × (X.contents errors.new ≡ X.contents errors.old))) }
 {
     let path = path.trim_end_matches('/');
     let name = last_word(path);
@@ -114,23 +117,6 @@ fn holds<F: Files>(
     }
 }
 
-/// Writes a file, or says why not. Returns the exit status.
-fn put_file<F: Files, X: Write>(
-    files: &F,
-    alloc: Global,
-    name: &str,
-    bytes: &[u8],
-    errors: &mut X,
-) -> Result<u8, RunError>
-    ensures { IfOk result (λ status. PutsFile (F.disk files.now) name.now bytes.now status
-        (X.contents errors.old) (X.contents errors.new)) }
-{
-    match files.write(alloc, name, bytes) {
-        Ok(()) => Ok(CLEAN),
-        Err(error) => fail(alloc, errors, "can't write ", name, error.after_name()),
-    }
-}
-
 /// Says that a file isn't what is printed, or why it can't be read.
 fn tell_other<X: Write>(
     alloc: Global,
@@ -149,7 +135,29 @@ fn tell_other<X: Write>(
     Ok(FAULTY)
 }
 
-/// Writes a printed file that isn't there, or compares it. Returns the exit status.
+/// Writes a file that doesn't have these bytes, or tells of it. Returns the exit status.
+fn print_bytes<F: Files, X: Write>(
+    files: &F,
+    alloc: Global,
+    name: &str,
+    bytes: &[u8],
+    check: bool,
+    errors: &mut X,
+) -> Result<u8, RunError>
+    ensures { IfOk result (λ status. PrintsBytes (F.disk files.now) name.now bytes.now check status
+        (X.contents errors.old) (X.contents errors.new)) }
+{
+    let found = holds(files, alloc, name, bytes)?;
+    if matches!(found, Ok(true)) {
+        Ok(CLEAN)
+    } else if check {
+        tell_other(alloc, name, found, errors)
+    } else {
+        put_file(files, alloc, name, bytes, errors)
+    }
+}
+
+/// Writes or compares a printed file. Returns the exit status.
 fn print_file<F: Files, X: Write>(
     files: &F,
     alloc: Global,
@@ -157,20 +165,14 @@ fn print_file<F: Files, X: Write>(
     file: &PrintedFile,
     errors: &mut X,
 ) -> Result<u8, RunError>
-    ensures { IfOk result (λ status. PrintsFile (F.disk files.now) folder.path.now folder.check
-        file.now status (X.contents errors.old) (X.contents errors.new)) }
+    ensures { IfOk result (λ status. PrintsFile (F.disk files.now)
+        folder.entry.path.now folder.entry.check file.now status
+        (X.contents errors.old) (X.contents errors.new)) }
 {
     let (folder_path, path) = (folder.path, file.path.as_str());
     let name = format!(in alloc; "{folder_path}/{path}")?;
     let bytes = file.text.as_bytes();
-    let found = holds(files, alloc, name.as_str(), bytes)?;
-    if matches!(found, Ok(true)) {
-        return Ok(CLEAN);
-    }
-    if folder.check {
-        return tell_other(alloc, name.as_str(), found, errors);
-    }
-    put_file(files, alloc, name.as_str(), bytes, errors)
+    print_bytes(files, alloc, name.as_str(), bytes, folder.check, errors)
 }
 
 /// Stops at the first file that can't be written.
@@ -181,7 +183,7 @@ fn print_files<F: Files, X: Write>(
     printed: &[PrintedFile],
     errors: &mut X,
 ) -> Result<u8, RunError>
-    ensures { IfOk result (λ status. PrintsAll (F.disk files.now) folder.path.now folder.check
+    ensures { IfOk result (λ status. PrintsAll (F.disk files.now) folder.entry.path.now folder.entry.check
         printed.now 0 status (X.contents errors.old) (X.contents errors.new)) }
 {
     let mut worst = CLEAN;
@@ -200,7 +202,9 @@ fn say_unsupported<X: Write>(
     what: &str,
     name: &[u8],
     errors: &mut X,
-) -> Result<u8, RunError> {
+) -> Result<u8, RunError>
+    ensures { IfOk result (λ status. status ≡ 1) }
+{
     let name = std::str::from_utf8(name).unwrap_or("");
     let why = format!(in alloc; ": {what} isn't supported by planus rattle")?;
     say(alloc, errors, "", name, why.as_str())?;
@@ -230,8 +234,8 @@ fn print_to<F: Files, X: Write>(
     errors: &mut X,
 ) -> Result<u8, RunError>
     requires { is_crate_name_lem folder.name.now ≡ true }
-    ensures { IfOk result (λ status. status ≡ 0 → PrintsCrate (F.disk files.now) folder.path.now
-        folder.name.now folder.check schema.now (X.contents errors.old) (X.contents errors.new)) }
+    ensures { IfOk result (λ status. status ≡ 0 → PrintsCrate (F.disk files.now)
+        folder.entry.path.now folder.entry.name.now folder.entry.check schema.now (X.contents errors.old) (X.contents errors.new)) }
 {
     match print_crate(alloc, schema, folder.name) {
         Ok(printed) => {
@@ -253,6 +257,27 @@ fn print_to<F: Files, X: Write>(
     }
 }
 
+/// Writes or compares the code of what a file means. Returns the exit status.
+fn print_named<F: Files, X: Write>(
+    files: &F,
+    alloc: Global,
+    folders: &[&str],
+    word: &str,
+    folder: Folder<'_>,
+    errors: &mut X,
+) -> Result<u8, RunError>
+    requires { is_crate_name_lem folder.name.now ≡ true }
+    ensures { IfOk result (λ status. status ≡ 0 → PrintsNamed
+        (places_of (F.disk files.now) folders.now) word.now folder.entry.path.now folder.entry.name.now folder.entry.check
+        (X.contents errors.old) (X.contents errors.new)) }
+{
+    let found = schema_at(files, alloc, folders, word, errors)?;
+    match &found {
+        Ok(schema) => print_to(files, alloc, schema, folder, errors),
+        Err(status) => Ok(*status),
+    }
+}
+
 /// Writes the code of a schema as a crate, or compares the crate with it. Returns the exit status.
 pub fn print_code<F: Files, X: Write>(
     files: &F,
@@ -260,18 +285,17 @@ pub fn print_code<F: Files, X: Write>(
     words: &Words<'_>,
     errors: &mut X,
 ) -> Result<u8, RunError>
-    ensures { IfOk result (λ status. status ≡ 0 → PrintsCode (F.disk files.now) (words_of words.now)
+    ensures { IfOk result (λ status. status ≡ 0 → PrintsCode
+        (places_of (F.disk files.now) words.now.folders.items) words.now.check
+        (words_of words.now).files
         (X.contents errors.old) (X.contents errors.new)) }
 {
     let path = words.output.unwrap_or("");
     let Some(folder) = folder_or_report(alloc, path, words.check, errors)? else {
         return Ok(FAILED);
     };
-    let Some(schema) = words.files.first() else {
-        return Ok(FAILED);
-    };
-    match schema_at(files, alloc, &words.folders, *schema, errors)? {
-        Ok(schema) => print_to(files, alloc, &schema, folder, errors),
-        Err(status) => Ok(status),
+    match words.files.as_slice() {
+        [word] => print_named(files, alloc, &words.folders, *word, folder, errors),
+        _ => Ok(FAILED),
     }
 }

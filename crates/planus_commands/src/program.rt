@@ -4,8 +4,7 @@ ghost use Rattle.std.specs.Prelude.{map, IfOk};
 ghost use Rattle.std.specs.String.{string_bytes};
 ghost use Rattle.planus_commands.specs.Arguments.{request_of as request_lem};
 ghost use Rattle.planus_commands.specs.Arguments.{asked, words_of};
-ghost use Rattle.planus_commands.specs.Running.{RunsFile, RunsFiles, Runs, RunsIf};
-ghost use Rattle.planus_commands.specs.Said.{said_of, SaysIf};
+ghost use Rattle.planus_commands.specs.Running.{RunsFile, RunsFiles, Runs, SaysOrRuns};
 
 use crate::arguments::{Command, Request, Words, request_of};
 use crate::buffers::view_file;
@@ -23,39 +22,40 @@ use std::io::Write;
 fn run_file<F: Files, W: Write, X: Write>(
     files: &F,
     alloc: Global,
-    command: Command,
+    format: bool,
     words: &Words<'_>,
     word: &str,
     writer: &mut W,
     errors: &mut X,
 ) -> Result<u8, RunError>
-    ensures { IfOk result (λ status. RunsFile (F.disk files.now) command (words_of words.now)
+    ensures { IfOk result (λ status. RunsFile (F.disk files.now) format (words_of words.now)
         word.now status (W.contents writer.old) (W.contents writer.new)
         (X.contents errors.old) (X.contents errors.new)) }
 {
-    if let Command::Format = command {
-        return format_file(files, alloc, words, word, writer, errors);
+    if format {
+        format_file(files, alloc, words, word, writer, errors)
+    } else {
+        check_at(files, alloc, &words.folders, word, errors)
     }
-    check_at(files, alloc, &words.folders, word, errors)
 }
 
 /// Checks or formats each file. Returns the worst exit status.
 fn run_files<F: Files, W: Write, X: Write>(
     files: &F,
     alloc: Global,
-    command: Command,
+    format: bool,
     words: &Words<'_>,
     writer: &mut W,
     errors: &mut X,
 ) -> Result<u8, RunError>
-    ensures { IfOk result (λ status. RunsFiles (RunsFile (F.disk files.now) command
+    ensures { IfOk result (λ status. RunsFiles (RunsFile (F.disk files.now) format
         (words_of words.now)) (words_of words.now).files 0 status
         (W.contents writer.old) (W.contents writer.new)
         (X.contents errors.old) (X.contents errors.new)) }
 {
     let mut worst = CLEAN;
     'words: for word in &words.files {
-        let status = run_file(files, alloc, command, words, *word, writer, errors)?;
+        let status = run_file(files, alloc, format, words, *word, writer, errors)?;
         worst = worst.max(status);
     }
     Ok(worst)
@@ -78,7 +78,8 @@ fn run_request<F: Files, W: Write, X: Write>(
     match command {
         Command::View => view_file(files, alloc, words, writer, errors),
         Command::Rattle => print_code(files, alloc, words, errors),
-        command => run_files(files, alloc, *command, words, writer, errors),
+        Command::Check => run_files(files, alloc, false, words, writer, errors),
+        Command::Format => run_files(files, alloc, true, words, writer, errors),
     }
 }
 
@@ -92,10 +93,7 @@ pub fn run_words<F: Files, W: Write, X: Write>(
     writer: &mut W,
     errors: &mut X,
 ) -> Result<u8, RunError>
-    ensures says { IfOk result (λ status. SaysIf (said_of (request_lem (map string_bytes words.now)))
-        status (W.contents writer.old) (W.contents writer.new)
-        (X.contents errors.old) (X.contents errors.new)) }
-    ensures runs { IfOk result (λ status. RunsIf (F.disk files.now)
+    ensures { IfOk result (λ status. SaysOrRuns (F.disk files.now)
         (request_lem (map string_bytes words.now)) status
         (W.contents writer.old) (W.contents writer.new)
         (X.contents errors.old) (X.contents errors.new)) }

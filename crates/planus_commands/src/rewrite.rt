@@ -6,7 +6,7 @@ ghost use Rattle.planus_commands.specs.Rewriting.{FormatsText, IsRewritten, Rewr
 ghost use Rattle.planus_commands.specs.Rewriting.{FormatsBy, FormatsFile};
 
 use crate::arguments::Words;
-use crate::files::Files;
+use crate::files::{Files, put_file};
 use crate::outcome::{Outcome, Printed, Rewritten};
 use crate::said::{CLEAN, FAILED, FAULTY, fail};
 use crate::sources::text_of;
@@ -56,10 +56,7 @@ fn rewrite<F: Files, X: Write>(
             let why = ": its comments would be lost; see --drop-comments";
             fail(alloc, errors, "", name, why)
         }
-        Rewritten::By(out) => match files.write(alloc, name, &out) {
-            Ok(()) => Ok(CLEAN),
-            Err(error) => fail(alloc, errors, "can't write ", name, error.after_name()),
-        },
+        Rewritten::By(out) => put_file(files, alloc, name, &out, errors),
     }
 }
 

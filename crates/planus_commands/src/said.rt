@@ -1,6 +1,6 @@
 //! What is written of a call that names no schema.
 
-ghost use Rattle.std.specs.Prelude.{◌≡◌, ◌++◌, codes, true, false, IfOk, OnOk};
+ghost use Rattle.std.specs.Prelude.{◌≡◌, ◌++◌, codes, true, false, IfOk};
 ghost use Rattle.planus_commands.specs.Outcomes.{line_of};
 ghost use Rattle.std.specs.Option.{option_map};
 ghost use Rattle.planus_commands.specs.Arguments.{asked};
@@ -114,9 +114,8 @@ pub fn fail<X: Write>(
     name: &str,
     after: &str,
 ) -> Result<u8, RunError>
-    ensures status { IfOk result (λ status. status ≡ 2) }
-    ensures told { OnOk result (Appends (X.contents errors.old) (X.contents errors.new)
-        (line_of before.now name.now after.now)) }
+    ensures { IfOk result (λ status. (status ≡ 2) × Appends (X.contents errors.old)
+        (X.contents errors.new) (line_of before.now name.now after.now)) }
 {
     say_line(alloc, errors, before, name, after)?;
     Ok(FAILED)
