@@ -37,6 +37,7 @@ text_named (f ∷ fs) name = if is_named name f then Some f.text.items else text
 abbrev pub GivenFails : List File → List ℕ → FileError → Type 0
 GivenFails files name error.Missing = text_named files name ≡ None
 GivenFails files name error.Folder = ⊥
+GivenFails files name error.NoFolder = ⊥
 GivenFails files name error.Other = ⊥
 GivenFails files name error.OutOfMemory = ⊤
 GivenFails files name error.Forbidden = ⊤
@@ -54,5 +55,6 @@ abbrev pub after_name : FileError → List ℕ
 after_name error.OutOfMemory = codes ": memory is refused"
 after_name error.Missing = codes ": there is no such file"
 after_name error.Folder = codes ": it is a folder"
+after_name error.NoFolder = codes ": its folder is a file"
 after_name error.Forbidden = codes ": permission is denied"
 after_name error.Other = codes ": the system fails"

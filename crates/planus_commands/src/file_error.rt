@@ -14,6 +14,8 @@ pub enum FileError {
     Missing,
     /// It is a folder.
     Folder,
+    /// What should be its folder is a file.
+    NoFolder,
     /// The system forbids it.
     Forbidden,
     /// The system fails for another reason.
@@ -25,7 +27,8 @@ impl FileError {
     pub fn of(kind: ErrorKind) -> FileError {
         match kind {
             ErrorKind::OutOfMemory => FileError::OutOfMemory,
-            ErrorKind::NotFound | ErrorKind::NotADirectory => FileError::Missing,
+            ErrorKind::NotFound => FileError::Missing,
+            ErrorKind::NotADirectory => FileError::NoFolder,
             ErrorKind::IsADirectory => FileError::Folder,
             ErrorKind::PermissionDenied | ErrorKind::ReadOnlyFilesystem => FileError::Forbidden,
             _ => FileError::Other,
@@ -40,6 +43,7 @@ impl FileError {
             FileError::OutOfMemory => ": memory is refused",
             FileError::Missing => ": there is no such file",
             FileError::Folder => ": it is a folder",
+            FileError::NoFolder => ": its folder is a file",
             FileError::Forbidden => ": permission is denied",
             FileError::Other => ": the system fails",
         }

@@ -70,7 +70,11 @@ fn make_folder(rt: &HostRuntime, name: &str) -> Result<(), io::Error> {
 fn replace(rt: &HostRuntime, name: &str, beside: &str, bytes: &[u8]) -> Result<(), io::Error> {
     make_folder(rt, name)?;
     fs::write(rt, beside, bytes)?;
-    fs::rename(rt, beside, name)
+    let renamed = fs::rename(rt, beside, name);
+    if renamed.is_err() {
+        let _removed = fs::remove_file(rt, beside);
+    }
+    renamed
 }
 
 impl Files for HostFiles<'_> {
