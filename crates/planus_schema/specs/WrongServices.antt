@@ -1,6 +1,5 @@
 -- Faults of attributes and services.
-use Rattle.std.specs.Prelude.{Bool, ◌==◌, ◌&&◌, not, List, [], ◌∷◌, ◌++◌, Option, None, codes}
-use Rattle.std.specs.List.{list_any}
+use Rattle.std.specs.Prelude.{not, List, [], ◌∷◌, ◌++◌, Option, None, codes}
 use Rattle.std.specs.Global.{Vec}
 use Rattle.planus_syntax.specs.Values.{Name, label_name, label_of}
 use Rattle.planus_syntax.specs.declared.value.Attribute.{Attribute}
@@ -52,14 +51,10 @@ customs_of (f ∷ fs) = customs_in f.items ++ customs_of fs
 abbrev pub known_attributes : List (Vec Declaration) → List Name
 known_attributes files = built_in ++ customs_of files
 
--- a known name, which has no escapes
-abbrev pub is_known : List Name → Name → Bool
-is_known known w = not (list_any (λ b. b == 92) w) && is_in known w
-
 abbrev pub wrong_attributes : List Name → List Attribute → Option Broken
 wrong_attributes known [] = None
 wrong_attributes known (a ∷ more) =
-    first (when (not (is_known known (label_name (label_of a.label)))) problem.UnknownAttribute
+    first (when (not (is_in known (label_name (label_of a.label)))) problem.UnknownAttribute
     a.label.left)
     (wrong_attributes known more)
 

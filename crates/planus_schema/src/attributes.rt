@@ -6,7 +6,7 @@ ghost use Rattle.planus_syntax.specs.Values.{attribute_of};
 ghost use Rattle.planus_schema.specs.Names.{setting as setting_lem, has as has_lem};
 ghost use Rattle.planus_schema.specs.Names.{attribute_named};
 
-use planus_syntax::{Attribute, label_name};
+use planus_syntax::{Attribute, label_is};
 
 pub(crate) fn setting<'a>(attributes: &'a [Attribute], word: &[u8]) -> Option<&'a Attribute>
     ensures said { option_map (λ a. attribute_of a.now) result
@@ -15,7 +15,7 @@ pub(crate) fn setting<'a>(attributes: &'a [Attribute], word: &[u8]) -> Option<&'
 {
     let mut rest = attributes;
     'attributes: while let Some((first, after)) = rest.split_first() {
-        if label_name(&first.label) == word {
+        if label_is(&first.label, word) {
             return Some(first);
         }
         rest = after;

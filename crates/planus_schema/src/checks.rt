@@ -6,7 +6,7 @@ ghost use Rattle.planus_syntax.specs.Values.{Name, names_of};
 ghost use Rattle.planus_schema.specs.inner.Index.{IsTaken};
 ghost use Rattle.planus_schema.specs.Wrong.{Tells};
 ghost use Rattle.planus_schema.specs.WrongServices.{built_in as built_in_lem};
-ghost use Rattle.planus_schema.specs.WrongServices.{customs_in, is_known as is_known_lem};
+ghost use Rattle.planus_schema.specs.WrongServices.{customs_in};
 ghost use Rattle.planus_schema.specs.WrongServices.{known_attributes as known_attributes_lem};
 ghost use Rattle.planus_schema.specs.WrongServices.{wrong_attributes};
 ghost use Rattle.planus_schema.specs.WrongServices.{wrong_in_fields};
@@ -46,7 +46,7 @@ fn add_customs(
 {
     'declarations: for declaration in declarations {
         if let Item::Attribute(label) = &declaration.item {
-            let name = or_return!(Vec::from_slice(alloc, label_name(label)));
+            let name = or_return!(label_name(alloc, label));
             known.push(name)?;
         }
     }
@@ -66,29 +66,28 @@ pub(crate) fn known_attributes(
     Ok(known)
 }
 
-fn is_known(known: &AttributeNames, name: &[u8]) -> bool
-    ensures { result ≡ is_known_lem known.now name.now }
-{
-    !name.contains(&b'\\') && known.has(name)
-}
-
-fn check_attributes(known: &AttributeNames, attributes: &[Attribute]) -> Result<(), Stop>
+fn check_attributes(
+    alloc: Global,
+    known: &AttributeNames,
+    attributes: &[Attribute],
+) -> Result<(), Stop>
     ensures { Tells (wrong_attributes known.now attributes.now) result }
 {
     'attributes: for attribute in attributes {
         let label = &attribute.label;
-        if !is_known(known, label_name(label)) {
+        let name = or_return!(label_name(alloc, label), Stop::OutOfMemory);
+        if !known.has(&name) {
             return Err(wrong(Problem::UnknownAttribute, label.left));
         }
     }
     Ok(())
 }
 
-fn check_fields(known: &AttributeNames, fields: &[Field]) -> Result<(), Stop>
+fn check_fields(alloc: Global, known: &AttributeNames, fields: &[Field]) -> Result<(), Stop>
     ensures { Tells (wrong_in_fields known.now fields.now) result }
 {
     'fields: for field in fields {
-        or_return!(check_attributes(known, &field.attributes));
+        or_return!(check_attributes(alloc, known, &field.attributes));
     }
     Ok(())
 }
@@ -112,7 +111,7 @@ fn check_method<'n>(
     let problem = Problem::MethodIsNoTable;
     or_return!(table_at(scope, Wanted::AnyType, &method.request, problem));
     or_return!(table_at(scope, Wanted::AnyType, &method.response, problem));
-    check_attributes(known, &method.attributes)
+    check_attributes(scope.alloc, known, &method.attributes)
 }
 
 fn check_methods(scope: &Scope, known: &AttributeNames, methods: &[Method]) -> Result<(), Stop>
@@ -132,13 +131,13 @@ pub(crate) fn check_item(scope: &Scope, known: &AttributeNames, item: &Item) -> 
 {
     match item {
         Item::Table(body) | Item::Struct(body) => {
-            or_return!(check_attributes(known, &body.attributes));
-            check_fields(known, &body.fields)
+            or_return!(check_attributes(scope.alloc, known, &body.attributes));
+            check_fields(scope.alloc, known, &body.fields)
         }
-        Item::Enum(body) => check_attributes(known, &body.attributes),
-        Item::Union(body) => check_attributes(known, &body.attributes),
+        Item::Enum(body) => check_attributes(scope.alloc, known, &body.attributes),
+        Item::Union(body) => check_attributes(scope.alloc, known, &body.attributes),
         Item::Service(service) => {
-            or_return!(check_attributes(known, &service.attributes));
+            or_return!(check_attributes(scope.alloc, known, &service.attributes));
             check_methods(scope, known, &service.methods)
         }
         _ => Ok(()),

@@ -385,6 +385,9 @@ enum E: ubyte { A, B } enum F: ubyte (bit_flags) { X, Y } table T { a: int = \"5
 
 /// Taken by both, with the facts: fields of tables.
 pub const FIELDS: &str = "\
+attribute \"a\\x62\"; table A { x: int (ab, \"\\x6bey\"); y: int (\"\\u0064eprecated\"); }
+=> A.x slot 0; A.x of int; A.x has key; A.y slot 1; A.y of int; A.y has deprecated
+
 table T {\r
   x: int;\r
 }\r

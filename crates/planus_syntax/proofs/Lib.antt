@@ -1,6 +1,7 @@
 pub mod Runs
 pub mod Scanning
 pub mod Quotes
+pub mod Stripping
 pub mod Marks
 pub mod Spelling
 pub mod Laid

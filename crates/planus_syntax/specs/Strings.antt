@@ -1,8 +1,9 @@
 -- Strings: how they are written, and the text that they mean.
-use Rattle.std.specs.Prelude.{ℕ, ◌+◌, ◌-◌, ◌*◌, ◌%◌, Bool, true, false, ◌==◌, ◌&&◌, ◌||◌, not}
+use Rattle.std.specs.Prelude.{◌≡◌, ℕ, ◌+◌, ◌-◌, ◌*◌, ◌%◌, Bool, true, false, ◌==◌, ◌&&◌, ◌||◌, not}
 use Rattle.std.specs.Prelude.{List, [], ◌∷◌, ◌++◌, Option, Some, None, fold, if◌then◌else◌}
 use Rattle.std.specs.Prelude.{nat_le, nat_lt, length, take}
 use Rattle.std.specs.Int.{is_in_range}
+use Rattle.std.specs.Borrow.{Bor}
 use Rattle.std.specs.Char.{encode_utf8, is_ascii_digit}
 use Rattle.planus_syntax.specs.declared.strings.StringState.{StringState}
 use Rattle.planus_syntax.specs.declared.strings.StringState.TheVariants.{Plain, Escape, HexMark}
@@ -213,3 +214,8 @@ text_from q s (b ∷ w) = written q s b ++ text_from q (string_step q s b) w
 abbrev pub string_text : List ℕ → List ℕ
 string_text [] = []
 string_text (q ∷ w) = text_from q start w
+
+-- the rest of a text after these bytes, if it begins with them
+abbrev pub Strips : List ℕ → List ℕ → Option (Bor (List ℕ)) → Type 0
+Strips front text None = (rest : List ℕ) → text ≡ front ++ rest → ⊥
+Strips front text (Some rest) = text ≡ front ++ rest.now

@@ -25,7 +25,7 @@ use Rattle.planus_syntax.specs.declared.value.Declaration.{Declaration}
 use Rattle.planus_syntax.specs.declared.value.Schema.{Schema}
 use Rattle.planus_syntax.specs.Tokens.{Piece, word, number, text, doc, mark, is_lawful}
 use Rattle.planus_syntax.specs.Layout.{printed}
-use Rattle.planus_syntax.specs.Strings.{between_quotes}
+use Rattle.planus_syntax.specs.Strings.{string_text}
 
 -- ---- values
 
@@ -133,9 +133,9 @@ pub record SchemaV : Type 0 where
   pub declarations : List DeclarationV
   pub trailing : List (List ℕ)
 
--- the name of an attribute: of a string, what is between its quotes
+-- the name of an attribute: of a string, the text that it means
 abbrev pub label_name : LabelV → Name
-label_name l = if l.quoted then between_quotes l.name else l.name
+label_name l = if l.quoted then string_text l.name else l.name
 
 -- ---- their tokens
 

@@ -22,7 +22,7 @@ pub use laws::{
 pub use lexer::LexFault;
 pub use number::{is_float_name, is_number};
 pub use parse_fault::ParseFault;
-pub use strings::{between_quotes, label_name, string_text};
+pub use strings::{between_quotes, label_is, label_name, string_text};
 pub use text::{SchemaError, after_order_mark, format_text, parse_text, place_from_end};
 pub use value::{
     Attribute, Declaration, Enumeration, Field, Item, Kind, Label, Literal, Member, Method, Path,

@@ -1,6 +1,7 @@
 //! How strings are written, and the text that they mean.
 
 ghost use Rattle.std.specs.Prelude.{◌≡◌, ◌++◌, ◌<◌, OnOk, IfOk, IfSome};
+ghost use Rattle.std.specs.Str.{bytes_eq};
 ghost use Rattle.planus_syntax.specs.Strings.{after_backslash as after_backslash_lem};
 ghost use Rattle.planus_syntax.specs.Strings.{after_byte as after_byte_lem};
 ghost use Rattle.planus_syntax.specs.Strings.{after_first as after_first_lem};
@@ -10,7 +11,7 @@ ghost use Rattle.planus_syntax.specs.Strings.{is_nothing as is_nothing_lem, star
 ghost use Rattle.planus_syntax.specs.Strings.{after_code as after_code_lem};
 ghost use Rattle.planus_syntax.specs.Strings.{after_digit as after_digit_lem};
 ghost use Rattle.planus_syntax.specs.Strings.{between_quotes as between_quotes_lem};
-ghost use Rattle.planus_syntax.specs.Strings.{character, code_of as code_of_lem, written};
+ghost use Rattle.planus_syntax.specs.Strings.{character, code_of as code_of_lem, written, Strips};
 ghost use Rattle.planus_syntax.specs.Strings.{escaped as escaped_lem, hex_digit as hex_digit_lem};
 ghost use Rattle.planus_syntax.specs.Strings.{is_high as is_high_lem, is_low as is_low_lem};
 ghost use Rattle.planus_syntax.specs.Strings.{is_closed as is_closed_lem};
@@ -295,17 +296,6 @@ pub fn between_quotes(string: &[u8]) -> &[u8]
     }
 }
 
-/// Returns the name of an attribute: of a string, what is between its quotes.
-pub fn label_name(label: &Label) -> &[u8]
-    ensures { result.now ≡ label_name_lem (label_of label.now) }
-{
-    if label.quoted {
-        between_quotes(&label.name)
-    } else {
-        &label.name
-    }
-}
-
 fn code_of(high: u32, code: u32) -> u32
     requires { code < 1114112 }
     ensures { result ≡ code_of_lem high code }
@@ -387,4 +377,100 @@ pub fn string_text(alloc: Global, string: &[u8]) -> Result<Vec<u8>, AllocError>
         rest = after;
     }
     Ok(out)
+}
+
+fn stripped<'t>(text: &'t [u8], front: &[u8]) -> Option<&'t [u8]>
+    ensures { Strips front.now text.now result }
+{
+    text.strip_prefix(front)
+}
+
+fn after_character(text: &[u8], code: u32) -> Option<&[u8]>
+    requires { code < 1114112 }
+    ensures { Strips (character code) text.now result }
+{
+    match char::from_u32(code) {
+        Some(character) => {
+            let mut bytes = [0; 4];
+            stripped(text, character.encode_utf8(&mut bytes).as_bytes())
+        }
+        None => Some(text),
+    }
+}
+
+fn after_digit_written(text: &[u8], high: u32, left: u8, value: u32, b: u8) -> Option<&[u8]>
+    ensures { Strips (written 34 (StringState.Digits high left value) b) text.now result }
+{
+    match hex_digit(b) {
+        Some(digit) if left <= 1 => after_character(text, code_of(high, with_digit(value, digit))),
+        _ => Some(text),
+    }
+}
+
+fn after_written(text: &[u8], quote: u8, state: StringState, b: u8) -> Option<&[u8]>
+    ensures { Strips (written quote state b) text.now result }
+{
+    match state {
+        StringState::Plain { due: _ } => {
+            if b == quote || b == b'\\' {
+                Some(text)
+            } else {
+                stripped(text, &[b])
+            }
+        }
+        StringState::Escape { due: _ } => match escaped(b) {
+            Some(meant) => stripped(text, &[meant]),
+            None => Some(text),
+        },
+        StringState::HexDigit { due: _, value } => match hex_digit(b) {
+            Some(digit) => stripped(text, &[byte_of(value, digit)]),
+            None => Some(text),
+        },
+        StringState::Digits { high, left, value } => {
+            after_digit_written(text, high, left, value, b)
+        }
+        StringState::HexMark { due: _ } | StringState::End | StringState::Wrong => Some(text),
+    }
+}
+
+fn means(string: &[u8], text: &[u8]) -> bool
+    ensures { result ≡ bytes_eq (string_text_lem string.now) text.now }
+{
+    let Some((quote, body)) = string.split_first() else {
+        return text.is_empty();
+    };
+    let mut state = start();
+    let mut left = text;
+    let mut rest = body;
+    'bytes: while let Some((b, after)) = rest.split_first() {
+        match after_written(left, *quote, state, *b) {
+            Some(next) => left = next,
+            None => return false,
+        }
+        state = string_step(*quote, state, *b);
+        rest = after;
+    }
+    left.is_empty()
+}
+
+/// Returns whether an attribute has this name.
+pub fn label_is(label: &Label, name: &[u8]) -> bool
+    ensures { result ≡ bytes_eq (label_name_lem (label_of label.now)) name.now }
+{
+    if label.quoted {
+        means(&label.name, name)
+    } else {
+        label.name.as_slice() == name
+    }
+}
+
+/// Returns the name of an attribute: of a string, the text that it means.
+pub fn label_name(alloc: Global, label: &Label) -> Result<Vec<u8>, AllocError>
+    ensures { IfOk result (λ name. name.items ≡ label_name_lem (label_of label.now)) }
+{
+    if label.quoted {
+        string_text(alloc, &label.name)
+    } else {
+        Vec::from_slice(alloc, &label.name)
+    }
 }

@@ -35,7 +35,7 @@ declarations-preserved c =
       | in-Attribute+in-Ok+in_ok-push w ↦
           ap (λ (v : Vec (Vec ℕ)). names_of v.items) w.known-is ∙ ap names_of w.in_ok-push.ensures.items
           ∙ map_push (λ (v : Vec ℕ). v.items) c.declarations.known.items w.in-Ok.value
-          ∙ ap (λ n. known ++ n ∷ []) (w.in-Ok.ensures.items ∙ w.label_name.ensures) ∙ ap (λ i. known ++ customs_at i) (sym w.in-Attribute.is)
+          ∙ ap (λ n. known ++ n ∷ []) w.in-Ok.ensures ∙ ap (λ i. known ++ customs_at i) (sym w.in-Attribute.is)
       | in_default w ↦ ap (λ (v : Vec (Vec ℕ)). names_of v.items) w.known-is ∙ sym (append-nil known) ∙ ap (λ ns. known ++ ns) (sym (no_custom d.item w.in_default.not-Attribute))
     ] in
     ap (λ ns. ns ++ rest) added ∙ append_assoc known (customs_at d.item) rest ∙ ap (λ ds. known ++ customs_in ds) (sym r) ∙ c.declarations.invariant
