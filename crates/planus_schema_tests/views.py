@@ -91,7 +91,8 @@ def agrees(text, value):
         return text == str(value).lower()
     if isinstance(value, str):
         named = re.fullmatch(r"-?\d+ \((.*)\)", text)
-        return (named[1] if named else text) == value
+        # flatc has a space between the names of flags.
+        return (named[1].replace(" | ", " ") if named else text) == value
     if isinstance(value, float):
         # flatc prints floats with six digits after the point, or more.
         return math.isclose(float(text), value, rel_tol=1e-6, abs_tol=1e-6)
