@@ -12,6 +12,6 @@ returns-in_ok-say-in-Err g c = record {
     c.in-Err.error,
     c.in-Err.ensures.error,
     subst (λ why. Appends (g.X.Write.contents c.args.errors.now) (g.X.Write.contents c.say-in-Err.new.errors) (line_of (codes "can't read ") c.args.name.now why))
-        c.after_name.ensures c.in_ok-say-in-Err.ensures,
+        c.after_name.ensures c.in_ok-say-in-Err.ensures.said,
   );
 }
