@@ -8,8 +8,8 @@ use Rattle.std.specs.Char.{encode_utf8, is_ascii_digit}
 use Rattle.planus_syntax.specs.declared.strings.StringState.{StringState}
 use Rattle.planus_syntax.specs.declared.strings.StringState.TheVariants.{Plain, Escape, HexMark}
 use Rattle.planus_syntax.specs.declared.strings.StringState.TheVariants.{HexDigit, Digits, End, Wrong}
-use Rattle.planus_syntax.specs.declared.strings.Due.{Due}
-use Rattle.planus_syntax.specs.declared.strings.Due.TheVariants.{Nothing, SecondHalf, NextByte}
+use Rattle.planus_syntax.specs.declared.due.Due.{Due}
+use Rattle.planus_syntax.specs.declared.due.Due.TheVariants.{Nothing, SecondHalf, NextByte}
 
 abbrev pub is_quote : ℕ → Bool
 is_quote b = b == 34 || b == 39

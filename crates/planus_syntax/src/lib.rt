@@ -3,6 +3,7 @@
 //! texts spell which schema.
 #![tactic(auto)]
 
+mod due;
 mod laws;
 mod layout;
 mod lexer;

@@ -21,18 +21,9 @@ ghost use Rattle.planus_syntax.specs.Strings.{with_digit as with_digit_lem};
 ghost use Rattle.planus_syntax.specs.Strings.{string_step as string_step_lem, string_text as string_text_lem};
 ghost use Rattle.planus_syntax.specs.Values.{label_name as label_name_lem, label_of};
 
+use crate::due::Due;
 use crate::value::Label;
 use std::alloc::{AllocError, Global};
-
-/// What has to follow in a string.
-#[derive(Clone, Copy)]
-pub(crate) enum Due {
-    Nothing,
-    /// By `\u`, the second half of a character above `\uffff`, of which this is the first.
-    SecondHalf { high: u32 },
-    /// By `\x`, the next byte of a character, in this range, before so many more.
-    NextByte { least: u8, greatest: u8, more: u8 },
-}
 
 /// The part of a string that was read.
 #[derive(Clone, Copy)]
