@@ -28,6 +28,12 @@ use Rattle.planus_dump.proofs.Feeds.{AreLines, Answered, walked, some_line, some
 use Rattle.planus_dump.proofs.Walked.{shown_after}
 use Rattle.planus_dump.proofs.Writes.{shown-append, begins_more, on_begun}
 
+pub fails : (schema : Schema) (bytes : List ℕ) (most size : ℕ) (before after : Option (List ℕ)) (error : ViewError) → error ≢ BadSchema → BeginsView schema bytes most size before after
+    → FailsView schema bytes most size error before after
+fails schema bytes most size before after OutOfMemory is begun = begun
+fails schema bytes most size before after Write is begun = begun
+fails schema bytes most size before after BadSchema is begun = absurd (is refl)
+
 module _ {W : Type 0} (contents : W → Option (List ℕ)) where
   -- a new one
   pub record Starts (start : LineWriter W) : Type 0 where
@@ -118,6 +124,18 @@ module _ {W : Type 0} (contents : W → Option (List ℕ)) where
             (Appends-trans _ _ _ front out.lines.block.items added rest));
       }
 
+  -- the same of what was lent, by what ends the loan
+  pub whole_lent : (schema : Schema) (bytes : List ℕ) (most size : ℕ) (start : LineWriter W) (old out : LineSink (LineWriter W)) (r : Outcome) (mid lent : W)
+      (end : End) → is_good schema ≡ true → Starts start
+      → (Writes contents start [] start → Shows (Writes contents) (WritesPart contents) start old (begin most (Some size)))
+      → Fed (Writes contents) (WritesPart contents) old (events_of schema bytes) r out → IsOk r → end ≡ end_of out.stop
+      → Appends (contents out.lines.writer.now) (contents mid) out.lines.block.items → start.writer.now ≡ lent
+      → (last : W) → (out.lines.writer.ghost_name ≡ start.writer.ghost_name → last ≡ mid)
+      → WritesView schema bytes most size (record { end = end; has_fault = out.lines.has_fault }) (contents lent) (contents last)
+  whole_lent schema bytes most size start old out r mid lent end good new begun fed is ended rest from last there =
+      subst (λ w. WritesView schema bytes most size (record { end = end; has_fault = out.lines.has_fault }) (contents w) (contents last)) from
+      (whole schema bytes most size start old out r mid last end good new begun fed is ended rest there)
+
   pub part : (schema : Schema) (bytes : List ℕ) (most size : ℕ) (start : LineWriter W) (old out : LineSink (LineWriter W)) (r : Outcome) (mid last : W)
       → is_good schema ≡ true → Starts start
       → (Writes contents start [] start → Shows (Writes contents) (WritesPart contents) start old (begin most (Some size)))
@@ -150,8 +168,15 @@ module _ {W : Type 0} (contents : W → Option (List ℕ)) where
             (one, after, ap (λ l. l ++ lines_text did.lines) (sym new.block) ∙ split, added);
       }
 
-pub fails : (schema : Schema) (bytes : List ℕ) (most size : ℕ) (before after : Option (List ℕ)) (error : ViewError) → error ≢ BadSchema → BeginsView schema bytes most size before after
-    → FailsView schema bytes most size error before after
-fails schema bytes most size before after OutOfMemory is begun = begun
-fails schema bytes most size before after Write is begun = begun
-fails schema bytes most size before after BadSchema is begun = absurd (is refl)
+  -- the same of what was lent, by what ends the loan
+  pub part_lent : (schema : Schema) (bytes : List ℕ) (most size : ℕ) (start : LineWriter W) (old out : LineSink (LineWriter W)) (r : Outcome) (mid lent : W)
+      (error : ViewError) → error ≢ BadSchema → is_good schema ≡ true → Starts start
+      → (Writes contents start [] start → Shows (Writes contents) (WritesPart contents) start old (begin most (Some size)))
+      → Fed (Writes contents) (WritesPart contents) old (events_of schema bytes) r out
+      → WritesBeginning out.lines.block.items (contents out.lines.writer.now) (contents mid) → OnErr r (mid ≡ out.lines.writer.now)
+      → start.writer.now ≡ lent → (last : W) → (out.lines.writer.ghost_name ≡ start.writer.ghost_name → last ≡ mid)
+      → FailsView schema bytes most size error (contents lent) (contents last)
+  part_lent schema bytes most size start old out r mid lent error is good new begun fed rest kept from last there =
+      fails schema bytes most size (contents lent) (contents last) error is
+      (subst (λ w. BeginsView schema bytes most size (contents w) (contents last)) from
+      (part schema bytes most size start old out r mid last good new begun fed rest kept there))
