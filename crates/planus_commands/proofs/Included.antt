@@ -1,9 +1,7 @@
 -- The names of included files.
-use Rattle.std.proofs.Common.{◌≡◌, ◌<◌, ℕ, List, [], ◌∷◌, ◌++◌, map, slice_index, refl, sym, ap, subst, ◌∙◌, arith}
-use Rattle.std.specs.Prelude.{zero, suc, ◌==◌, Option, Some, None, Bool, true, false}
+use Rattle.std.proofs.Common.{◌≡◌, ℕ, List, [], ◌∷◌, ◌++◌, map, refl, ap}
 use Rattle.std.specs.Borrow.{Bor}
 use Rattle.std.specs.List.{join_by, flat_map}
-use Rattle.std.specs.Path.{rfind_below}
 
 rest_texts : (separator : List ℕ) (texts : List (Bor (List ℕ)))
     → flat_map (λ t. separator ++ t.now) texts ≡ flat_map (λ t. separator ++ t) (map (λ t. t.now) texts)

@@ -1,6 +1,6 @@
 -- Files that are loaded.
-use Rattle.std.proofs.Common.{◌≡◌, ◌<◌, ◌≤◌, ◌+◌, ◌-◌, ℕ, List, [], ◌∷◌, ◌++◌, length, drop, get_or, refl, sym, ap, subst, ◌∙◌, inl, inr, arith}
-use Rattle.std.specs.Prelude.{zero, suc, max, codes, Bool, true, false, Option, Some, None, Result, Ok, Err, IfOk, if◌then◌else◌}
+use Rattle.std.proofs.Common.{◌≡◌, ◌<◌, ◌≤◌, ◌+◌, ◌-◌, ℕ, List, [], ◌∷◌, ◌++◌, length, drop, get_or, refl, sym, ap, subst, ◌∙◌, arith}
+use Rattle.std.specs.Prelude.{zero, suc, max, Bool, true, false, Option, Some, None, Result, Ok, Err, IfOk, if◌then◌else◌}
 use Rattle.std.specs.Global.{Vec}
 use Rattle.std.specs.Str.{IsUtf8, is_utf8}
 use Rattle.std.proofs.Math.Seq.{drop-nil}
@@ -12,11 +12,10 @@ use Rattle.planus_syntax.specs.declared.value.Item.TheVariants as item
 use Rattle.planus_layout.specs.declared.schema.Schema.{Schema}
 use Rattle.planus_commands.specs.declared.checking.File.{File}
 use Rattle.planus_commands.specs.declared.sources.Sources.{Sources}
-use Rattle.planus_commands.specs.declared.streams.RunError.{RunError}
 use Rattle.planus_commands.specs.Checks.{ResolvesFiles}
 use Rattle.planus_commands.specs.Files.{AreRead, EndsWith}
 use Rattle.planus_commands.specs.Including.{text_or_empty}
-use Rattle.planus_commands.specs.Loading.{Places, Step, Refuses, Includes, IncludesItem, IncludesAll, IfBegun, Once, LoadsBy, Loads, enter}
+use Rattle.planus_commands.specs.Loading.{Places, Step, IncludesItem, IncludesAll, IfBegun, Once, Loads, enter}
 use Rattle.planus_commands.specs.Sources.{AreNone, AreLoaded, MeansAll, most_includes}
 
 pub kept_appends : (a b c : Option (List ℕ)) (bs : List ℕ) → Keeps a b → Appends b c bs → Appends a c bs

@@ -1,20 +1,17 @@
 -- What the files of a schema hold, and what they mean.
-use Rattle.std.specs.Prelude.{◌≡◌, ◌⊎◌, ℕ, Bool, List, [], ◌∷◌, ◌++◌, Option, Some, None}
-use Rattle.std.specs.Prelude.{if◌then◌else◌, codes}
+use Rattle.std.specs.Prelude.{◌≡◌, ◌⊎◌, ℕ, List, [], ◌∷◌, ◌++◌, Option}
+use Rattle.std.specs.Prelude.{codes}
 use Rattle.std.specs.Io.KnownBytes.{Appends}
 use Rattle.std.specs.Global.{Vec}
 use Rattle.std.specs.List.{All}
-use Rattle.std.specs.Str.{bytes_eq}
 use Rattle.std.specs.String.{string_bytes}
 use Rattle.planus_syntax.specs.Spelled.{after_order_mark}
 use Rattle.planus_syntax.specs.declared.value.Declaration.{Declaration}
-use Rattle.planus_layout.specs.declared.schema.Schema.{Schema}
 use Rattle.planus_commands.specs.declared.checking.File.{File}
-use Rattle.planus_syntax.specs.declared.value.Item.TheVariants.{Include}
 use Rattle.planus_commands.specs.Disks.{Disk, after_name}
 use Rattle.planus_commands.specs.declared.file_error.FileError.{FileError}
 use Rattle.planus_commands.specs.Outcomes.{Reports, line_of}
-use Rattle.planus_commands.specs.Checks.{AreSpelled, ResolvesFiles}
+use Rattle.planus_commands.specs.Checks.{AreSpelled}
 
 -- the text of a schema: its file's bytes after a byte order mark
 pub record IsTextOf (Holds : List ℕ → List ℕ → Type 0) (name text : List ℕ) : Type 0 where

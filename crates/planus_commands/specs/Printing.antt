@@ -1,6 +1,6 @@
 -- Crates of printed code: their names, and how their files are written or compared.
 use Rattle.std.specs.Prelude.{◌≡◌, ℕ, Bool, false, ◌&&◌, ◌||◌, ◌==◌, not, ⊤, List, [], ◌∷◌, codes, nat_eq}
-use Rattle.std.specs.Prelude.{◌++◌, ◌≢◌, ◌≤◌, ◌⊎◌, true, max, length, map, Option, Some, Result, Ok, Err}
+use Rattle.std.specs.Prelude.{◌++◌, ◌≢◌, ◌⊎◌, true, max, Option, Some, Result, Ok, Err}
 use Rattle.std.specs.Io.KnownBytes.{Appends}
 use Rattle.std.specs.List.{list_all, starts_with}
 use Rattle.std.specs.Int.{is_in_range}

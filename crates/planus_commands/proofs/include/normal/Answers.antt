@@ -1,4 +1,4 @@
-use Rattle.std.proofs.Common.{subst, sym, ap, ◌∙◌, ◌≡◌, map, []}
+use Rattle.std.proofs.Common.{subst, sym, ap, ◌∙◌, ◌≡◌, map}
 use Rattle.std.specs.Prelude.{IfOk, reverse, codes}
 use Rattle.std.specs.List.{join_by}
 use Rattle.std.specs.String.{string_bytes}

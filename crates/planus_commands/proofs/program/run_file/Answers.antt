@@ -1,5 +1,4 @@
-use Rattle.std.proofs.Common.{subst, sym, refl, ◌≡◌}
-use Rattle.std.specs.Prelude.{false}
+use Rattle.std.proofs.Common.{subst, sym, refl}
 use Rattle.planus_commands.specs.Arguments.{words_of}
 use Rattle.planus_commands.specs.Including.{file_named}
 use Rattle.planus_commands.specs.Loading.{places_of}

@@ -1,4 +1,4 @@
-use Rattle.std.proofs.Common.{subst, sym, refl, ◌≡◌, ◌≤◌, drop, length, map, max, ◌+◌}
+use Rattle.std.proofs.Common.{subst, sym, refl, ◌≤◌, drop, length, map, max, ◌+◌}
 use Rattle.planus_commands.specs.Arguments.{words_of}
 use Rattle.planus_commands.specs.Running.{RunsFile, RunsFiles}
 use Rattle.planus_commands.proofs.RunFiles.{next_run, all_run}

@@ -1,5 +1,4 @@
 use Rattle.std.proofs.Common.{subst, sym}
-use Rattle.std.specs.Prelude.{true, false}
 use Rattle.planus_commands.specs.Arguments.{asked, words_of}
 use Rattle.planus_commands.specs.Running.{Runs, RunsCommand}
 use Rattle.planus_commands.proofs.LoadedFiles.{if_ok}

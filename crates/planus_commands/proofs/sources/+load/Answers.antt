@@ -1,10 +1,10 @@
-use Rattle.std.proofs.Common.{subst, sym, ap, refl, rules, ◌≡◌, ◌∙◌, inl, inr}
-use Rattle.std.specs.Prelude.{IfOk, Option, Some, None, map, ◌-◌, ◌+◌, ◌≤◌, drop, length}
+use Rattle.std.proofs.Common.{subst, sym, rules, ◌∙◌, inr}
+use Rattle.std.specs.Prelude.{IfOk, Some, None, map, ◌-◌, ◌+◌, ◌≤◌, drop, length}
 use Rattle.std.specs.Option.{option_map}
 use Rattle.std.specs.Io.KnownBytes.{Keeps}
 use Rattle.std.specs.String.{string_bytes}
 use Rattle.planus_commands.specs.Including.{IsFirstThere, tried, path_of}
-use Rattle.planus_commands.specs.Loading.{IsSource, Refuses, places_of, enter, Includes, IncludesItem, IncludesAll, IfBegun, Loads, Once}
+use Rattle.planus_commands.specs.Loading.{IsSource, places_of, enter, Includes, IncludesItem, IncludesAll, Loads, Once}
 use Rattle.planus_commands.proofs.SpelledFiles.{spelled_tokens, read_more}
 use Rattle.planus_commands.proofs.LoadedFiles.{if_ok, never_clean, too_deep, entered, not_begun, nothing_included, one_included, next_included, all_included}
 use Rattle.planus_commands.proofs.sources.+load.Goals as goal
