@@ -8,7 +8,9 @@ use std::alloc::Global;
 fn declarations(alloc: Global, texts: &[&[u8]]) -> Option<Vec<Vec<Declaration>>> {
     let mut files = Vec::new(alloc);
     for text in texts {
-        files.push(parse_text(alloc, *text).ok()?.declarations).ok()?;
+        files
+            .push(parse_text(alloc, *text).ok()?.declarations)
+            .ok()?;
     }
     Some(files)
 }
