@@ -1,17 +1,19 @@
 -- What files hold, and what is written to them.
-use Rattle.std.specs.Prelude.{◌≡◌, ⊤, ℕ, Bool, List, Option, Some, None, [], ◌∷◌, codes}
+use Rattle.std.specs.Prelude.{◌≡◌, ◌<◌, length, ⊤, ℕ, Bool, List, Option, Some, None, [], ◌∷◌, codes}
 use Rattle.std.specs.Prelude.{if◌then◌else◌}
 use Rattle.std.specs.List.{list_any}
 use Rattle.std.specs.Str.{bytes_eq}
 use Rattle.std.specs.String.{string_bytes}
 use Rattle.planus_commands.specs.declared.checking.File.{File}
+use Rattle.planus_commands.specs.Outcomes.{greatest_text}
 use Rattle.planus_commands.specs.declared.file_error.FileError.{FileError}
 use Rattle.planus_commands.specs.declared.file_error.FileError.TheVariants as error
 
--- By the name of a file: the bytes that it has; whether it is there; why it isn't read or written;
--- the bytes that were written to it.
+-- By the name of a file: the bytes that it has; that it has more than are read; whether it is
+-- there; why it isn't read or written; the bytes that were written to it.
 pub record Disk : Type 1 where
   pub Holds : List ℕ → List ℕ → Type 0
+  pub Long : List ℕ → Type 0
   pub There : List ℕ → Bool → Type 0
   pub Fails : List ℕ → FileError → Type 0
   pub Wrote : List ℕ → List ℕ → Type 0
@@ -20,6 +22,7 @@ pub record Disk : Type 1 where
 abbrev pub unknown_disk : Disk
 unknown_disk = record {
   Holds = λ name bytes. ⊤;
+  Long = λ name. ⊤;
   There = λ name answer. ⊤;
   Fails = λ name error. ⊤;
   Wrote = λ name bytes. ⊤;
@@ -45,6 +48,7 @@ GivenFails files name error.Forbidden = ⊤
 abbrev pub given_disk : List File → Disk
 given_disk files = record {
   Holds = λ name bytes. text_named files name ≡ Some bytes;
+  Long = λ name. (text : List ℕ) × (text_named files name ≡ Some text) × (greatest_text < length text);
   There = λ name answer. answer ≡ list_any (is_named name) files;
   Fails = GivenFails files;
   Wrote = λ name bytes. ⊥;

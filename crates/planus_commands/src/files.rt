@@ -1,6 +1,6 @@
 //! Where files are read and written.
 
-ghost use Rattle.std.specs.Prelude.{◌≤◌, length, IfOk, IfErr, OnOk};
+ghost use Rattle.std.specs.Prelude.{◌≤◌, ◌<◌, length, IfOk, IfErr, OnOk};
 ghost use Rattle.planus_commands.specs.Disks.{Disk};
 ghost use Rattle.planus_commands.specs.Files.{PutsFile};
 ghost use Rattle.planus_commands.specs.Outcomes.{greatest_text};
@@ -24,6 +24,8 @@ pub trait Files {
     fn read(&self, alloc: Global, name: &str) -> Result<Vec<u8>, FileError>
         ensures bytes { IfOk result (λ bytes. length bytes.items ≤ greatest_text
             → (Self.disk self.now).Holds name.now bytes.items) }
+        ensures long { IfOk result (λ bytes. greatest_text < length bytes.items
+            → (Self.disk self.now).Long name.now) }
         ensures error { IfErr result (λ error. (Self.disk self.now).Fails name.now error) };
 
     /// Returns whether there is a file of this name.
