@@ -10,13 +10,14 @@ use Rattle.planus_commands.specs.declared.file_error.FileError.{FileError}
 use Rattle.planus_commands.specs.declared.file_error.FileError.TheVariants as error
 
 -- By the name of a file: the bytes that it has; that it has more than are read; whether it is
--- there; why it isn't read or written; the bytes that were written to it.
+-- there; why it isn't read; the bytes that were written to it; why they weren't.
 pub record Disk : Type 1 where
   pub Holds : List ℕ → List ℕ → Type 0
   pub Long : List ℕ → Type 0
   pub There : List ℕ → Bool → Type 0
   pub Fails : List ℕ → FileError → Type 0
   pub Wrote : List ℕ → List ℕ → Type 0
+  pub Refuses : List ℕ → FileError → Type 0
 
 -- of files of the system nothing is said
 abbrev pub unknown_disk : Disk
@@ -26,6 +27,7 @@ unknown_disk = record {
   There = λ name answer. ⊤;
   Fails = λ name error. ⊤;
   Wrote = λ name bytes. ⊤;
+  Refuses = λ name why. ⊤;
 }
 
 abbrev pub is_named : List ℕ → File → Bool
@@ -36,14 +38,14 @@ abbrev pub text_named : List File → List ℕ → Option (List ℕ)
 text_named [] name = None
 text_named (f ∷ fs) name = if is_named name f then Some f.text.items else text_named fs name
 
--- why a given file isn't read; none is written
+-- why a given file isn't read
 abbrev pub GivenFails : List File → List ℕ → FileError → Type 0
 GivenFails files name error.Missing = text_named files name ≡ None
 GivenFails files name error.Folder = ⊥
 GivenFails files name error.NoFolder = ⊥
 GivenFails files name error.Other = ⊥
 GivenFails files name error.OutOfMemory = ⊤
-GivenFails files name error.Forbidden = ⊤
+GivenFails files name error.Forbidden = ⊥
 
 abbrev pub given_disk : List File → Disk
 given_disk files = record {
@@ -52,6 +54,7 @@ given_disk files = record {
   There = λ name answer. answer ≡ list_any (is_named name) files;
   Fails = GivenFails files;
   Wrote = λ name bytes. ⊥;
+  Refuses = λ name why. why ≡ error.Forbidden;
 }
 
 -- what is said after the name of a file that isn't read or written

@@ -48,7 +48,7 @@ SaysUnread disk name unsaid said =
 abbrev pub PutsFile : Disk → List ℕ → List ℕ → ℕ → Option (List ℕ) → Option (List ℕ) → Type 0
 PutsFile disk name bytes status unsaid said =
     ((status ≡ 0) × disk.Wrote name bytes × (said ≡ unsaid))
-    ⊎ ((status ≡ 2) × ((error : FileError) × disk.Fails name error
+    ⊎ ((status ≡ 2) × ((error : FileError) × disk.Refuses name error
     × Appends unsaid said (line_of (codes "can't write ") name (after_name error))))
 
 -- The first fault of the file's text was reported.

@@ -1,10 +1,11 @@
 -- Crates of printed code: their names, and how their files are written or compared.
-use Rattle.std.specs.Prelude.{◌≡◌, ℕ, Bool, false, ◌&&◌, ◌||◌, ◌==◌, not, ⊤, List, [], ◌∷◌, codes, nat_eq}
+use Rattle.std.specs.Prelude.{◌≡◌, ℕ, Bool, false, ◌&&◌, ◌||◌, ◌==◌, not, List, [], ◌∷◌, codes, nat_eq}
 use Rattle.std.specs.Prelude.{◌++◌, ◌≢◌, ◌⊎◌, true, max, Option, Some, Result, Ok, Err}
 use Rattle.std.specs.Io.KnownBytes.{Appends}
 use Rattle.std.specs.List.{list_all, starts_with}
 use Rattle.std.specs.Int.{is_in_range}
 use Rattle.planus_plan.specs.Names.{is_in, is_reserved}
+use Rattle.std.specs.Str.{bytes_eq}
 use Rattle.std.specs.String.{string_bytes}
 use Rattle.planus_layout.specs.declared.schema.Schema.{Schema}
 use Rattle.planus_tie.specs.declared.files.PrintedFile.{PrintedFile}
@@ -93,7 +94,8 @@ RefusesName unsaid said = (name : List ℕ) × (is_crate_name name ≡ false)
 -- what is known of whether a file has these bytes
 abbrev pub IsHeld : Disk → List ℕ → List ℕ → Result Bool FileError → Type 0
 IsHeld disk name bytes (Ok true) = disk.Holds name bytes
-IsHeld disk name bytes (Ok false) = ⊤
+IsHeld disk name bytes (Ok false) = disk.Long name
+    ⊎ ((other : List ℕ) × disk.Holds name other × (bytes_eq other bytes ≡ false))
 IsHeld disk name bytes (Err error) = disk.Fails name error
 
 abbrev pub other_why : Result Bool FileError → List ℕ

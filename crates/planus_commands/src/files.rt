@@ -36,7 +36,7 @@ pub trait Files {
     /// is replaced only once they are written beside it.
     fn write(&self, alloc: Global, name: &str, bytes: &[u8]) -> Result<(), FileError>
         ensures written { OnOk result ((Self.disk self.now).Wrote name.now bytes.now) }
-        ensures error { IfErr result (λ error. (Self.disk self.now).Fails name.now error) };
+        ensures error { IfErr result (λ error. (Self.disk self.now).Refuses name.now error) };
 }
 
 /// Writes a file, or says why not. Returns the exit status.

@@ -111,7 +111,9 @@ fn holds<F: Files>(
     ensures { IfOk result (λ found. IsHeld (F.disk files.now) name.now bytes.now found) }
 {
     match files.read(alloc, name) {
-        Ok(found) => Ok(Ok(found.len() <= GREATEST_TEXT && found.as_slice() == bytes)),
+        Ok(found) if found.len() > GREATEST_TEXT => Ok(Ok(false)),
+        Ok(found) if found.as_slice() == bytes => Ok(Ok(true)),
+        Ok(_) => Ok(Ok(false)),
         Err(FileError::OutOfMemory) => Err(AllocError),
         Err(error) => Ok(Err(error)),
     }
