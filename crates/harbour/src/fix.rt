@@ -5,7 +5,7 @@ ghost use Rattle.harbour.specs.Fix.{fix_shape};
 use crate::kind::Kind;
 use crate::pos::Pos;
 use planus::errors::ErrorKind;
-use planus::{Plain, PlainField, SliceWithStartOffset, Stride, put_fields, read_fields};
+use planus::{Exact, Plain, PlainField, SliceWithStartOffset, Stride, put_fields, read_fields};
 
 /// A struct of 24 bytes.
 #[derive(Clone, Copy, Debug, PartialEq)]
@@ -40,3 +40,10 @@ impl Stride for Fix {
 }
 
 impl PlainField for Fix {}
+
+impl Exact for Fix {
+    fn equal_is_same(a: Fix, b: Fix) {
+        Pos::equal_is_same(a.at, b.at);
+        Kind::equal_is_same(a.kind, b.kind);
+    }
+}

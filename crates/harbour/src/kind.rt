@@ -5,7 +5,7 @@ ghost use Rattle.harbour.specs.Kind.{kind_is};
 ghost use Rattle.harbour.specs.Kind.{kind_shape};
 
 use planus::errors::ErrorKind;
-use planus::{Plain, PlainField, SliceWithStartOffset, Stride, read_variant};
+use planus::{Exact, Plain, PlainField, SliceWithStartOffset, Stride, read_variant};
 
 /// What a ship is.
 #[derive(Clone, Copy, Debug, PartialEq)]
@@ -54,3 +54,7 @@ impl Stride for Kind {
 }
 
 impl PlainField for Kind {}
+
+impl Exact for Kind {
+    fn equal_is_same(a: Kind, b: Kind) {}
+}

@@ -5,7 +5,7 @@ ghost use Rattle.harbour.specs.Level.{level_is};
 ghost use Rattle.harbour.specs.Level.{level_shape};
 
 use planus::errors::ErrorKind;
-use planus::{Plain, PlainField, SliceWithStartOffset, Stride, read_variant};
+use planus::{Exact, Plain, PlainField, SliceWithStartOffset, Stride, read_variant};
 
 /// One of some values.
 #[derive(Clone, Copy, Debug, PartialEq)]
@@ -53,3 +53,7 @@ impl Stride for Level {
 }
 
 impl PlainField for Level {}
+
+impl Exact for Level {
+    fn equal_is_same(a: Level, b: Level) {}
+}

@@ -4,7 +4,7 @@ ghost use Rattle.harbour.specs.Pos.{pos_shape};
 
 use planus::errors::ErrorKind;
 use planus::{
-    Plain, PlainField, PlainTotal, SliceWithStartOffset, Stride, put_fields, read_fields,
+    Exact, Plain, PlainField, PlainTotal, SliceWithStartOffset, Stride, put_fields, read_fields,
 };
 
 /// Where something is.
@@ -43,4 +43,8 @@ impl PlainField for Pos {}
 
 impl PlainTotal for Pos {
     ghost never_fails = { λ S f e broken. broken };
+}
+
+impl Exact for Pos {
+    fn equal_is_same(a: Pos, b: Pos) {}
 }

@@ -8,7 +8,7 @@ ghost use Rattle.harbour.specs.Signal as signal_numbers;
 ghost use Rattle.harbour.specs.Signal.{signal_shape};
 
 use planus::errors::{ErrorKind, UnknownEnumTagKind};
-use planus::{Plain, PlainField, SliceWithStartOffset, Stride};
+use planus::{Exact, Plain, PlainField, SliceWithStartOffset, Stride};
 
 /// A flag of the code of signals.
 #[derive(Clone, Copy, Debug, PartialEq)]
@@ -162,4 +162,8 @@ fn from_20(number: i8) -> Option<Signal>
         25 => Some(Signal::Zulu),
         _ => None,
     }
+}
+
+impl Exact for Signal {
+    fn equal_is_same(a: Signal, b: Signal) {}
 }

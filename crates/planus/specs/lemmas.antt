@@ -3,3 +3,4 @@ pub mod GroupLaws
 pub mod PreparingLaws
 pub mod UnionContentLaws
 pub mod VariantLaws
+pub mod Same

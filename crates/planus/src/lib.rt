@@ -3,6 +3,7 @@
 //! into finished buffers.
 #![tactic(auto)]
 
+mod exact;
 mod faults;
 mod finishes;
 pub mod laws;
@@ -19,6 +20,7 @@ mod tables;
 mod version;
 mod written;
 
+pub use exact::Exact;
 pub use faults::ReplayError;
 pub use faults::Why;
 pub use finishes::Finished;

@@ -50,15 +50,16 @@ in_clauses =
 -- what code imports of `planus`
 unfoldable pub in_code : List ℕ
 in_code =
-    codes "BuildError Builder Built ByteList Create FieldAt FieldGroup Lines8 List Offset "
-    ++ (codes "OrDefault Plain PlainField PlainTotal Result SliceWithStartOffset Stride TableKind "
-    ++ (codes "TableReadUnion TableRef TableView TableWriter Text UnionOffset UnionVector Vector "
-    ++ (codes "VectorReadUnion bytes_field bytes_required create_table fields plain_field "
-    ++ (codes "plain_field_or plain_required plain_vector plain_vector_required put_fields "
-    ++ (codes "read_fields read_root read_sized_root read_variant read_view table_field "
-    ++ (codes "table_required table_vector table_vector_required text_field text_required "
-    ++ (codes "text_vector text_vector_required union_field union_required union_vector "
-    ++ codes "union_vector_required")))))))
+    codes "BuildError Builder Built ByteList Create Exact FieldAt FieldGroup Lines8 "
+    ++ (codes "List Offset OrDefault Plain PlainField PlainTotal Result "
+    ++ (codes "SliceWithStartOffset Stride TableKind TableReadUnion TableRef TableView "
+    ++ (codes "TableWriter Text UnionOffset UnionVector Vector VectorReadUnion bytes_field "
+    ++ (codes "bytes_required create_table fields plain_field plain_field_or "
+    ++ (codes "plain_required plain_vector plain_vector_required put_fields read_fields "
+    ++ (codes "read_root read_sized_root read_variant read_view table_field table_required "
+    ++ (codes "table_vector table_vector_required text_field text_required text_vector "
+    ++ (codes "text_vector_required union_field union_required union_vector "
+    ++ codes "union_vector_required"))))))))
 
 unfoldable pub errors_in_code : List ℕ
 errors_in_code = codes "ErrorKind UnknownEnumTagKind"

@@ -22,43 +22,67 @@ pub(crate) struct Context<'a> {
     pub(crate) identifier: Option<&'a [u8]>,
     pub(crate) root: Option<usize>,
     pub(crate) names: Names,
-    /// Whether a read of each can't fail once its bytes are there.
-    totals: Vec<bool>,
+    /// Of each declaration.
+    facts: Vec<Facts>,
     /// How many tables are before each, or unions before each union.
     ranks: Vec<usize>,
 }
 
-fn is_total_base(totals: &[bool], base: Base) -> bool {
+/// What is known of a declaration's values.
+#[derive(Clone, Copy)]
+struct Facts {
+    /// A read can't fail once the bytes are there.
+    total: bool,
+    /// Equal ones are the same.
+    exact: bool,
+}
+
+const NO_FACTS: Facts = Facts {
+    total: false,
+    exact: false,
+};
+
+fn facts_of_base(facts: &[Facts], base: Base) -> Facts {
     match base {
-        Base::Scalar(_) => true,
-        Base::Struct(index) | Base::Enum(index) => totals.get(index) == Some(&true),
-        _ => false,
+        Base::Scalar(scalar) => Facts {
+            total: true,
+            exact: !matches!(scalar, Scalar::Float | Scalar::Double),
+        },
+        Base::Struct(index) | Base::Enum(index) => { facts.get(index).copied().unwrap_or(NO_FACTS) }
+        _ => NO_FACTS,
     }
 }
 
-fn is_total_body(totals: &[bool], body: &Body) -> bool {
+fn facts_of_body(facts: &[Facts], body: &Body) -> Facts {
     match body {
-        Body::Enum(one) => one.flags,
+        Body::Enum(one) => Facts {
+            total: one.flags,
+            exact: true,
+        },
         Body::Struct(one) => {
+            let mut all = Facts {
+                total: true,
+                exact: true,
+            };
             for field in &one.fields {
-                if !is_total_base(totals, field.base) {
-                    return false;
-                }
+                let of_field = facts_of_base(facts, field.base);
+                all.total &= of_field.total;
+                all.exact &= of_field.exact;
             }
-            true
+            all
         }
-        _ => false,
+        _ => NO_FACTS,
     }
 }
 
 // A struct holds only structs and enums that are declared before it.
-fn totals_of(alloc: Global, declared: &[Declared]) -> Result<Vec<bool>, AllocError> {
-    let mut totals = Vec::new(alloc);
+fn facts_of(alloc: Global, declared: &[Declared]) -> Result<Vec<Facts>, AllocError> {
+    let mut facts = Vec::new(alloc);
     for one in declared {
-        let total = is_total_body(&totals, &one.body);
-        totals.push(total)?;
+        let of_one = facts_of_body(&facts, &one.body);
+        facts.push(of_one)?;
     }
-    Ok(totals)
+    Ok(facts)
 }
 
 fn ranks_of(alloc: Global, declared: &[Declared]) -> Result<Vec<usize>, AllocError> {
@@ -134,7 +158,7 @@ impl<'a> Context<'a> {
             },
             root: schema.statements.root,
             names: Names::of(alloc, declared)?,
-            totals: totals_of(alloc, declared)?,
+            facts: facts_of(alloc, declared)?,
             ranks: ranks_of(alloc, declared)?,
         })
     }
@@ -205,7 +229,18 @@ impl<'a> Context<'a> {
     }
 
     pub(crate) fn is_total_declaration(&self, index: usize) -> bool {
-        self.totals.get(index) == Some(&true)
+        match self.facts.get(index) {
+            Some(facts) => facts.total,
+            None => false,
+        }
+    }
+
+    /// Whether equal values of a declaration are the same.
+    pub(crate) fn is_exact_declaration(&self, index: usize) -> bool {
+        match self.facts.get(index) {
+            Some(facts) => facts.exact,
+            None => false,
+        }
     }
 
     /// The index of a table among all tables, or of a union among all unions.
@@ -222,7 +257,7 @@ impl<'a> Context<'a> {
 
     /// Whether the read of a value can't fail once its bytes are there.
     pub(crate) fn is_total(&self, base: Base) -> bool {
-        is_total_base(&self.totals, base)
+        facts_of_base(&self.facts, base).total
     }
 }
 

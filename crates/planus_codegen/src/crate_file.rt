@@ -10,6 +10,7 @@ use crate::enums::{
     has_many_values, print_enum, print_flags, print_flags_layout, print_number_proofs,
     print_numbers,
 };
+use crate::exact::{print_exact_enum, print_exact_struct};
 use crate::names::namespace_around;
 use crate::order::{Order, places_by_name};
 use crate::printer::Printer;
@@ -151,11 +152,15 @@ impl<'a> Files<'a> {
 
     fn put_struct(&mut self, at: At, declared: &Declared, one: &Struct) {
         let context = self.context;
-        let code = print_struct(context, at, declared);
+        let code = print_struct(context, at, declared, one);
         self.put_code("//! Structs `$T`.\n", at, &code);
         if has_padding(one) {
             let proof = print_padded(context, at);
             self.put("proofs/$M/$TPlain/put/Answers.antt", at, &proof);
+        }
+        if context.is_exact_declaration(at.index) {
+            let proof = print_exact_struct(context, at, one);
+            self.put("proofs/$M/$TExact/equal_is_same/Answers.antt", at, &proof);
         }
         let layout = print_struct_layout(context, at);
         self.put_definitions("-- The layout of `$T`.\n", at, &layout);
@@ -176,6 +181,8 @@ impl<'a> Files<'a> {
         if has_many_values(one) {
             let proofs = print_number_proofs(context, at);
             self.put("proofs/$M/$T/number/Answers.antt", at, &proofs);
+            let proof = print_exact_enum(context, at);
+            self.put("proofs/$M/$TExact/equal_is_same/Answers.antt", at, &proof);
         }
         let numbers = print_numbers(context, at, one);
         self.put_definitions("-- The numbers of `$T`.\n", at, &numbers);

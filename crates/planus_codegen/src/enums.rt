@@ -182,6 +182,7 @@ pub(crate) fn print_enum<'a>(
     } else {
         printer.put_pieces(&LISTED_VALUES, at);
     }
+    printer.put_exact(at);
     printer
 }
 
@@ -265,6 +266,7 @@ pub(crate) fn print_flags<'a>(
     printer.put(EACH, at.member(context.names.count(at.index)));
     printer.put_pieces(&EACH_CODE, at);
     printer.put_pieces(&FLAGS_END, at);
+    printer.put_exact(at);
     printer
 }
 

@@ -9,6 +9,7 @@ mod context;
 mod crate_file;
 mod defaults;
 mod enums;
+mod exact;
 mod field_lines;
 mod floats;
 mod groups;

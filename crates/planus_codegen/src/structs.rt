@@ -95,12 +95,16 @@ pub(crate) fn print_struct<'a>(
     context: &'a Context<'a>,
     at: At,
     declared: &Declared,
+    one: &Struct,
 ) -> Printer<'a> {
     let mut printer = Printer::new(context);
     printer.put_docs("", &declared.docs, "/// A struct of $S bytes.\n", at);
     printer.put_pieces(&STRUCT_CODE, at);
     if context.is_total_declaration(at.index) {
         printer.put(TOTAL, at);
+    }
+    if context.is_exact_declaration(at.index) {
+        printer.put_exact_struct(one, at);
     }
     printer
 }
