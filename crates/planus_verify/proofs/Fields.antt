@@ -12,7 +12,7 @@ use Rattle.planus_verify.specs.declared.schema.FieldKind.TheVariants as kind
 use Rattle.planus_verify.specs.declared.schema.FieldShape.{FieldShape}
 use Rattle.planus_verify.specs.declared.schema.ValueKind.{ValueKind}
 use Rattle.planus_verify.specs.declared.schema.Variant.{Variant}
-use Rattle.planus_verify.proofs.InOrder.{then_more, stops_there}
+use Rattle.planus_verify.specs.lemmas.InOrder.{then_more, stops_there}
 
 required_absent :
     (W : DoesTable) (place : FieldPlace) (required : Bool) (left : ℕ)

@@ -1,6 +1,6 @@
-pub mod InOrder
 pub mod Outcomes
 pub mod Loops
 pub mod Tables
 pub mod Fields
 pub mod Unions
+pub mod Passing

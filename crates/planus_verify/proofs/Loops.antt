@@ -12,7 +12,7 @@ use Rattle.planus_verify.specs.Walks.{DoesTable, NoTable, InOrder, Tested, IsTes
 use Rattle.planus_verify.specs.declared.fault.Fault.{Fault}
 use Rattle.planus_verify.specs.declared.fault.Fault.TheVariants as fault
 use Rattle.planus_verify.specs.declared.fault.FieldPlace.{FieldPlace}
-use Rattle.planus_verify.proofs.InOrder.{then_more, stops_there, last_step}
+use Rattle.planus_verify.specs.lemmas.InOrder.{then_more, stops_there, last_step}
 
 pub tested_is :
     {A : Type 0} (place : FieldPlace) (clauses : List Clause) (left : ℕ) (read : Result A ErrorKind)

@@ -1,5 +1,5 @@
 -- Tables and nested buffers, entered by a reference.
-use Rattle.std.proofs.Common.{◌≡◌, ℕ, ◌+◌, List, drop, take, refl, subst, ap, ◌∙◌, inl, inr, Result, Ok, Err}
+use Rattle.std.proofs.Common.{◌≡◌, ℕ, ◌+◌, List, drop, take, refl, subst, ap, ◌∙◌, inl, inr, Result, Ok, Err, None}
 use Rattle.planus_read.specs.Clauses.{Answer, shown, AllHold, FirstBroken}
 use Rattle.planus_read.specs.Reading.{target, slots_of, table_reading, table_clauses}
 use Rattle.planus_read.specs.Reading.{ByteListThere}
@@ -7,13 +7,14 @@ use Rattle.planus_read.specs.Tables.{ShowsTable, table_object, table_slots, tabl
 use Rattle.planus_read.specs.declared.errors.ErrorKind.{ErrorKind}
 use Rattle.planus_read.specs.declared.table_reader.Table.{Table}
 use Rattle.planus_read.proofs.Reading.{table_holds, byte_list_holds}
-use Rattle.planus_verify.specs.Steps.{Enters, reference_steps, root_steps, value_steps, place_faults}
+use Rattle.planus_verify.specs.Steps.{Enters, Faults, reference_steps, root_steps, value_steps}
+use Rattle.planus_verify.specs.Steps.{place_faults}
 use Rattle.planus_verify.specs.Walks.{DoesTable, InOrder}
 use Rattle.planus_verify.specs.declared.fault.Fault.{Fault}
 use Rattle.planus_verify.specs.declared.fault.Fault.TheVariants as fault
 use Rattle.planus_verify.specs.declared.fault.FieldPlace.{FieldPlace}
 use Rattle.planus_verify.specs.declared.schema.ValueKind.TheVariants as value
-use Rattle.planus_verify.proofs.InOrder.{last_step}
+use Rattle.planus_verify.specs.lemmas.InOrder.{last_step}
 
 pub record IsTableAt (S : List ℕ) (start f : ℕ) (table : Table) : Type 0 where
   pub holds : AllHold (table_clauses S f)
@@ -56,21 +57,27 @@ reference_is W here t S start f table left r answer h =
     )
 
 -- a nested buffer
+pub nested_by :
+    (W : DoesTable) (at : Faults) (t : ℕ) (S : List ℕ) (start f : ℕ) (content B : List ℕ)
+    (begin k left : ℕ) (r : Result ℕ Fault) → ByteListThere S f content → B ≡ content → begin ≡ 0
+    → k ≡ 0 → InOrder W (reference_steps (at None) t B begin k) left r
+    → InOrder W (value_steps at (value.Nested t) S start f) left r
+nested_by W at t S start f content B begin k left r there bytes begins offset h =
+    let holds = byte_list_holds S f content there in
+    inl (
+      left,
+      (holds.0, refl),
+      subst (λ l. InOrder W (reference_steps (at None) t l 0 0) left r) (bytes ∙ holds.1)
+          (subst (λ n. InOrder W (reference_steps (at None) t B n 0) left r) begins
+          (subst (λ n. InOrder W (reference_steps (at None) t B begin n) left r) offset h)),
+    )
+
 pub nested_is :
     (W : DoesTable) (place : FieldPlace) (t : ℕ) (S : List ℕ) (start f : ℕ) (content B : List ℕ)
     (begin k left : ℕ) (r : Result ℕ Fault) → ByteListThere S f content → B ≡ content → begin ≡ 0
     → k ≡ 0 → InOrder W (reference_steps (fault.Field place) t B begin k) left r
     → InOrder W (value_steps (place_faults place) (value.Nested t) S start f) left r
-nested_is W place t S start f content B begin k left r there bytes begins offset h =
-    let holds = byte_list_holds S f content there in
-    inl (
-      left,
-      (holds.0, refl),
-      subst (λ l. InOrder W (reference_steps (fault.Field place) t l 0 0) left r) (bytes ∙ holds.1)
-          (subst (λ n. InOrder W (reference_steps (fault.Field place) t B n 0) left r) begins
-          (subst (λ n. InOrder W (reference_steps (fault.Field place) t B begin n) left r) offset
-          h)),
-    )
+nested_is W place = nested_by W (place_faults place)
 
 -- what holds of a place, of its bytes, where they begin, and its offset
 pub place_is :

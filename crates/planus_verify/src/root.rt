@@ -1,6 +1,6 @@
 //! Verification of a buffer.
 
-ghost use Rattle.std.specs.Prelude.{ℕ, IfOk, IfErr, Ok, Err};
+ghost use Rattle.std.specs.Prelude.{ℕ, IfOk, IfErr, IfSome, Ok, Err};
 ghost use Rattle.planus_read.specs.Clauses.{Answer, shown};
 ghost use Rattle.planus_read.specs.Reading.{table_reading};
 ghost use Rattle.planus_read.specs.Tables.{ShowsTable};
@@ -9,6 +9,7 @@ ghost use Rattle.planus_verify.specs.Walks.{RootWalks};
 
 use crate::fault::Fault;
 use crate::limits::Limits;
+use crate::pass::Verify;
 use crate::schema::Schema;
 use crate::walk::verify_table;
 use planus_read::table_reader::Table;
@@ -37,4 +38,36 @@ pub fn verify<'b>(
     };
     verify_table(schema, index, table, limits.depth, limits.tables)?;
     Ok(table)
+}
+
+fn root_passes<'b, K: Verify>(bytes: &'b [u8], limits: Limits) -> Option<Table<'b>>
+    ensures root { IfSome result (λ table. Answer (shown (ShowsTable bytes.entry.now 0)
+        (table_reading bytes.entry.now 0)) (Ok table)) }
+    ensures passed { IfSome result (λ table. (left : ℕ)
+        × RootWalks K.schema K.index limits.depth limits.tables bytes.entry.now (Ok left)) }
+{
+    let buffer = SliceWithStartOffset::new(bytes, 0);
+    let table = match Table::from_buffer(buffer, 0) {
+        Ok(table) => table,
+        Err(_) => return None,
+    };
+    match K::pass(table, limits.depth, limits.tables) {
+        Some(_) => Some(table),
+        None => None,
+    }
+}
+
+/// As [`verify`], of a kind, first by [`Verify::pass`].
+pub fn verify_kind<'b, K: Verify>(bytes: &'b [u8], limits: Limits) -> Result<Table<'b>, Fault>
+    ensures root { IfOk result (λ table. Answer (shown (ShowsTable bytes.entry.now 0)
+        (table_reading bytes.entry.now 0)) (Ok table)) }
+    ensures passed { IfOk result (λ table. (left : ℕ)
+        × RootWalks K.schema K.index limits.depth limits.tables bytes.entry.now (Ok left)) }
+    ensures fault { IfErr result (λ found.
+        RootWalks K.schema K.index limits.depth limits.tables bytes.entry.now (Err found)) }
+{
+    if let Some(table) = root_passes::<K>(bytes, limits) {
+        return Ok(table);
+    }
+    verify(&K::schema(), K::index(), bytes, limits)
 }

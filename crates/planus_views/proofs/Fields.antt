@@ -1,6 +1,6 @@
 -- What is verified of a field.
 use Prim.Native.Nat.{zero, suc}
-use Rattle.std.proofs.Common.{◌≡◌, ℕ, ◌+◌, ◌<◌, ◌==◌, List, [], ◌∷◌, ◌++◌, drop, Bool, true, false, if◌then◌else◌, Option, Some, None, subst, sym, Result, Ok, Err, inl, inr, refl, arith}
+use Rattle.std.proofs.Common.{◌≡◌, ℕ, ◌+◌, ◌<◌, ◌==◌, List, [], ◌∷◌, ◌++◌, drop, Bool, true, false, if◌then◌else◌, Option, Some, None, subst, sym, Ok, Err, inl, inr, refl, arith}
 use Rattle.std.proofs.Math.Logic.{∥∥₁_elim, ∥∥₁_map}
 use Rattle.std.proofs.Props.{props}
 use Rattle.planus_read.specs.Clauses.{Answer, shown}
@@ -18,7 +18,6 @@ use Rattle.planus_verify.specs.declared.schema.ValueKind.{ValueKind}
 use Rattle.planus_verify.specs.declared.schema.Variant.{Variant}
 use Rattle.planus_verify.specs.declared.schema.ValueKind.TheVariants as value
 use Rattle.planus_verify.specs.Walks.{RootWalks}
-use Rattle.planus_verify.specs.declared.fault.Fault.{Fault}
 use Rattle.planus_verify.proofs.Outcomes.{walks_pass}
 use Rattle.planus_verify.proofs.Tables.{IsTableAt, table_is}
 use Rattle.planus_views.specs.Fields.{field_in, Has, IsPlace, MustHave, TextHolds, TableHolds}
@@ -204,11 +203,3 @@ root_passes schema t depth tables left S table answer (inl (first, tested, inr (
     absurd (let f : Ok left ≡ Err found = e in cc)
 root_passes schema t depth tables left S table answer (inr (found, tested, e)) =
     absurd (let f : Ok left ≡ Err found = e in cc)
-
--- the same of an equal schema and index
-pub walks_by :
-    (given schema : Shapes) (i t depth tables : ℕ) (S : List ℕ) (r : Result ℕ Fault)
-    → given ≡ schema → i ≡ t → RootWalks given i depth tables S r → RootWalks schema t depth tables S r
-walks_by given schema i t depth tables S r same index h =
-    subst (λ s. RootWalks s t depth tables S r) same
-    (subst (λ k. RootWalks given k depth tables S r) index h)

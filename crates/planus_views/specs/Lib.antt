@@ -1,4 +1,3 @@
-pub mod Whole
 pub mod Fields
 pub mod Views
 pub mod Vectors

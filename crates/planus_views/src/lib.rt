@@ -2,7 +2,6 @@
 //! without errors.
 #![tactic(auto)]
 
-mod kind;
 mod members;
 mod of_kind;
 mod of_union;
@@ -15,16 +14,16 @@ mod verified_items;
 mod view;
 mod view_of;
 
-pub use kind::VerifiedKind;
 pub use of_kind::OfKind;
 pub use of_union::OfUnion;
 pub use planus_verify::{
-    Fault, FieldKind, FieldPlace, FieldShape, Limits, Schema, TableShape, ValueKind, Variant,
+    Entered, Fault, FieldKind, FieldPlace, FieldShape, Limits, Schema, TableShape, UnionKind,
+    ValueKind, Variant, VerifiedKind, Verify, VerifyUnion, Walked, member_passes,
 };
 pub use root::verify_root;
 pub use table_vectors::Tables;
 pub use texts::Texts;
-pub use union_of::{Member, UnionKind, UnionOf};
+pub use union_of::{Member, UnionOf};
 pub use unions::Unions;
 pub use verified_items::{ReadVerified, VerifiedItems, VerifiedVector};
 pub use view::View;

@@ -1,8 +1,8 @@
 //! Kinds of views.
 
-use crate::kind::VerifiedKind;
+use planus_verify::Verify;
 
 /// A view of tables of one kind. It names no lifetime, so that [`crate::Tables`] may.
 pub trait OfKind {
-    type Kind: VerifiedKind;
+    type Kind: Verify;
 }

@@ -1,6 +1,6 @@
 //! Kinds of unions.
 
-use crate::union_of::UnionKind;
+use planus_verify::UnionKind;
 
 /// A printed union of one kind. It names no lifetime, so that [`crate::Unions`] may.
 pub trait OfUnion {

@@ -6,11 +6,10 @@ ghost use Rattle.planus_verify.specs.Walks.{RootWalks};
 ghost use Rattle.planus_views.specs.Fields.{TableHolds};
 ghost use Rattle.planus_views.specs.Nested.{ReturnsRoot};
 
-use crate::kind::VerifiedKind;
 use crate::view_of::ViewOf;
 use planus::SliceWithStartOffset;
 use planus::table_reader::Table;
-use planus_verify::{Fault, Limits, verify};
+use planus_verify::{Fault, Limits, VerifiedKind, verify_kind};
 
 /// Verifies the root of a whole buffer with all that it leads to, and returns its view.
 pub fn verify_root<'a, V: ViewOf<'a>>(bytes: &'a [u8], limits: Limits) -> Result<V, Fault>
@@ -21,8 +20,7 @@ pub fn verify_root<'a, V: ViewOf<'a>>(bytes: &'a [u8], limits: Limits) -> Result
     ensures fault { IfErr result (λ found. RootWalks V.Kind.schema V.Kind.index limits.depth
         limits.tables bytes.entry.now (Err found)) }
 {
-    let schema = V::Kind::schema();
-    match verify(&schema, V::Kind::index(), bytes, limits) {
+    match verify_kind::<V::Kind>(bytes, limits) {
         Ok(table) => Ok(V::of_verified(table)),
         Err(fault) => Err(fault),
     }

@@ -4,20 +4,14 @@ ghost use Rattle.std.specs.Prelude.{◌≡◌, ℕ, List, Result as std_result, 
 ghost use Rattle.planus.specs.Views.{reads_as};
 ghost use Rattle.planus_read.specs.declared.errors.ErrorKind.{ErrorKind};
 ghost use Rattle.planus_read.specs.Slices.{slice_bytes, slice_start};
-ghost use Rattle.planus_verify.specs.Schemas.{Shapes, variant_in};
+ghost use Rattle.planus_verify.specs.Schemas.{variant_in};
 ghost use Rattle.planus_views.specs.Fields.{IsMember};
 
 use crate::of_union::OfUnion;
 use crate::view_of::ViewOf;
 use planus::SliceWithStartOffset;
 use planus::table_reader::Table;
-
-/// A kind of union with its place in a schema.
-pub trait UnionKind {
-    ghost schema: { Shapes };
-
-    ghost union: { ℕ };
-}
+use planus_verify::UnionKind;
 
 /// A union of a verified table: a tag, and where its reference is encoded.
 #[derive(Clone, Copy)]

@@ -19,7 +19,6 @@ ghost use Rattle.planus_views.specs.Fields.{MayHaveBytes, MustHaveBytes};
 ghost use Rattle.planus_verify.specs.Verified.{IsVerified};
 ghost use Rattle.planus_views.specs.Fields.{IsPlace};
 
-use crate::kind::VerifiedKind;
 use crate::members::{union_unchecked, union_vector_slots};
 use crate::root::root_unchecked;
 use crate::table_vectors::{Tables, tables_unchecked};
@@ -31,7 +30,7 @@ use planus::errors::ErrorKind;
 use planus::table_reader::Table;
 use planus::{Plain, PlainTotal, SliceWithStartOffset, Stride, Vector, VectorRead};
 use planus_read::{bytes_unchecked, text_unchecked};
-use planus_verify::{FieldKind, ValueKind};
+use planus_verify::{FieldKind, ValueKind, VerifiedKind};
 use std::alloc::AllocError;
 use std::marker::PhantomData;
 

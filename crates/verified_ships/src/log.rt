@@ -11,12 +11,14 @@ ghost use Rattle.planus_views.specs.Views.{view_table};
 
 use crate::gauge::Gauge;
 use crate::mark::Mark;
-use crate::owner::OwnerView;
-use crate::person::PersonView;
+use crate::owner::{Owner, OwnerView};
+use crate::person::{Person, PersonView};
 use crate::schema::schema;
 use planus::errors::ErrorKind;
 use planus::table_reader::Table;
-use planus_views::{OfKind, Schema, Unions, VerifiedKind, View, ViewOf};
+use planus_views::{
+    Entered, OfKind, Schema, Unions, ValueKind, VerifiedKind, Verify, View, ViewOf,
+};
 
 /// The kind of `Log`.
 pub struct Log;
@@ -37,6 +39,20 @@ impl VerifiedKind for Log {
 
     fn index() -> usize {
         4
+    }
+}
+
+impl Verify for Log {
+    fn pass(table: Table<'_>, depth: u8, left: usize) -> Option<usize> {
+        let fields = Entered::<Log>::new(table, depth)?;
+        let left = fields.counted(left)?;
+        let left = fields.value(0, true, ValueKind::Plain(4), left)?;
+        let left = fields.value(1, true, ValueKind::Plain(1), left)?;
+        let left = fields.unions::<Owner>(2, false, left)?;
+        let left = fields.unions::<Owner>(4, true, left)?;
+        let left = fields.nested::<Person>(6, false, left)?;
+        let left = fields.nested::<Person>(7, true, left)?;
+        Some(left)
     }
 }
 

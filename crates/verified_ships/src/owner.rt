@@ -3,9 +3,10 @@
 ghost use Rattle.planus.specs.Printed.{ReadsVariants};
 ghost use Rattle.verified_ships.specs.Owner.{owner_variants, checked_owner};
 
-use crate::company::CompanyView;
-use crate::person::PersonView;
-use planus_views::{Member, OfUnion, UnionKind, UnionOf};
+use crate::company::{Company, CompanyView};
+use crate::person::{Person, PersonView};
+use planus::Place;
+use planus_views::{Member, OfUnion, UnionKind, UnionOf, VerifyUnion, member_passes};
 
 /// The kind of one of some tables.
 pub struct Owner;
@@ -16,6 +17,16 @@ impl UnionKind for Owner {
     ghost schema = { ships_schema };
 
     ghost union = { 0 };
+}
+
+impl VerifyUnion for Owner {
+    fn pass_member(tag: u8, at: Place<'_>, depth: u8, left: usize) -> Option<usize> {
+        match tag {
+            1 => member_passes::<Owner, Person>(tag, 1, at, depth, left),
+            2 => member_passes::<Owner, Company>(tag, 2, at, depth, left),
+            _ => Some(left),
+        }
+    }
 }
 
 /// A verified one in a buffer.

@@ -6,7 +6,7 @@ ghost use Rattle.planus_views.specs.Vectors.{Returns};
 
 use crate::schema::schema;
 use planus::table_reader::Table;
-use planus_views::{OfKind, Schema, VerifiedKind, View, ViewOf};
+use planus_views::{Entered, OfKind, Schema, ValueKind, VerifiedKind, Verify, View, ViewOf};
 
 /// The kind of `Person`.
 pub struct Person;
@@ -27,6 +27,16 @@ impl VerifiedKind for Person {
 
     fn index() -> usize {
         1
+    }
+}
+
+impl Verify for Person {
+    fn pass(table: Table<'_>, depth: u8, left: usize) -> Option<usize> {
+        let fields = Entered::<Person>::new(table, depth)?;
+        let left = fields.counted(left)?;
+        let left = fields.value(0, true, ValueKind::Text, left)?;
+        let left = fields.value(1, false, ValueKind::Plain(1), left)?;
+        Some(left)
     }
 }
 

@@ -8,12 +8,14 @@ ghost use Rattle.planus_views.specs.Members.{ReturnsAs};
 ghost use Rattle.planus_views.specs.CheckedVectors.{checked_tables, checked_texts};
 ghost use Rattle.planus_views.specs.Vectors.{Returns};
 
-use crate::owner::OwnerView;
+use crate::owner::{Owner, OwnerView};
 use crate::schema::schema;
-use crate::ship::ShipView;
+use crate::ship::{Ship, ShipView};
 use planus::Vector;
 use planus::table_reader::Table;
-use planus_views::{OfKind, Schema, Tables, Texts, VerifiedKind, View, ViewOf};
+use planus_views::{
+    Entered, OfKind, Schema, Tables, Texts, ValueKind, VerifiedKind, Verify, View, ViewOf,
+};
 
 /// The kind of `Port`.
 pub struct Port;
@@ -34,6 +36,19 @@ impl VerifiedKind for Port {
 
     fn index() -> usize {
         3
+    }
+}
+
+impl Verify for Port {
+    fn pass(table: Table<'_>, depth: u8, left: usize) -> Option<usize> {
+        let fields = Entered::<Port>::new(table, depth)?;
+        let left = fields.counted(left)?;
+        let left = fields.union::<Owner>(0, true, left)?;
+        let left = fields.tables::<Ship>(2, true, left)?;
+        let left = fields.value(3, true, ValueKind::Texts, left)?;
+        let left = fields.value(6, true, ValueKind::Plains(2), left)?;
+        let left = fields.value(7, true, ValueKind::Bytes, left)?;
+        Some(left)
     }
 }
 

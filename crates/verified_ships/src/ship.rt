@@ -16,7 +16,9 @@ use crate::schema::schema;
 use planus::errors::ErrorKind;
 use planus::table_reader::Table;
 use planus::{TableKind, TableWriter, Vector};
-use planus_views::{OfKind, Schema, Tables, Texts, VerifiedKind, View, ViewOf};
+use planus_views::{
+    Entered, OfKind, Schema, Tables, Texts, ValueKind, VerifiedKind, Verify, View, ViewOf, Walked,
+};
 
 /// The kind of `Ship`.
 pub struct Ship;
@@ -47,6 +49,25 @@ impl VerifiedKind for Ship {
 
     fn index() -> usize {
         0
+    }
+}
+
+impl Verify for Ship {
+    fn pass(table: Table<'_>, depth: u8, left: usize) -> Option<usize> {
+        let fields = Entered::<Ship>::new(table, depth)?;
+        let left = fields.counted(left)?;
+        let left = fields.value(0, true, ValueKind::Text, left)?;
+        let left = fields.value(1, false, ValueKind::Plain(2), left)?;
+        let left = fields.value(2, false, ValueKind::Plains(4), left)?;
+        let left = fields.value(3, false, ValueKind::Plain(1), left)?;
+        let left = fields.value(13, false, ValueKind::Bytes, left)?;
+        let left = fields.value(14, false, ValueKind::Texts, left)?;
+        let left = fields.table::<Walked<Ship>>(15, false, left)?;
+        let left = fields.tables::<Walked<Ship>>(16, false, left)?;
+        let left = fields.value(17, false, ValueKind::Plains(1), left)?;
+        let left = fields.union::<Owner>(18, false, left)?;
+        let left = fields.value(27, false, ValueKind::Plain(1), left)?;
+        Some(left)
     }
 }
 

@@ -14,7 +14,7 @@ use Rattle.planus_verify.specs.declared.fault.Fault.TheVariants as fault
 use Rattle.planus_verify.specs.declared.schema.ValueKind.TheVariants as value
 use Rattle.planus_verify.proofs.Fields.{value_field, union_field, unions_field}
 use Rattle.planus_verify.proofs.Fields.{field_passes, field_stops, fields_end, FieldsSoFar, place_of}
-use Rattle.planus_verify.proofs.InOrder.{no_tables}
+use Rattle.planus_verify.specs.lemmas.InOrder.{no_tables}
 use Rattle.planus_verify.proofs.Loops.{no_vector, vector_is, items_begin, item_passes, item_stops}
 use Rattle.planus_verify.proofs.Loops.{items_end, reference_item, variant_item}
 use Rattle.planus_verify.proofs.Tables.{reference_is, nested_is, place_is}

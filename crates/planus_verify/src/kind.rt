@@ -1,10 +1,10 @@
-//! Kinds of verified tables.
+//! Kinds of tables of a schema.
 
 ghost use Rattle.std.specs.Prelude.{◌≡◌, ℕ, true};
 ghost use Rattle.planus_verify.specs.Schemas.{Shapes, shapes};
-ghost use Rattle.planus_views.specs.Whole.{is_kind};
+ghost use Rattle.planus_verify.specs.Whole.{is_kind};
 
-use planus_verify::Schema;
+use crate::schema::Schema;
 
 /// A kind of table with its place in a schema.
 pub trait VerifiedKind {
