@@ -9,7 +9,8 @@ use crate::kind::VerifiedKind;
 use crate::pass::Verify;
 use crate::pass_member::VerifyUnion;
 use crate::passes::{nested_passes, reference_passes, tables_pass, unions_pass, value_passes};
-use crate::schema::ValueKind;
+use crate::schema::{FieldKind, FieldShape, ValueKind};
+use crate::walk::verify_field;
 use planus_read::table_reader::Table;
 use planus_read::{Place, TaggedPlace};
 use planus_view::UnionVector;
@@ -91,6 +92,30 @@ impl<'b, K: VerifiedKind> Entered<'b, K> {
             return Some(left);
         }
         None
+    }
+
+    /// Verifies a field of any kind by a walk over the schema: for those that lead back to tables
+    /// that were entered before, since no function of a kind may.
+    pub fn walked(&self, slot: usize, required: bool, kind: FieldKind, left: usize) -> Option<usize>
+        ensures { FieldPasses K.schema (entered_depth self.now) K.index (entered_table self.now)
+            (field_of slot required kind) left result }
+    {
+        let field = FieldShape {
+            slot,
+            required,
+            kind,
+        };
+        match verify_field(
+            &K::schema(),
+            &field,
+            K::index(),
+            self.table,
+            self.depth,
+            left,
+        ) {
+            Ok(rest) => Some(rest),
+            Err(_) => None,
+        }
     }
 
     /// Verifies a table.

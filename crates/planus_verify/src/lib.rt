@@ -16,7 +16,6 @@ mod schema;
 mod tests;
 mod union_kind;
 mod walk;
-mod walked;
 
 pub use entered::Entered;
 pub use fault::{Fault, FieldPlace};
@@ -28,4 +27,3 @@ pub use pass_member::{VerifyUnion, member_passes};
 pub use root::{verify, verify_kind};
 pub use schema::{FieldKind, FieldShape, Schema, TableShape, ValueKind, Variant};
 pub use union_kind::UnionKind;
-pub use walked::Walked;

@@ -157,8 +157,9 @@ fn verify_fields(
     Ok(left)
 }
 
+/// Verifies a field of a table.
 #[cycle(walk)]
-fn verify_field(
+pub(crate) fn verify_field(
     schema: &Schema<'_>,
     field: &FieldShape,
     index: usize,

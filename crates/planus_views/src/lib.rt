@@ -18,7 +18,7 @@ pub use of_kind::OfKind;
 pub use of_union::OfUnion;
 pub use planus_verify::{
     Entered, Fault, FieldKind, FieldPlace, FieldShape, Limits, Schema, TableShape, UnionKind,
-    ValueKind, Variant, VerifiedKind, Verify, VerifyUnion, Walked, member_passes,
+    ValueKind, Variant, VerifiedKind, Verify, VerifyUnion, member_passes,
 };
 pub use root::verify_root;
 pub use table_vectors::Tables;

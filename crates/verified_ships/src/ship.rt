@@ -17,7 +17,8 @@ use planus::errors::ErrorKind;
 use planus::table_reader::Table;
 use planus::{TableKind, TableWriter, Vector};
 use planus_views::{
-    Entered, OfKind, Schema, Tables, Texts, ValueKind, VerifiedKind, Verify, View, ViewOf, Walked,
+    Entered, FieldKind, OfKind, Schema, Tables, Texts, ValueKind, VerifiedKind, Verify, View,
+    ViewOf,
 };
 
 /// The kind of `Ship`.
@@ -62,8 +63,8 @@ impl Verify for Ship {
         let left = fields.value(3, false, ValueKind::Plain(1), left)?;
         let left = fields.value(13, false, ValueKind::Bytes, left)?;
         let left = fields.value(14, false, ValueKind::Texts, left)?;
-        let left = fields.table::<Walked<Ship>>(15, false, left)?;
-        let left = fields.tables::<Walked<Ship>>(16, false, left)?;
+        let left = fields.walked(15, false, FieldKind::Value(ValueKind::Table(0)), left)?;
+        let left = fields.walked(16, false, FieldKind::Value(ValueKind::Tables(0)), left)?;
         let left = fields.value(17, false, ValueKind::Plains(1), left)?;
         let left = fields.union::<Owner>(18, false, left)?;
         let left = fields.value(27, false, ValueKind::Plain(1), left)?;
