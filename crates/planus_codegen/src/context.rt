@@ -5,6 +5,7 @@ ghost use Rattle.planus_plan.specs.Spelling.{said_in};
 ghost use Rattle.planus_codegen.specs.Printed.{AreFit, IsNamingOf};
 
 use crate::at::At;
+use crate::leads::left_before;
 use crate::names::Names;
 use crate::refusal::Refusal;
 use planus_layout::{Base, Body, Declared, Scalar, Schema, TableField};
@@ -26,6 +27,8 @@ pub(crate) struct Context<'a> {
     facts: Vec<Facts>,
     /// How many tables are before each, or unions before each union.
     ranks: Vec<usize>,
+    /// How many tables and unions a walk leaves before each.
+    pub(crate) left: Vec<usize>,
 }
 
 /// What is known of a declaration's values.
@@ -160,6 +163,7 @@ impl<'a> Context<'a> {
             names: Names::of(alloc, declared)?,
             facts: facts_of(alloc, declared)?,
             ranks: ranks_of(alloc, declared)?,
+            left: left_before(alloc, declared)?,
         })
     }
 

@@ -21,6 +21,7 @@ use crate::supported::refuse_unsupported;
 use crate::tables::print_table;
 use crate::unions::{print_union, print_variants};
 use crate::uses::{Own, VERIFIED};
+use crate::verified_passes::print_pass_proof;
 use crate::verified_schema::{print_schema, print_schema_definition};
 use crate::verified_tables::print_verified_kind;
 use crate::verified_unions::print_verified_union;
@@ -106,16 +107,20 @@ impl<'a> Files<'a> {
         self.put("src/$M.rt", at, &file);
     }
 
-    fn put_table_view(&mut self, plan: &Plan<'_>) {
+    fn add_table_view(&mut self, plan: &Plan<'_>, one: &Table) -> Result<(), AllocError> {
         let context = self.context;
         let at = At::declaration(plan.table);
         let kind = print_verified_kind(context, at);
         let mut code = print_verified_kind(context, at);
+        code.put_pass(at, one)?;
         code.put_verified_methods(plan, self.order);
         let own = Own::View(plan.table);
         let head = "//! Verified tables `$T`.\n";
         let file = self.file_of(head, at, own, kind.as_str(), &code);
         self.put("src/verified/$M.rt", at, &file);
+        let proof = print_pass_proof(context, at, one);
+        self.put("proofs/verified/$M/$TVerify/pass/Answers.antt", at, &proof);
+        Ok(())
     }
 
     fn put_union_view(&mut self, at: At, one: &Union) {
@@ -146,8 +151,7 @@ impl<'a> Files<'a> {
         let plan = Plan::of(context.alloc, context.declared, at.index, one)?;
         let code = print_table(context, &plan, declared)?;
         self.put_code("//! Tables `$T`.\n", at, &code);
-        self.put_table_view(&plan);
-        Ok(())
+        self.add_table_view(&plan, one)
     }
 
     fn put_struct(&mut self, at: At, declared: &Declared, one: &Struct) {

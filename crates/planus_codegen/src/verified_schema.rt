@@ -141,7 +141,7 @@ impl<'a> Entries<'a> {
 }
 
 /// The places of a table's fields that aren't deprecated, by their slots.
-fn places_by_slot(context: &Context<'_>, one: &Table) -> Result<Vec<usize>, AllocError> {
+pub(crate) fn places_by_slot(context: &Context<'_>, one: &Table) -> Result<Vec<usize>, AllocError> {
     let mut places = Vec::new(context.alloc);
     for (place, field) in one.fields.iter().enumerate() {
         if !field.deprecated {

@@ -141,6 +141,12 @@ fn has_wide_arms(context: &Context<'_>, at: At) -> bool {
     false
 }
 
+/// Whether a union has a function that verifies it: else its variants are more than the checker takes
+/// in one.
+pub(crate) fn passes_by_itself(one: &Union) -> bool {
+    one.members.len() <= MOST_TOGETHER
+}
+
 /// Prints the view of a verified union.
 pub(crate) fn print_verified_union<'a>(
     context: &'a Context<'a>,
@@ -159,6 +165,9 @@ pub(crate) fn print_verified_union<'a>(
         printer.put_str("        match member.tag() {\n");
         printer.put_each(if wide { WIDE_ARM } else { ARM }, "", at);
         printer.put(UNKNOWN, at);
+    }
+    if passes_by_itself(one) {
+        printer.put_pass_member(at);
     }
     printer
 }

@@ -10,4 +10,3 @@ pub use Rattle.planus_views.specs.Nested.{IsNestedField, IsNestedRequired}
 pub use Rattle.planus_views.specs.Vectors.{Returns}
 pub use Rattle.planus_views.specs.Views.{view_table}
 pub use Rattle.planus_verify.specs.Whole.{is_whole}
-pub use Rattle.planus_verify.specs.lemmas.Passed.{table_passed}

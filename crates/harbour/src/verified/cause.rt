@@ -6,6 +6,8 @@ ghost use Rattle.harbour.specs.Cause.{cause_view_variants};
 ghost use Rattle.harbour.specs.Cause.{cause_checked};
 
 use crate::cause::Cause;
+use crate::entry::Entry;
+use crate::origin::Origin;
 use crate::verified::entry::EntryView;
 use crate::verified::origin::OriginView;
 
@@ -38,6 +40,16 @@ impl<'a> planus_views::UnionOf<'a> for CauseView<'a> {
             1 => CauseView::Entry(member.table::<Cause, _>(1)),
             2 => CauseView::Origin(member.table::<Cause, _>(2)),
             tag => CauseView::Unknown(tag),
+        }
+    }
+}
+
+impl planus_views::VerifyUnion for Cause {
+    fn pass_member(tag: u8, at: planus::Place<'_>, depth: u8, left: usize) -> Option<usize> {
+        match tag {
+            1 => planus_views::member_passes::<Cause, Entry>(tag, 1, at, depth, left),
+            2 => planus_views::member_passes::<Cause, Origin>(tag, 2, at, depth, left),
+            _ => Some(left),
         }
     }
 }

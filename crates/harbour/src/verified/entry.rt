@@ -5,8 +5,10 @@ ghost use Rattle.harbour.specs.Verified.{verified_schema};
 ghost use Rattle.harbour.specs.Verified.{verified_whole};
 
 use crate::entry::{Entry, EntryRef};
+use crate::origin::Origin;
 use crate::verified::cause::CauseView;
 use crate::verified::origin::OriginView;
+use planus::fields;
 use planus::table_reader::Table;
 
 impl planus_views::VerifiedKind for Entry {
@@ -38,6 +40,24 @@ impl<'a> planus_views::ViewOf<'a> for EntryView<'a> {
 
     fn of_verified(read: Table<'a>) -> EntryView<'a> {
         EntryView(planus_views::View::new(read))
+    }
+}
+
+impl planus_views::Verify for Entry {
+    fn pass(table: Table<'_>, depth: u8, left: usize) -> Option<usize> {
+        let fields = planus_views::Entered::<Entry>::new(table, depth)?;
+        let left = fields.counted(left)?;
+        let left = fields.value(0, false, planus_views::ValueKind::Plain(8), left)?;
+        let left = fields.value(1, true, planus_views::ValueKind::Text, left)?;
+        let left = fields.table::<Origin>(2, true, left)?;
+        let left = fields.walked(3, false, planus_views::FieldKind::Union(1), left)?;
+        let left = fields.walked(
+            5,
+            false,
+            planus_views::FieldKind::Value(planus_views::ValueKind::Tables(6)),
+            left,
+        )?;
+        Some(left)
     }
 }
 

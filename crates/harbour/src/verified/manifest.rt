@@ -9,14 +9,17 @@ use crate::kind::Kind;
 use crate::level::Level;
 use crate::manifest::{Manifest, ManifestRef};
 use crate::needs::Needs;
+use crate::owner::Owner;
+use crate::person::Person;
 use crate::pos::Pos;
+use crate::ship::Ship;
 use crate::signal::Signal;
 use crate::verified::owner::OwnerView;
 use crate::verified::person::PersonView;
 use crate::verified::ship::ShipView;
-use planus::Vector;
 use planus::errors::ErrorKind;
 use planus::table_reader::Table;
+use planus::{Vector, fields};
 
 impl planus_views::VerifiedKind for Manifest {
     ghost schema = { verified_schema };
@@ -47,6 +50,66 @@ impl<'a> planus_views::ViewOf<'a> for ManifestView<'a> {
 
     fn of_verified(read: Table<'a>) -> ManifestView<'a> {
         ManifestView(planus_views::View::new(read))
+    }
+}
+
+impl planus_views::Verify for Manifest {
+    fn pass(table: Table<'_>, depth: u8, left: usize) -> Option<usize> {
+        let fields = planus_views::Entered::<Manifest>::new(table, depth)?;
+        let left = fields.counted(left)?;
+        let left = fields.value(0, false, planus_views::ValueKind::Plain(8), left)?;
+        let left = fields.value(1, false, planus_views::ValueKind::Plain(8), left)?;
+        let left = fields.value(2, false, planus_views::ValueKind::Plain(8), left)?;
+        let left = fields.value(3, false, planus_views::ValueKind::Plain(4), left)?;
+        let left = fields.value(4, false, planus_views::ValueKind::Plain(4), left)?;
+        let left = fields.value(5, false, planus_views::ValueKind::Plain(4), left)?;
+        let left = fields.value(6, false, planus_views::ValueKind::Plain(2), left)?;
+        let left = fields.value(7, false, planus_views::ValueKind::Plain(2), left)?;
+        let left = fields.value(8, false, planus_views::ValueKind::Plain(1), left)?;
+        let left = fields.value(9, false, planus_views::ValueKind::Plain(1), left)?;
+        let left = fields.value(10, false, planus_views::ValueKind::Plain(1), left)?;
+        let left = fields.value(11, false, planus_views::ValueKind::Plain(1), left)?;
+        let left = fields.value(12, false, planus_views::ValueKind::Plain(1), left)?;
+        let left = fields.value(13, false, planus_views::ValueKind::Plain(2), left)?;
+        let left = fields.value(14, false, planus_views::ValueKind::Plain(2), left)?;
+        let left = fields.value(15, false, planus_views::ValueKind::Plain(1), left)?;
+        let left = fields.value(16, false, planus_views::ValueKind::Plain(8), left)?;
+        let left = fields.value(17, false, planus_views::ValueKind::Plain(8), left)?;
+        let left = fields.value(18, false, planus_views::ValueKind::Plain(4), left)?;
+        let left = fields.value(19, false, planus_views::ValueKind::Plain(1), left)?;
+        let left = fields.value(20, false, planus_views::ValueKind::Plain(1), left)?;
+        let left = fields.value(21, false, planus_views::ValueKind::Plain(12), left)?;
+        let left = fields.value(22, true, planus_views::ValueKind::Plain(8), left)?;
+        let left = fields.value(23, true, planus_views::ValueKind::Text, left)?;
+        let left = fields.value(24, false, planus_views::ValueKind::Text, left)?;
+        let left = fields.value(25, false, planus_views::ValueKind::Bytes, left)?;
+        let left = fields.value(26, true, planus_views::ValueKind::Bytes, left)?;
+        let left = fields.value(27, false, planus_views::ValueKind::Plains(8), left)?;
+        let left = fields.value(28, true, planus_views::ValueKind::Plains(4), left)?;
+        let left = fields.value(29, false, planus_views::ValueKind::Plains(2), left)?;
+        let left = fields.value(30, false, planus_views::ValueKind::Plains(1), left)?;
+        let left = fields.value(31, false, planus_views::ValueKind::Plains(1), left)?;
+        let left = fields.value(32, false, planus_views::ValueKind::Plains(12), left)?;
+        let left = fields.value(33, false, planus_views::ValueKind::Texts, left)?;
+        let left = fields.value(34, true, planus_views::ValueKind::Texts, left)?;
+        let left = fields.table::<Ship>(35, true, left)?;
+        let left = fields.walked(
+            36,
+            false,
+            planus_views::FieldKind::Value(planus_views::ValueKind::Table(4)),
+            left,
+        )?;
+        let left = fields.tables::<Person>(37, false, left)?;
+        let left = fields.walked(
+            38,
+            true,
+            planus_views::FieldKind::Value(planus_views::ValueKind::Tables(4)),
+            left,
+        )?;
+        let left = fields.union::<Owner>(39, false, left)?;
+        let left = fields.union::<Owner>(41, true, left)?;
+        let left = fields.unions::<Owner>(43, false, left)?;
+        Some(left)
     }
 }
 

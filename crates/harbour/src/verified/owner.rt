@@ -5,7 +5,9 @@ ghost use Rattle.harbour.specs.Verified.{verified_schema};
 ghost use Rattle.harbour.specs.Owner.{owner_view_variants};
 ghost use Rattle.harbour.specs.Owner.{owner_checked};
 
+use crate::company::Company;
 use crate::owner::Owner;
+use crate::person::Person;
 use crate::verified::company::CompanyView;
 use crate::verified::person::PersonView;
 
@@ -38,6 +40,16 @@ impl<'a> planus_views::UnionOf<'a> for OwnerView<'a> {
             1 => OwnerView::Person(member.table::<Owner, _>(1)),
             2 => OwnerView::Firm(member.table::<Owner, _>(2)),
             tag => OwnerView::Unknown(tag),
+        }
+    }
+}
+
+impl planus_views::VerifyUnion for Owner {
+    fn pass_member(tag: u8, at: planus::Place<'_>, depth: u8, left: usize) -> Option<usize> {
+        match tag {
+            1 => planus_views::member_passes::<Owner, Person>(tag, 1, at, depth, left),
+            2 => planus_views::member_passes::<Owner, Company>(tag, 2, at, depth, left),
+            _ => Some(left),
         }
     }
 }

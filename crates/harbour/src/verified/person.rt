@@ -5,6 +5,7 @@ ghost use Rattle.harbour.specs.Verified.{verified_schema};
 ghost use Rattle.harbour.specs.Verified.{verified_whole};
 
 use crate::person::{Person, PersonRef};
+use planus::fields;
 use planus::table_reader::Table;
 
 impl planus_views::VerifiedKind for Person {
@@ -36,6 +37,16 @@ impl<'a> planus_views::ViewOf<'a> for PersonView<'a> {
 
     fn of_verified(read: Table<'a>) -> PersonView<'a> {
         PersonView(planus_views::View::new(read))
+    }
+}
+
+impl planus_views::Verify for Person {
+    fn pass(table: Table<'_>, depth: u8, left: usize) -> Option<usize> {
+        let fields = planus_views::Entered::<Person>::new(table, depth)?;
+        let left = fields.counted(left)?;
+        let left = fields.value(0, true, planus_views::ValueKind::Text, left)?;
+        let left = fields.value(1, false, planus_views::ValueKind::Plain(1), left)?;
+        Some(left)
     }
 }
 

@@ -5,13 +5,15 @@ ghost use Rattle.harbour.specs.Verified.{verified_schema};
 ghost use Rattle.harbour.specs.Verified.{verified_whole};
 
 use crate::gauge::Gauge;
+use crate::owner::Owner;
 use crate::port::{Port, PortRef};
+use crate::ship::Ship;
 use crate::signal::Signal;
 use crate::verified::owner::OwnerView;
 use crate::verified::ship::ShipView;
-use planus::Vector;
 use planus::errors::ErrorKind;
 use planus::table_reader::Table;
+use planus::{Vector, fields};
 
 impl planus_views::VerifiedKind for Port {
     ghost schema = { verified_schema };
@@ -42,6 +44,22 @@ impl<'a> planus_views::ViewOf<'a> for PortView<'a> {
 
     fn of_verified(read: Table<'a>) -> PortView<'a> {
         PortView(planus_views::View::new(read))
+    }
+}
+
+impl planus_views::Verify for Port {
+    fn pass(table: Table<'_>, depth: u8, left: usize) -> Option<usize> {
+        let fields = planus_views::Entered::<Port>::new(table, depth)?;
+        let left = fields.counted(left)?;
+        let left = fields.union::<Owner>(0, true, left)?;
+        let left = fields.tables::<Ship>(2, true, left)?;
+        let left = fields.value(3, true, planus_views::ValueKind::Texts, left)?;
+        let left = fields.unions::<Owner>(4, true, left)?;
+        let left = fields.value(6, true, planus_views::ValueKind::Plains(2), left)?;
+        let left = fields.value(7, true, planus_views::ValueKind::Bytes, left)?;
+        let left = fields.value(8, false, planus_views::ValueKind::Plain(8), left)?;
+        let left = fields.value(9, false, planus_views::ValueKind::Plain(1), left)?;
+        Some(left)
     }
 }
 

@@ -8,12 +8,13 @@ use crate::fix::Fix;
 use crate::kind::Kind;
 use crate::level::Level;
 use crate::needs::Needs;
+use crate::owner::Owner;
 use crate::pos::Pos;
 use crate::ship::{Ship, ShipRef};
 use crate::verified::owner::OwnerView;
-use planus::Vector;
 use planus::errors::ErrorKind;
 use planus::table_reader::Table;
+use planus::{Vector, fields};
 
 impl planus_views::VerifiedKind for Ship {
     ghost schema = { verified_schema };
@@ -44,6 +45,50 @@ impl<'a> planus_views::ViewOf<'a> for ShipView<'a> {
 
     fn of_verified(read: Table<'a>) -> ShipView<'a> {
         ShipView(planus_views::View::new(read))
+    }
+}
+
+impl planus_views::Verify for Ship {
+    fn pass(table: Table<'_>, depth: u8, left: usize) -> Option<usize> {
+        let fields = planus_views::Entered::<Ship>::new(table, depth)?;
+        let left = fields.counted(left)?;
+        let left = fields.value(0, true, planus_views::ValueKind::Text, left)?;
+        let left = fields.value(1, false, planus_views::ValueKind::Plain(2), left)?;
+        let left = fields.value(2, false, planus_views::ValueKind::Plains(4), left)?;
+        let left = fields.value(3, false, planus_views::ValueKind::Plain(1), left)?;
+        let left = fields.value(4, false, planus_views::ValueKind::Plain(2), left)?;
+        let left = fields.value(5, false, planus_views::ValueKind::Plain(2), left)?;
+        let left = fields.value(6, false, planus_views::ValueKind::Plain(12), left)?;
+        let left = fields.value(7, false, planus_views::ValueKind::Plains(12), left)?;
+        let left = fields.value(8, false, planus_views::ValueKind::Plain(4), left)?;
+        let left = fields.value(9, false, planus_views::ValueKind::Plain(2), left)?;
+        let left = fields.value(10, false, planus_views::ValueKind::Plain(1), left)?;
+        let left = fields.value(11, false, planus_views::ValueKind::Plain(1), left)?;
+        let left = fields.value(12, false, planus_views::ValueKind::Plain(4), left)?;
+        let left = fields.value(13, false, planus_views::ValueKind::Bytes, left)?;
+        let left = fields.value(14, false, planus_views::ValueKind::Texts, left)?;
+        let left = fields.walked(
+            15,
+            false,
+            planus_views::FieldKind::Value(planus_views::ValueKind::Table(2)),
+            left,
+        )?;
+        let left = fields.walked(
+            16,
+            false,
+            planus_views::FieldKind::Value(planus_views::ValueKind::Tables(2)),
+            left,
+        )?;
+        let left = fields.value(17, false, planus_views::ValueKind::Plains(1), left)?;
+        let left = fields.union::<Owner>(18, false, left)?;
+        let left = fields.unions::<Owner>(20, false, left)?;
+        let left = fields.value(23, false, planus_views::ValueKind::Plain(8), left)?;
+        let left = fields.value(24, false, planus_views::ValueKind::Plains(8), left)?;
+        let left = fields.value(25, false, planus_views::ValueKind::Plains(1), left)?;
+        let left = fields.value(26, true, planus_views::ValueKind::Plain(24), left)?;
+        let left = fields.value(27, false, planus_views::ValueKind::Plain(1), left)?;
+        let left = fields.value(28, false, planus_views::ValueKind::Plains(1), left)?;
+        Some(left)
     }
 }
 

@@ -7,6 +7,7 @@ ghost use Rattle.monsters.specs.Equipment.{equipment_checked};
 
 use crate::equipment::Equipment;
 use crate::verified::weapon::WeaponView;
+use crate::weapon::Weapon;
 
 impl planus_views::UnionKind for Equipment {
     ghost schema = { verified_schema };
@@ -35,6 +36,15 @@ impl<'a> planus_views::UnionOf<'a> for EquipmentView<'a> {
         match member.tag() {
             1 => EquipmentView::Weapon(member.table::<Equipment, _>(1)),
             tag => EquipmentView::Unknown(tag),
+        }
+    }
+}
+
+impl planus_views::VerifyUnion for Equipment {
+    fn pass_member(tag: u8, at: planus::Place<'_>, depth: u8, left: usize) -> Option<usize> {
+        match tag {
+            1 => planus_views::member_passes::<Equipment, Weapon>(tag, 1, at, depth, left),
+            _ => Some(left),
         }
     }
 }

@@ -4,9 +4,12 @@ ghost use Rattle.planus_views.specs.Printed.{view_table};
 ghost use Rattle.monsters.specs.Verified.{verified_schema};
 ghost use Rattle.monsters.specs.Verified.{verified_whole};
 
+use crate::equipment::Equipment;
 use crate::monster::{Monster, MonsterRef};
 use crate::verified::equipment::EquipmentView;
 use crate::verified::weapon::WeaponView;
+use crate::weapon::Weapon;
+use planus::fields;
 use planus::table_reader::Table;
 
 impl planus_views::VerifiedKind for Monster {
@@ -38,6 +41,20 @@ impl<'a> planus_views::ViewOf<'a> for MonsterView<'a> {
 
     fn of_verified(read: Table<'a>) -> MonsterView<'a> {
         MonsterView(planus_views::View::new(read))
+    }
+}
+
+impl planus_views::Verify for Monster {
+    fn pass(table: Table<'_>, depth: u8, left: usize) -> Option<usize> {
+        let fields = planus_views::Entered::<Monster>::new(table, depth)?;
+        let left = fields.counted(left)?;
+        let left = fields.value(0, false, planus_views::ValueKind::Plain(2), left)?;
+        let left = fields.value(1, true, planus_views::ValueKind::Text, left)?;
+        let left = fields.value(2, false, planus_views::ValueKind::Bytes, left)?;
+        let left = fields.tables::<Weapon>(3, false, left)?;
+        let left = fields.union::<Equipment>(4, false, left)?;
+        let left = fields.unions::<Equipment>(6, false, left)?;
+        Some(left)
     }
 }
 

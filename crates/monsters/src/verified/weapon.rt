@@ -5,6 +5,7 @@ ghost use Rattle.monsters.specs.Verified.{verified_schema};
 ghost use Rattle.monsters.specs.Verified.{verified_whole};
 
 use crate::weapon::{Weapon, WeaponRef};
+use planus::fields;
 use planus::table_reader::Table;
 
 impl planus_views::VerifiedKind for Weapon {
@@ -36,6 +37,16 @@ impl<'a> planus_views::ViewOf<'a> for WeaponView<'a> {
 
     fn of_verified(read: Table<'a>) -> WeaponView<'a> {
         WeaponView(planus_views::View::new(read))
+    }
+}
+
+impl planus_views::Verify for Weapon {
+    fn pass(table: Table<'_>, depth: u8, left: usize) -> Option<usize> {
+        let fields = planus_views::Entered::<Weapon>::new(table, depth)?;
+        let left = fields.counted(left)?;
+        let left = fields.value(0, false, planus_views::ValueKind::Text, left)?;
+        let left = fields.value(1, false, planus_views::ValueKind::Plain(2), left)?;
+        Some(left)
     }
 }
 

@@ -24,16 +24,20 @@ fields_passed schema n t table (field ∷ fields) left rest (next, passed, more)
     fields)
     left next (Ok rest) passed (fields_passed schema n t table fields next rest more)
 
+-- a field, and those after it
+pub field : {P Q : ℕ → Type 0} (next : ℕ) → P next → Q next → (m : ℕ) × P m × Q m
+field next first more = (next, first, more)
+
 -- a table that was entered and counted, and all of whose fields pass
-pub table_passed :
-    (schema : Shapes) (t depth n : ℕ) (table entered : Table) (before left rest : ℕ)
-    → entered ≡ table → depth ≡ n + 1 → before ≡ left + 1
+pub table :
+    (schema : Shapes) (t depth n : ℕ) (given entered : Table) (before left rest : ℕ)
+    → entered ≡ given → depth ≡ n + 1 → before ≡ left + 1
     → FieldsPass schema n t entered (fields_of schema t) left rest
-    → TablePasses schema depth t table before (Some rest)
-table_passed schema t depth n table entered before left rest same deeper counted passed =
+    → TablePasses schema depth t given before (Some rest)
+table schema t depth n given entered before left rest same deeper counted passed =
     let one : suc n ≡ depth = omega (arith, deeper) in
     let more : suc left ≡ before = omega (arith, counted) in
-    subst (λ d. TablePasses schema d t table before (Some rest)) one
-    (subst (λ m. TablePasses schema (suc n) t table m (Some rest)) more
+    subst (λ d. TablePasses schema d t given before (Some rest)) one
+    (subst (λ m. TablePasses schema (suc n) t given m (Some rest)) more
     (subst (λ a. TablePasses schema (suc n) t a (suc left) (Some rest)) same
     (fields_passed schema n t entered (fields_of schema t) left rest passed)))
