@@ -1,5 +1,4 @@
 pub mod Included
-pub mod Inked
 pub mod Reported
 pub mod Nearby
 pub mod SpelledFiles

@@ -11,7 +11,7 @@ use Rattle.planus_commands.specs.declared.arguments.Command.{Command}
 use Rattle.planus_commands.specs.declared.arguments.Command.TheVariants.{Check, Format, View}
 use Rattle.planus_commands.specs.declared.arguments.Command.TheVariants.{Rattle as RattleCommand}
 use Rattle.planus_commands.specs.declared.arguments.Choice.{Choice}
-use Rattle.planus_commands.specs.declared.arguments.Choice.TheVariants.{Folder, Write, DropComments}
+use Rattle.planus_commands.specs.declared.arguments.Choice.TheVariants.{Folder, Write}
 use Rattle.planus_commands.specs.declared.arguments.Choice.TheVariants.{Root, SizePrefixed, Lines}
 use Rattle.planus_commands.specs.declared.arguments.Choice.TheVariants.{Bytes, Output}
 use Rattle.planus_commands.specs.declared.arguments.Choice.TheVariants.{Check as CheckChoice}
@@ -25,7 +25,6 @@ pub record WordsV : Type 0 where
   pub files : List (List ℕ)
   pub folders : List (List ℕ)
   pub write : Bool
-  pub drop_comments : Bool
   pub root : Option (List ℕ)
   pub size_prefixed : Bool
   pub lines : Option (List ℕ)
@@ -42,7 +41,6 @@ no_words = record {
   files = [];
   folders = [];
   write = false;
-  drop_comments = false;
   root = None;
   size_prefixed = false;
   lines = None;
@@ -60,7 +58,6 @@ words_of w = record {
   files = map (λ s. s.now) w.files.items;
   folders = map (λ s. s.now) w.folders.items;
   write = w.write;
-  drop_comments = w.drop_comments;
   root = option_map (λ s. s.now) w.root;
   size_prefixed = w.size_prefixed;
   lines = option_map (λ s. s.now) w.lines;
@@ -102,8 +99,7 @@ option_of command w = if is_help w then Some HelpChoice else option_in command
   where
     option_in : Command → Option Choice
     option_in Check = if bytes_eq w (codes "-I") then Some Folder else None
-    option_in Format = if bytes_eq w (codes "--write") then Some Write
-        else if bytes_eq w (codes "--drop-comments") then Some DropComments else None
+    option_in Format = if bytes_eq w (codes "--write") then Some Write else None
     option_in View = view_option w
     option_in RattleCommand = rattle_option w
 
@@ -142,7 +138,6 @@ with_choice ws Output = record ws { wants = Some Output }
 with_choice ws SizePrefixed = record ws { size_prefixed = true }
 with_choice ws CheckChoice = record ws { check = true }
 with_choice ws Write = record ws { write = true }
-with_choice ws DropComments = record ws { drop_comments = true }
 with_choice ws HelpChoice = record ws { help = true }
 
 -- the value of an option
@@ -153,7 +148,6 @@ with_value ws Lines w = record ws { lines = Some w }
 with_value ws Bytes w = record ws { bytes = Some w }
 with_value ws Output w = record ws { output = Some w }
 with_value ws Write w = ws
-with_value ws DropComments w = ws
 with_value ws SizePrefixed w = ws
 with_value ws CheckChoice w = ws
 with_value ws HelpChoice w = ws

@@ -1,16 +1,11 @@
 -- What becomes of the text of a schema.
-use Rattle.std.specs.Prelude.{◌≡◌, ℕ, Bool, true, false, not, List, [], ◌∷◌, ◌++◌, codes, count_by}
+use Rattle.std.specs.Prelude.{◌≡◌, ℕ, List, ◌++◌, codes}
 use Rattle.std.specs.Prelude.{Option, ◌-◌, length, Ok, ◌⊎◌}
 use Rattle.std.specs.Io.KnownBytes.{Appends, Keeps}
 use Rattle.planus_dump.specs.Writing.{WritesBeginning}
 use Rattle.planus_syntax.specs.declared.text.SchemaError.{SchemaError}
 use Rattle.planus_syntax.specs.declared.text.SchemaError.TheVariants as errors
-use Rattle.planus_syntax.specs.Tokens.{is_blank}
-use Rattle.planus_syntax.specs.Layout.{printed}
-use Rattle.planus_syntax.specs.Spelled.{Part, token, blank, comment, block, AreParts}
-use Rattle.planus_syntax.specs.Spelled.{spelled, tokens_in}
-use Rattle.planus_syntax.specs.Values.{SchemaV, text_of}
-use Rattle.planus_syntax.specs.Parsed.{IsFaultOf, Spells}
+use Rattle.planus_syntax.specs.Parsed.{HasCanonicalText, IsFaultOf, KeepsComments, Spells}
 use Rattle.planus_commands.specs.declared.streams.RunError.{RunError}
 use Rattle.planus_commands.specs.declared.streams.RunError.TheVariants.{OutOfMemory, Read, Write}
 use Rattle.planus_commands.specs.declared.streams.RunError.TheVariants.{BadSchema}
@@ -41,10 +36,10 @@ abbrev pub Reports : List ℕ → List ℕ → List ℕ → Type 0
 Reports name text report =
     (error : SchemaError) × IsFaultOf text error × ReportsError name text error report
 
--- The first spells a schema, whose canonical text is the second.
-abbrev pub Formats : List ℕ → List ℕ → Type 0
-Formats text out =
-    (schema : SchemaV) × Spells text schema × (out ≡ text_of schema)
+-- The first spells a schema, the second is its canonical text, which has the same comments.
+pub record Formats (text out : List ℕ) : Type 0 where
+  pub canonical : HasCanonicalText text out
+  pub kept : KeepsComments text out
 
 -- The text spells these declarations, before the documentation that it ends with. Each `left` counts
 -- the tokens from its word.
@@ -81,34 +76,14 @@ abbrev pub IsOutcome : List ℕ → List ℕ → Outcome → Type 0
 IsOutcome name text (Formatted out) = Formats text out.items
 IsOutcome name text (Faulty report) = Reports name text report.items
 
--- the outcome of a text that spells this schema
-abbrev pub IsTextOf : SchemaV → Outcome → Type 0
-IsTextOf schema (Formatted out) = out.items ≡ text_of schema
-IsTextOf schema (Faulty report) = ⊥
-
-abbrev pub is_ink : ℕ → Bool
-is_ink b = not (is_blank b)
-
--- the number of bytes that aren't blank
-abbrev pub ink_of : List ℕ → ℕ
-ink_of bytes = count_by is_ink bytes
-
--- a comment that isn't documentation
-abbrev pub has_comment : List Part → Bool
-has_comment [] = false
-has_comment (token p ∷ ps) = has_comment ps
-has_comment (blank b ∷ ps) = has_comment ps
-has_comment (comment w ∷ ps) = true
-has_comment (block w ∷ ps) = true
+-- the outcome of a text that has this canonical text
+abbrev pub IsFormatted : List ℕ → Outcome → Type 0
+IsFormatted bytes (Formatted out) = out.items ≡ bytes
+IsFormatted bytes (Faulty report) = ⊥
 
 -- the greatest length of a text, in bytes
 abbrev pub greatest_text : ℕ
 greatest_text = 16777216
-
--- whether a text has a comment, however it is spelled
-abbrev pub SaysComments : List ℕ → List ℕ → Bool → Type 0
-SaysComments text out comments = (parts : List Part) → AreParts parts → text ≡ spelled parts
-    → out ≡ printed (tokens_in parts) → comments ≡ has_comment parts
 
 -- a message about a file or a word of the call
 abbrev pub line_of : List ℕ → List ℕ → List ℕ → List ℕ
@@ -142,8 +117,7 @@ FailsPrinting name text Write before after unsaid said =
 -- The canonical text was written, or only a report of the first fault.
 abbrev pub Prints : List ℕ → List ℕ → Printed → Option (List ℕ) → Option (List ℕ)
     → Option (List ℕ) → Option (List ℕ) → Type 0
-Prints name text (Text comments) before after unsaid said =
-    ((out : List ℕ) × Formats text out × SaysComments text out comments
-    × Appends before after out) × Keeps unsaid said
+Prints name text Text before after unsaid said =
+    ((out : List ℕ) × Formats text out × Appends before after out) × Keeps unsaid said
 Prints name text Report before after unsaid said = Keeps before after
     × ((report : List ℕ) × Reports name text report × Appends unsaid said report)

@@ -12,19 +12,8 @@ pub enum Outcome {
 /// What was written of a text.
 #[derive(Clone, Copy)]
 pub enum Printed {
-    /// Its canonical text, and whether that lacks comments.
-    Text { comments: bool },
+    /// Its canonical text.
+    Text,
     /// The report of its first fault.
     Report,
-}
-
-/// What replaces a text.
-#[derive(Drop)]
-pub enum Rewritten {
-    /// Its canonical text.
-    By(Vec<u8>),
-    /// Nothing: comments would be lost.
-    LosesComments,
-    /// Nothing: the report of its first fault.
-    Faulty(Vec<u8>),
 }

@@ -26,7 +26,7 @@ const HELP: &str = "\
 planus reads schemas of flatbuffers, shows buffers by them, and prints their code.
 
 usage: planus check [-I FOLDER].. SCHEMA..
-       planus format [--write] [--drop-comments] SCHEMA..
+       planus format [--write] SCHEMA..
        planus view [OPTION].. SCHEMA BUFFER
        planus rattle [--check] [-I FOLDER].. SCHEMA -o FOLDER
        planus help [COMMAND], planus [COMMAND] --help, planus --version
@@ -48,13 +48,15 @@ Ends with 0 where nothing is wrong, with 1 where a schema has a fault, and with 
 where the call is wrong or a file can't be read.
 ";
 
-const USAGE_OF_FORMAT: &str = "usage: planus format [--write] [--drop-comments] SCHEMA..\n";
+const USAGE_OF_FORMAT: &str = "usage: planus format [--write] SCHEMA..\n";
 
 const DETAILS_OF_FORMAT: &str = "
-Prints the canonical text of each schema.
+Prints the canonical text of each schema, with its comments.
 
-  --write          replaces each file by its text
-  --drop-comments  does so where comments are lost, all but documentation
+  --write  replaces each file by its text
+
+Ends with 0 where nothing is wrong, with 1 where a schema has a fault, and with 2
+where the call is wrong or a file can't be read or written.
 ";
 
 const USAGE_OF_VIEW: &str = "usage: planus view [OPTION].. SCHEMA BUFFER\n";
@@ -159,7 +161,6 @@ fn option_hint(command: Command, word: &str) -> &'static str
     match (command, first_letter(word)) {
         (Command::Check | Command::View | Command::Rattle, Some(b'I')) => "did you mean `-I`?",
         (Command::Format, Some(b'w')) => "did you mean `--write`?",
-        (Command::Format, Some(b'd')) => "did you mean `--drop-comments`?",
         (Command::View, Some(b'r')) => "did you mean `--root`?",
         (Command::View, Some(b's')) => "did you mean `--size-prefixed`?",
         (Command::View, Some(b'l')) => "did you mean `--lines`?",

@@ -1,13 +1,11 @@
 //! What becomes of a text, and what is written of it.
 
-ghost use Rattle.std.specs.Prelude.{◌≡◌, count_by, List, IfOk, IfErr, length, Result, Ok, Err};
-ghost use Rattle.std.specs.Io.KnownBytes.{Appends, Keeps};
-ghost use Rattle.planus_syntax.specs.Values.{AreWhole, SchemaV};
-ghost use Rattle.planus_syntax.specs.Parsed.{LiesIn, Spells};
-ghost use Rattle.planus_commands.specs.Outcomes.{IsOutcome, IsTextOf, Reports, ReportsError};
+ghost use Rattle.std.specs.Prelude.{◌≡◌, List, IfOk, IfErr, length};
+ghost use Rattle.planus_syntax.specs.Values.{AreWhole, SchemaV, schema_pieces};
+ghost use Rattle.planus_syntax.specs.Comments.{canonical, elements_of};
+ghost use Rattle.planus_syntax.specs.Parsed.{LiesIn};
+ghost use Rattle.planus_commands.specs.Outcomes.{IsOutcome, IsFormatted, ReportsError};
 ghost use Rattle.planus_commands.specs.Outcomes.{Prints, FailsPrinting};
-ghost use Rattle.planus_commands.specs.Outcomes.{has_comment, ink_of, is_ink as is_ink_lem};
-ghost use Rattle.planus_syntax.specs.Layout.{printed};
 ghost use Rattle.planus_syntax.specs.Spelled.{Part, AreParts, spelled, tokens_in};
 
 use crate::message::{lex_message, parse_message};
@@ -47,41 +45,14 @@ pub(crate) fn error_report(
 pub fn outcome_of(alloc: Global, name: &str, text: &[u8]) -> Result<Outcome, AllocError>
     ensures outcome { IfOk result (λ outcome. IsOutcome name.now text.now outcome) }
     // A text that spells a schema is formatted.
-    ensures only { (schema : SchemaV) → AreWhole schema.declarations → Spells text.now schema
-        → IfOk result (λ outcome. IsTextOf schema outcome) }
+    ensures only { (schema : SchemaV) (parts : List Part) → AreWhole schema.declarations
+        → AreParts parts → text.now ≡ spelled parts → schema_pieces schema ≡ tokens_in parts
+        → IfOk result (λ outcome. IsFormatted (canonical (elements_of parts)) outcome) }
 {
     match format_text(alloc, text) {
         Ok(out) => Ok(Outcome::Formatted(out)),
         Err(error) => Ok(Outcome::Faulty(error_report(alloc, name, text, error)?)),
     }
-}
-
-fn is_ink(b: u8) -> bool
-    ensures { result ≡ is_ink_lem b }
-{
-    !(b == b' ' || b == b'\n' || b == b'\t' || b == b'\r')
-}
-
-fn ink(bytes: &[u8]) -> usize
-    ensures { result ≡ ink_of bytes.now }
-{
-    let mut n = 0;
-    let mut rest = bytes;
-    'bytes: while let Some((first, after)) = rest.split_first() {
-        if is_ink(*first) {
-            n += 1;
-        }
-        rest = after;
-    }
-    n
-}
-
-/// Returns whether a text has comments that `out`, its canonical text, lacks.
-pub fn has_comments(text: &[u8], out: &[u8]) -> bool
-    ensures { (parts : List Part) → AreParts parts → text.now ≡ spelled parts
-        → out.now ≡ printed (tokens_in parts) → result ≡ has_comment parts }
-{
-    ink(out) < ink(text)
 }
 
 /// Writes the canonical text, or reports the first fault. Returns what was written.
@@ -103,9 +74,8 @@ pub fn format<W: Write, X: Write>(
 {
     match outcome_of(alloc, name, text)? {
         Outcome::Formatted(out) => {
-            let comments = has_comments(text, &out);
             write_out(writer, &out)?;
-            Ok(Printed::Text { comments })
+            Ok(Printed::Text)
         }
         Outcome::Faulty(report) => {
             write_out(errors, &report)?;

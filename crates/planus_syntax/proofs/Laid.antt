@@ -7,17 +7,17 @@ use Rattle.std.specs.Str.{is_utf8}
 use Rattle.std.proofs.lemmas.Bool.{eqb-true}
 use Rattle.planus_syntax.specs.declared.layout.Place.{Place}
 use Rattle.planus_syntax.specs.Tokens.{Piece, word, number, text, doc, mark, begins, is_word_byte, is_number_start, is_number_byte, is_line_byte, is_blank, is_mark, is_lawful, bytes_of}
-use Rattle.planus_syntax.specs.Layout.{is_doc, is_mark_of, place_after, outside, is_tight, is_open, is_number_piece, is_glued, is_grouped, new_line, between_declarations, after_mark, spaced, apart, gap_before, laid_out, printed}
+use Rattle.planus_syntax.specs.Layout.{is_doc, is_mark_of, place_after, outside, is_tight, is_open, is_number_piece, is_glued, is_grouped, new_line, between_declarations, after_mark, spaced, apart, gap, gap_before, laid_out, printed}
 use Rattle.planus_syntax.specs.Strings.{start, is_quote, is_string, is_closed, string_step}
 use Rattle.planus_syntax.specs.Spelled.{Part, token, blank, goes_on, spelled, tokens_in, AreParts}
 use Rattle.planus_syntax.proofs.Marks.{one_of, never, neither, not_true}
 use Rattle.planus_syntax.proofs.Quotes.{of_quotes}
 
-blanks : List ℕ → List Part → List Part
+unfoldable pub blanks : List ℕ → List Part → List Part
 blanks [] ps = ps
 blanks (b ∷ bs) ps = blank b ∷ blanks bs ps
 
-blanks_spelled : (bs : List ℕ) (ps : List Part) → spelled (blanks bs ps) ≡ bs ++ spelled ps
+pub blanks_spelled : (bs : List ℕ) (ps : List Part) → spelled (blanks bs ps) ≡ bs ++ spelled ps
 unfolding blanks
 blanks_spelled [] ps = refl
 blanks_spelled (b ∷ bs) ps = ap (λ r. b ∷ r) (blanks_spelled bs ps)
@@ -31,21 +31,21 @@ both : (a b : Bool) → (a && b) ≡ true → (a ≡ true) × (b ≡ true)
 both true b h = (refl, h)
 both false b h = absurd cc
 
-blanks_are : (bs : List ℕ) (ps : List Part) → list_all is_blank bs ≡ true → AreParts ps → AreParts (blanks bs ps)
+pub blanks_are : (bs : List ℕ) (ps : List Part) → list_all is_blank bs ≡ true → AreParts ps → AreParts (blanks bs ps)
 unfolding blanks
 blanks_are [] ps h a = a
 blanks_are (b ∷ bs) ps h a =
     let k = both (is_blank b) (list_all is_blank bs) h in
     (k.0, never (spelled (blanks bs ps)), blanks_are bs ps k.1 a)
 
-abbrev IsBlank : List ℕ → Type 0
+abbrev pub IsBlank : List ℕ → Type 0
 IsBlank bs = list_all is_blank bs ≡ true
 
-either : (P : List ℕ → Type 0) (c : Bool) (x y : List ℕ) → P x → P y → P (cond c x y)
+pub either : (P : List ℕ → Type 0) (c : Bool) (x y : List ℕ) → P x → P y → P (cond c x y)
 either P true x y p q = p
 either P false x y p q = q
 
-line_blank : (p : Place) (q : Piece) → IsBlank (new_line p q)
+pub line_blank : (p : Place) (q : Piece) → IsBlank (new_line p q)
 line_blank p q = either IsBlank (p.braces && not (is_mark_of 125 q)) (codes "\n  ") (codes "\n") refl refl
 
 spaced_blank : (q : Piece) → IsBlank (spaced q)
@@ -67,11 +67,11 @@ apart_blank p (text w) q = spaced_blank q
 apart_blank p (doc w) q = line_blank p q
 apart_blank p (mark b) q = mark_blank p b q
 
-gap_blank : (p : Place) (a : Piece) (qs : List Piece) → IsBlank (gap_before p a qs)
+pub gap_blank : (p : Place) (a : Piece) (qs : List Piece) → IsBlank (gap_before p a qs)
 gap_blank p a [] = refl
 gap_blank p a (q ∷ qs) = either IsBlank (is_glued a q) [] (apart p a q) refl (apart_blank p a q)
 
-abbrev Stops : (ℕ → Bool) → List ℕ → Type 0
+abbrev pub Stops : (ℕ → Bool) → List ℕ → Type 0
 Stops p bs = begins p bs ≡ false
 
 word_tight : (b : ℕ) → is_tight b ≡ true → is_word_byte b ≡ false
@@ -157,21 +157,38 @@ mark_stops p b q rest =
     (either P (b == 59) _ _ (either P p.braces (new_line p q) (between_declarations q) line (either P (is_grouped q) (codes "\n") (codes "\n\n") refl refl))
     (either P (b == 123 || (b == 44 && not p.parentheses)) (new_line p q) (spaced q) line (either P (is_mark_of 125 q) (codes "\n") _ refl (either P (is_doc q) (codes "\n  ") (codes " ") refl refl))))
 
+-- what begins after a token's gap does not lengthen it
+pub one_stops : (place : Place) (a q : Piece) (rest : List ℕ) → is_lawful q ≡ true → Stops (goes_on (token a)) (gap place a q ++ (bytes_of q ++ rest))
+one_stops place (word w) q rest l =
+    gap_cases is_word_byte (is_glued (word w) q) (spaced q) (bytes_of q ++ rest) (word_glued w q rest) (spaced_stops is_word_byte q (bytes_of q ++ rest) refl refl)
+one_stops place (number w) q rest l =
+    gap_cases is_number_byte (is_glued (number w) q) (spaced q) (bytes_of q ++ rest) (number_glued w q rest) (spaced_stops is_number_byte q (bytes_of q ++ rest) refl refl)
+one_stops place (text w) q rest l = never (gap place (text w) q ++ (bytes_of q ++ rest))
+one_stops place (doc w) q rest l = line_stops place q (bytes_of q ++ rest)
+one_stops place (mark m) q rest l =
+    point_at m (m == 46) (gap place (mark m) q ++ (bytes_of q ++ rest)) refl (λ e.
+    gap_cases is_ascii_digit (is_glued (mark m) q) (apart place (mark m) q) (bytes_of q ++ rest)
+    (λ g. no_digit_first q rest l (glued_number m q e g)) (mark_stops place m q (bytes_of q ++ rest)))
+
+-- nor does a line feed
+pub feed_stops : (a : Piece) (rest : List ℕ) → Stops (goes_on (token a)) (10 ∷ rest)
+feed_stops (word w) rest = refl
+feed_stops (number w) rest = refl
+feed_stops (text w) rest = refl
+feed_stops (doc w) rest = refl
+feed_stops (mark m) rest = point_at m (m == 46) (10 ∷ rest) refl (λ e. refl)
+
+-- nor a space, but for documentation
+pub space_stops : (a : Piece) (rest : List ℕ) → is_doc a ≡ false → Stops (goes_on (token a)) (32 ∷ rest)
+space_stops (word w) rest h = refl
+space_stops (number w) rest h = refl
+space_stops (text w) rest h = refl
+space_stops (doc w) rest h = absurd cc
+space_stops (mark m) rest h = point_at m (m == 46) (32 ∷ rest) refl (λ e. refl)
+
 gap_stops : (place : Place) (a : Piece) (qs : List Piece) → AllByRecursion (λ q. is_lawful q ≡ true) qs → Stops (goes_on (token a)) (gap_before place a qs ++ laid_out place qs)
-gap_stops place (word w) [] l = refl
-gap_stops place (word w) (q ∷ qs) l =
-    gap_cases is_word_byte (is_glued (word w) q) (spaced q) (laid_out place (q ∷ qs)) (word_glued w q _) (spaced_stops is_word_byte q (laid_out place (q ∷ qs)) refl refl)
-gap_stops place (number w) [] l = refl
-gap_stops place (number w) (q ∷ qs) l =
-    gap_cases is_number_byte (is_glued (number w) q) (spaced q) (laid_out place (q ∷ qs)) (number_glued w q _) (spaced_stops is_number_byte q (laid_out place (q ∷ qs)) refl refl)
-gap_stops place (text w) qs l = never (gap_before place (text w) qs ++ laid_out place qs)
-gap_stops place (doc w) [] l = refl
-gap_stops place (doc w) (q ∷ qs) l = line_stops place q (laid_out place (q ∷ qs))
-gap_stops place (mark m) [] l = point_at m (m == 46) (10 ∷ []) refl (λ e. refl)
-gap_stops place (mark m) (q ∷ qs) l =
-    point_at m (m == 46) (gap_before place (mark m) (q ∷ qs) ++ laid_out place (q ∷ qs)) refl (λ e.
-    gap_cases is_ascii_digit (is_glued (mark m) q) (apart place (mark m) q) (laid_out place (q ∷ qs))
-    (λ g. no_digit_first q _ l.0 (glued_number m q e g)) (mark_stops place m q (laid_out place (q ∷ qs))))
+gap_stops place a [] l = feed_stops a []
+gap_stops place a (q ∷ qs) l = one_stops place a q _ l.0
 
 parts_of : Place → List Piece → List Part
 parts_of p [] = []

@@ -13,3 +13,8 @@ pub mod Placed
 pub mod Whole
 pub mod Steps
 pub mod Unique
+pub mod Trimmed
+pub mod Elements
+pub mod Woven
+pub mod Formatted
+pub mod Elemental

@@ -10,7 +10,7 @@ use Rattle.planus_syntax.specs.Spelled.{Part, token, blank, comment, block, part
 use Rattle.planus_syntax.specs.Placing.{TokenFirst, StandsAt}
 use Rattle.planus_syntax.specs.declared.lexer.LexFault.{LexFault}
 use Rattle.planus_syntax.specs.Strings.{start, is_quote, is_string, is_closed, string_step}
-use Rattle.planus_syntax.specs.Cutting.{string_end}
+use Rattle.planus_syntax.specs.Cutting.{Leads, string_end}
 use Rattle.planus_syntax.proofs.Quotes.{of_quotes, string_ends, cut_front}
 use Rattle.planus_syntax.proofs.Scanning.{both}
 use Rattle.planus_syntax.proofs.Marks.{one_of, not_true, no_digit}
@@ -164,6 +164,35 @@ one_spelling (x ∷ xs) (y ∷ ys) h k e =
     let head : x ≡ y = ap (λ (c : Cut). c.0) same in
     let tail : spelled xs ≡ spelled ys = ap (λ (c : Cut). c.1) same in
     ap (λ (z : Part). z ∷ xs) head ∙ ap (λ zs. y ∷ zs) (one_spelling xs ys h.2 k.2 tail)
+
+-- the part that leads a text is the first of its parts
+pub next_part : (p : Part) (rest after : List ℕ) (left : List Part) → Leads rest p after → AreParts left → rest ≡ spelled left
+    → (more : List Part) × (left ≡ p ∷ more) × AreParts more × (after ≡ spelled more)
+next_part p rest after [] l a f = absurd (none_first p after l.lawful l.stops (sym f ∙ l.whole))
+next_part p rest after (y ∷ ys) l a f =
+    let same : (y, spelled ys) ≡ (p, after) = sym (part_first y (spelled ys) a.0 a.1) ∙ ap first_part (sym f ∙ l.whole) ∙ part_first p after l.lawful l.stops in
+    (ys, ap (λ (c : Cut). c.0 ∷ ys) same, a.2, sym (ap (λ (c : Cut). c.1) same))
+
+-- nothing has no parts
+pub none_left : (left : List Part) → AreParts left → [] ≡ spelled left → left ≡ []
+none_left [] a e = refl
+none_left (y ∷ ys) a e = absurd (none_first y (spelled ys) a.0 a.1 e)
+
+two_kinds : (p : Piece) (b : ℕ) → token p ≡ blank b → ⊥
+two_kinds p b e = cc
+
+no_blank_at : (p : Piece) (b : ℕ) (v : Bool) (rest bs : List ℕ) → is_blank b ≡ v → is_part (token p) ≡ true → begins (goes_on (token p)) rest ≡ false → b ∷ bs ≡ part_bytes (token p) ++ rest → is_blank b ≡ false
+no_blank_at p b true rest bs v h s e =
+    let same : (token p, rest) ≡ (blank b, bs) = sym (part_first (token p) rest h s) ∙ ap first_part (sym e) ∙ blank_first b bs v in
+    absurd (two_kinds p b (ap (λ (c : Cut). c.0) same))
+no_blank_at p b false rest bs v h s e = v
+
+-- a token begins with no blank
+pub no_blank : (p : Piece) (b : ℕ) (rest bs : List ℕ) → is_part (token p) ≡ true → begins (goes_on (token p)) rest ≡ false → b ∷ bs ≡ part_bytes (token p) ++ rest → is_blank b ≡ false
+no_blank p b rest bs h s e = no_blank_at p b (is_blank b) rest bs refl h s e
+
+pub no_empty : (p : Piece) (rest : List ℕ) → is_part (token p) ≡ true → begins (goes_on (token p)) rest ≡ false → [] ≡ part_bytes (token p) ++ rest → ⊥
+no_empty p rest h s e = none_first (token p) rest h s e
 
 abbrev heads : Part → List Part → Part
 heads d [] = d

@@ -6,6 +6,8 @@ pub mod Spelled
 pub mod Lexing
 pub mod Cutting
 pub mod Placing
+pub mod Comments
+pub mod Elements
 pub mod Reading
 pub mod Counting
 pub mod Parsed

@@ -2,13 +2,13 @@
 use Rattle.std.specs.Prelude.{◌≡◌, ℕ, ◌-◌, ◌+◌, ◌≤◌, List, [], length, Result, Ok, Err}
 use Rattle.std.specs.Global.{Vec}
 use Rattle.planus_syntax.specs.declared.value.Schema.{Schema}
-use Rattle.planus_syntax.specs.declared.token.Token.{Token}
 use Rattle.planus_syntax.specs.declared.parse.ParseError.{ParseError}
 use Rattle.planus_syntax.specs.declared.parse.ParseError.TheVariants as errors
 use Rattle.planus_syntax.specs.declared.text.SchemaError.{SchemaError}
 use Rattle.planus_syntax.specs.declared.text.SchemaError.TheVariants as whole
 use Rattle.planus_syntax.specs.Tokens.{Piece}
-use Rattle.planus_syntax.specs.Values.{SchemaV, schema_of, schema_pieces, text_of}
+use Rattle.planus_syntax.specs.Values.{SchemaV, AreWhole, schema_of, schema_pieces}
+use Rattle.planus_syntax.specs.Comments.{canonical, comments_in, elements_of}
 use Rattle.planus_syntax.specs.Spelled.{Part, AreParts, spelled, tokens_in}
 use Rattle.planus_syntax.specs.Reading.{Reads, schema_at}
 use Rattle.planus_syntax.specs.Lexing.{lex_of}
@@ -40,13 +40,32 @@ abbrev pub TextParsesTo : SchemaV → Result Schema SchemaError → Type 0
 TextParsesTo schema (Ok s) = schema_of s ≡ schema
 TextParsesTo schema (Err e) = IsRefusal e
 
-abbrev pub TextFormatsTo : SchemaV → Result (Vec ℕ) SchemaError → Type 0
-TextFormatsTo schema (Ok out) = out.items ≡ text_of schema
-TextFormatsTo schema (Err e) = IsRefusal e
+-- The text spells a schema, and the other one is its canonical text, with its comments.
+pub record HasCanonicalText (text out : List ℕ) : Type 0 where
+  pub schema : SchemaV
+  pub whole : AreWhole schema.declarations
+  pub parts : List Part
+  pub are : AreParts parts
+  pub spells : text ≡ spelled parts
+  pub tokens : schema_pieces schema ≡ tokens_in parts
+  pub canonical : out ≡ canonical (elements_of parts)
 
-abbrev pub TextReadsTo : SchemaV → Result (Vec Token × Schema) SchemaError → Type 0
-TextReadsTo schema (Ok x) = schema_of x.1 ≡ schema
-TextReadsTo schema (Err e) = IsRefusal e
+-- Both texts spell one schema, and have the same comments, each once, in order.
+pub record KeepsComments (text out : List ℕ) : Type 0 where
+  pub schema : SchemaV
+  pub parts : List Part
+  pub again : List Part
+  pub are : AreParts parts
+  pub are_again : AreParts again
+  pub spells : text ≡ spelled parts
+  pub spells_again : out ≡ spelled again
+  pub tokens : schema_pieces schema ≡ tokens_in parts
+  pub tokens_again : schema_pieces schema ≡ tokens_in again
+  pub comments : comments_in again ≡ comments_in parts
+
+abbrev pub TextFormatsTo : List ℕ → Result (Vec ℕ) SchemaError → Type 0
+TextFormatsTo bytes (Ok out) = out.items ≡ bytes
+TextFormatsTo bytes (Err e) = IsRefusal e
 
 -- The tokens of the text, or of its declarations, have this error at this place.
 abbrev pub IsFaultOf : List ℕ → SchemaError → Type 0

@@ -10,6 +10,7 @@ ghost use Rattle.planus_syntax.specs.Values.{schema_pieces, text_of};
 ghost use Rattle.planus_syntax.specs.Reading.{schema_at};
 ghost use Rattle.planus_syntax.specs.Placing.{StandsAt};
 ghost use Rattle.planus_syntax.specs.Spelled.{Part, AreParts, spelled, tokens_in};
+ghost use Rattle.planus_syntax.specs.Comments.{canonical, comments_in, elements_of};
 
 /// The canonical layout of tokens is a spelling of them.
 pub fn layout_spells()
@@ -47,4 +48,18 @@ pub fn spelling_found()
 pub fn one_place()
     ensures { (bytes : List ℕ) (pieces : List Piece) (index a b : ℕ)
         → StandsAt bytes pieces index a → StandsAt bytes pieces index b → a ≡ b }
+{}
+
+/// The canonical text of a text has the elements of the text: its tokens, and each comment once, in
+/// order, at the beginning of its line or not.
+pub fn canonical_again()
+    ensures { (parts : List Part) → AreParts parts
+        → (again : List Part) × AreParts again × (canonical (elements_of parts) ≡ spelled again)
+        × (elements_of again ≡ elements_of parts) }
+{}
+
+/// The canonical text of a text without comments is the canonical layout of its tokens.
+pub fn no_comments()
+    ensures { (parts : List Part) → comments_in parts ≡ []
+        → canonical (elements_of parts) ≡ printed (tokens_in parts) }
 {}

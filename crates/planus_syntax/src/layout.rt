@@ -1,7 +1,8 @@
-//! Tokens to text.
+//! Tokens and comments to text.
 
-ghost use Rattle.std.specs.Prelude.{◌≡◌, ◌++◌, IfOk, OnOk};
-ghost use Rattle.planus_syntax.specs.Tokens.{bytes_of, piece_of, pieces_of, word as word_piece};
+ghost use Rattle.std.specs.Prelude.{◌≡◌, ◌++◌, ◌∷◌, List, map, IfOk, OnOk};
+ghost use Rattle.planus_syntax.specs.Tokens.{bytes_of, word as word_piece};
+ghost use Rattle.planus_syntax.specs.Cutting.{cut_piece};
 ghost use Rattle.planus_syntax.specs.Layout.{is_mark_of, place_after as place_after_lem, outside};
 ghost use Rattle.planus_syntax.specs.Layout.{is_tight as is_tight_lem, is_open as is_open_lem};
 ghost use Rattle.planus_syntax.specs.Layout.{is_tight_piece, is_number_piece, is_glued as is_glued_lem};
@@ -9,10 +10,21 @@ ghost use Rattle.planus_syntax.specs.Layout.{is_grouped as is_grouped_lem, is_do
 ghost use Rattle.planus_syntax.specs.Layout.{new_line as new_line_lem, apart as apart_lem};
 ghost use Rattle.planus_syntax.specs.Layout.{between_declarations as between_declarations_lem};
 ghost use Rattle.planus_syntax.specs.Layout.{after_mark as after_mark_lem, spaced as spaced_lem};
-ghost use Rattle.planus_syntax.specs.Layout.{gap as gap_lem, gap_before as gap_before_lem};
-ghost use Rattle.planus_syntax.specs.Layout.{printed};
+ghost use Rattle.planus_syntax.specs.Layout.{gap as gap_lem};
+ghost use Rattle.std.specs.Option.{option_map};
+ghost use Rattle.planus_syntax.specs.Spelled.{Part, AreParts, spelled};
+ghost use Rattle.planus_syntax.specs.Comments.{canonical, canonical_after_feed, elements_of};
+ghost use Rattle.planus_syntax.specs.Comments.{is_empty_line as is_empty_line_lem, next_piece};
+ghost use Rattle.planus_syntax.specs.Comments.{breaks as breaks_lem, before_comment, empty_line};
+ghost use Rattle.planus_syntax.specs.Comments.{after_line as after_line_lem};
+ghost use Rattle.planus_syntax.specs.Comments.{after_block as after_block_lem};
+ghost use Rattle.planus_syntax.specs.Comments.{gap_to, line_to, empty_to};
+ghost use Rattle.planus_syntax.specs.Comments.{Element as ElementV, line_comment, block_comment};
+ghost use Rattle.planus_syntax.specs.Elements.{element_of, woven_from};
 
-use crate::token::Token;
+use crate::comments::elements;
+use crate::element::Element;
+use crate::token::Lexeme;
 use std::alloc::{AllocError, Global};
 
 #[derive(Clone, Copy)]
@@ -21,22 +33,22 @@ pub(crate) struct Place {
     pub parentheses: bool,
 }
 
-fn is_mark(token: &Token, mark: u8) -> bool
-    ensures { result ≡ is_mark_of mark (piece_of token.now) }
+fn is_mark(token: Lexeme<'_>, mark: u8) -> bool
+    ensures { result ≡ is_mark_of mark (cut_piece token.entry) }
 {
     match token {
-        Token::Mark(byte) => *byte == mark,
+        Lexeme::Mark(byte) => byte == mark,
         _ => false,
     }
 }
 
-fn place_after(place: Place, token: &Token) -> Place
-    ensures { result ≡ place_after_lem place (piece_of token.now) }
+fn place_after(place: Place, token: Lexeme<'_>) -> Place
+    ensures { result ≡ place_after_lem place (cut_piece token.entry) }
 {
-    let Token::Mark(byte) = token else {
+    let Lexeme::Mark(byte) = token else {
         return place;
     };
-    match *byte {
+    match byte {
         b'{' => Place {
             braces: true,
             parentheses: false,
@@ -69,42 +81,42 @@ fn is_open(b: u8) -> bool
     b"([.".contains(&b)
 }
 
-fn is_tight(token: &Token) -> bool
-    ensures { result ≡ is_tight_piece (piece_of token.now) }
+fn is_tight(token: Lexeme<'_>) -> bool
+    ensures { result ≡ is_tight_piece (cut_piece token.entry) }
 {
     match token {
-        Token::Mark(byte) => is_tight_mark(*byte),
+        Lexeme::Mark(byte) => is_tight_mark(byte),
         _ => false,
     }
 }
 
-fn is_number(token: &Token) -> bool
-    ensures { result ≡ is_number_piece (piece_of token.now) }
+fn is_number(token: Lexeme<'_>) -> bool
+    ensures { result ≡ is_number_piece (cut_piece token.entry) }
 {
     match token {
-        Token::Number(_) => true,
+        Lexeme::Number(_) => true,
         _ => false,
     }
 }
 
-fn is_doc(token: &Token) -> bool
-    ensures { result ≡ is_doc_lem (piece_of token.now) }
+fn is_doc(token: Lexeme<'_>) -> bool
+    ensures { result ≡ is_doc_lem (cut_piece token.entry) }
 {
     match token {
-        Token::Doc(_) => true,
+        Lexeme::Doc(_) => true,
         _ => false,
     }
 }
 
-fn is_glued(first: &Token, second: &Token) -> bool
-    ensures { result ≡ is_glued_lem (piece_of first.now) (piece_of second.now) }
+fn is_glued(first: Lexeme<'_>, second: Lexeme<'_>) -> bool
+    ensures { result ≡ is_glued_lem (cut_piece first.entry) (cut_piece second.entry) }
 {
     match first {
-        Token::Word(_) => is_tight(second) || is_mark(second, b'.'),
-        Token::Number(_) | Token::Text(_) => is_tight(second),
-        Token::Doc(_) => false,
-        Token::Mark(byte) => {
-            (is_open(*byte) && !(*byte == b'.' && is_number(second))) || is_tight(second)
+        Lexeme::Word(_) => is_tight(second) || is_mark(second, b'.'),
+        Lexeme::Number(_) | Lexeme::Text(_) => is_tight(second),
+        Lexeme::Doc(_) => false,
+        Lexeme::Mark(byte) => {
+            (is_open(byte) && !(byte == b'.' && is_number(second))) || is_tight(second)
         }
     }
 }
@@ -119,17 +131,17 @@ fn is_grouped_word(word: &[u8]) -> bool
         || word == b"file_extension".as_slice()
 }
 
-fn is_grouped(token: &Token) -> bool
-    ensures { result ≡ is_grouped_lem (piece_of token.now) }
+fn is_grouped(token: Lexeme<'_>) -> bool
+    ensures { result ≡ is_grouped_lem (cut_piece token.entry) }
 {
     match token {
-        Token::Word(word) => is_grouped_word(word),
+        Lexeme::Word(word) => is_grouped_word(word),
         _ => false,
     }
 }
 
-fn new_line(place: Place, next: &Token) -> &'static [u8]
-    ensures { result.now ≡ new_line_lem place (piece_of next.now) }
+fn new_line(place: Place, next: Lexeme<'_>) -> &'static [u8]
+    ensures { result.now ≡ new_line_lem place (cut_piece next.entry) }
 {
     if place.braces && !is_mark(next, b'}') {
         b"\n  "
@@ -138,14 +150,14 @@ fn new_line(place: Place, next: &Token) -> &'static [u8]
     }
 }
 
-fn between_declarations(next: &Token) -> &'static [u8]
-    ensures { result.now ≡ between_declarations_lem (piece_of next.now) }
+fn between_declarations(next: Lexeme<'_>) -> &'static [u8]
+    ensures { result.now ≡ between_declarations_lem (cut_piece next.entry) }
 {
     if is_grouped(next) { b"\n" } else { b"\n\n" }
 }
 
-fn spaced(next: &Token) -> &'static [u8]
-    ensures { result.now ≡ spaced_lem (piece_of next.now) }
+fn spaced(next: Lexeme<'_>) -> &'static [u8]
+    ensures { result.now ≡ spaced_lem (cut_piece next.entry) }
 {
     if is_mark(next, b'}') {
         b"\n"
@@ -156,8 +168,8 @@ fn spaced(next: &Token) -> &'static [u8]
     }
 }
 
-fn after_mark(place: Place, mark: u8, next: &Token) -> &'static [u8]
-    ensures { result.now ≡ after_mark_lem place mark (piece_of next.now) }
+fn after_mark(place: Place, mark: u8, next: Lexeme<'_>) -> &'static [u8]
+    ensures { result.now ≡ after_mark_lem place mark (cut_piece next.entry) }
 {
     if mark == b'}' {
         b"\n\n"
@@ -174,63 +186,271 @@ fn after_mark(place: Place, mark: u8, next: &Token) -> &'static [u8]
     }
 }
 
-fn apart(place: Place, first: &Token, next: &Token) -> &'static [u8]
-    ensures { result.now ≡ apart_lem place (piece_of first.now) (piece_of next.now) }
+fn apart(place: Place, first: Lexeme<'_>, next: Lexeme<'_>) -> &'static [u8]
+    ensures { result.now ≡ apart_lem place (cut_piece first.entry) (cut_piece next.entry) }
 {
     match first {
-        Token::Doc(_) => new_line(place, next),
-        Token::Mark(byte) => after_mark(place, *byte, next),
+        Lexeme::Doc(_) => new_line(place, next),
+        Lexeme::Mark(byte) => after_mark(place, byte, next),
         _ => spaced(next),
     }
 }
 
-fn gap_before(place: Place, token: &Token, rest: &[Token]) -> &'static [u8]
-    ensures { result.now ≡ gap_before_lem place (piece_of token.now) (pieces_of rest.now) }
+/// Returns what is between a token and the next, where no comment is between them.
+fn gap(place: Place, token: Lexeme<'_>, next: Lexeme<'_>) -> &'static [u8]
+    ensures { result.now ≡ gap_lem place (cut_piece token.entry) (cut_piece next.entry) }
 {
-    match rest.split_first() {
-        None => b"\n",
-        Some((next, _)) => {
-            if is_glued(token, next) {
-                &[]
-            } else {
-                apart(place, token, next)
+    if is_glued(token, next) {
+        b""
+    } else {
+        apart(place, token, next)
+    }
+}
+
+fn is_empty_line(gap: &[u8]) -> bool
+    ensures { result ≡ is_empty_line_lem gap.now }
+{
+    gap == b"\n\n".as_slice()
+}
+
+fn breaks(gap: &[u8]) -> bool
+    ensures { result ≡ breaks_lem gap.now }
+{
+    match gap.split_first() {
+        Some((first, _)) => *first == b'\n',
+        None => false,
+    }
+}
+
+/// What comes before the next token or comment.
+#[derive(Clone, Copy)]
+pub(crate) struct Before {
+    pub place: Place,
+    /// Before a token, or at the end.
+    pub gap: &'static [u8],
+    /// A new line for that token.
+    pub line: &'static [u8],
+    /// Whether an empty line is before a comment that begins its line.
+    pub empty: bool,
+}
+
+/// Returns the next token.
+fn next_token<'a>(elements: &[Element<'a>]) -> Option<Lexeme<'a>>
+    ensures { option_map cut_piece result ≡ next_piece (map element_of elements.now) }
+{
+    'elements: for element in elements {
+        if let Element::Token(token) = *element {
+            return Some(token);
+        }
+    }
+    None
+}
+
+/// Returns what comes after a token, before this token.
+fn after_token(place: Place, token: Lexeme<'_>, next: Option<Lexeme<'_>>) -> Before
+    ensures place { result.place ≡ place }
+    ensures gap { result.gap.now
+        ≡ gap_to place (cut_piece token.entry) (option_map cut_piece next.entry) }
+    ensures line { result.line.now ≡ line_to place (option_map cut_piece next.entry) }
+    ensures empty { result.empty
+        ≡ empty_to place (cut_piece token.entry) (option_map cut_piece next.entry) }
+{
+    match next {
+        None => Before {
+            place,
+            gap: b"\n",
+            line: b"\n",
+            empty: is_empty_line(gap(place, token, Lexeme::Doc(b""))),
+        },
+        Some(next) => {
+            let gap = gap(place, token, next);
+            Before {
+                place,
+                gap,
+                line: new_line(place, next),
+                empty: is_empty_line(gap),
             }
         }
     }
 }
 
-fn put_token(out: &mut Vec<u8>, token: &Token) -> Result<(), AllocError>
-    ensures { OnOk result (out.new.items ≡ out.old.items ++ bytes_of (piece_of token.now)) }
+fn put_token(out: &mut Vec<u8>, token: Lexeme<'_>) -> Result<(), AllocError>
+    ensures { OnOk result (out.new.items ≡ out.old.items ++ bytes_of (cut_piece token.entry)) }
 {
     match token {
-        Token::Word(bytes) | Token::Number(bytes) | Token::Text(bytes) => {
+        Lexeme::Word(bytes) | Lexeme::Number(bytes) | Lexeme::Text(bytes) => {
             out.extend_from_slice(bytes)
         }
-        Token::Doc(bytes) => {
+        Lexeme::Doc(bytes) => {
             out.extend_from_slice(b"///")?;
             out.extend_from_slice(bytes)
         }
-        Token::Mark(byte) => {
-            out.push(*byte)?;
+        Lexeme::Mark(byte) => {
+            out.push(byte)?;
             Ok(())
         }
     }
 }
 
-pub(crate) fn print_tokens(alloc: Global, tokens: &[Token]) -> Result<Vec<u8>, AllocError>
-    ensures { IfOk result (λ out. out.items ≡ printed (pieces_of tokens.now)) }
+/// Writes what is before a comment.
+fn put_before(out: &mut Vec<u8>, before: Before, starts: bool) -> Result<(), AllocError>
+    ensures { OnOk result (out.new.items
+        ≡ out.old.items ++ before_comment starts before.place before.empty) }
+{
+    if !starts {
+        return out.extend_from_slice(b" ");
+    }
+    if before.empty {
+        out.push(b'\n')?;
+    }
+    if before.place.braces {
+        out.extend_from_slice(b"\n  ")
+    } else {
+        out.extend_from_slice(b"\n")
+    }
+}
+
+/// Writes the empty line that is after a comment.
+fn put_empty(out: &mut Vec<u8>, apart: bool) -> Result<(), AllocError>
+    ensures { OnOk result (out.new.items ≡ out.old.items ++ empty_line apart) }
+{
+    if apart {
+        out.push(b'\n')?;
+    }
+    Ok(())
+}
+
+fn after_line(starts: bool, before: Before) -> &'static [u8]
+    ensures { result.now ≡ after_line_lem starts before.gap.now before.line.now }
+{
+    if !starts && breaks(before.gap) {
+        before.gap
+    } else {
+        before.line
+    }
+}
+
+fn after_block(starts: bool, before: Before) -> &'static [u8]
+    ensures { result.now ≡ after_block_lem starts before.gap.now before.line.now }
+{
+    if starts {
+        before.line
+    } else if breaks(before.gap) {
+        before.gap
+    } else {
+        b" "
+    }
+}
+
+/// Writes a comment to the end of its line. Returns what comes after it.
+fn put_line(
+    out: &mut Vec<u8>,
+    before: Before,
+    starts: bool,
+    apart: bool,
+    text: &[u8],
+) -> Result<Before, AllocError>
+    ensures { IfOk result (λ next. (es : List ElementV) → out.new.items ++ woven_from next es
+        ≡ out.old.items ++ woven_from before (line_comment starts apart text.now ∷ es)) }
+{
+    put_before(out, before, starts)?;
+    out.extend_from_slice(b"//")?;
+    out.extend_from_slice(text)?;
+    put_empty(out, apart)?;
+    Ok(Before {
+        place: before.place,
+        gap: after_line(starts, before),
+        line: before.line,
+        empty: !starts && before.empty,
+    })
+}
+
+/// Writes a comment to `*/`. Returns what comes after it.
+fn put_block(
+    out: &mut Vec<u8>,
+    before: Before,
+    starts: bool,
+    apart: bool,
+    text: &[u8],
+) -> Result<Before, AllocError>
+    ensures { IfOk result (λ next. (es : List ElementV) → out.new.items ++ woven_from next es
+        ≡ out.old.items ++ woven_from before (block_comment starts apart text.now ∷ es)) }
+{
+    put_before(out, before, starts)?;
+    out.extend_from_slice(b"/*")?;
+    out.extend_from_slice(text)?;
+    out.extend_from_slice(b"*/")?;
+    put_empty(out, apart)?;
+    Ok(Before {
+        place: before.place,
+        gap: after_block(starts, before),
+        line: before.line,
+        empty: !starts && before.empty,
+    })
+}
+
+/// Writes a token or a comment, before these. Returns what comes after it.
+fn put_element(
+    out: &mut Vec<u8>,
+    before: Before,
+    element: Element<'_>,
+    rest: &[Element<'_>],
+) -> Result<Before, AllocError>
+    ensures { IfOk result (λ next. out.new.items ++ woven_from next (map element_of rest.now)
+        ≡ out.old.items
+        ++ woven_from before (element_of element.entry ∷ map element_of rest.now)) }
+{
+    match element {
+        Element::Token(token) => {
+            out.extend_from_slice(before.gap)?;
+            put_token(out, token)?;
+            let place = place_after(before.place, token);
+            Ok(after_token(place, token, next_token(rest)))
+        }
+        Element::Line {
+            starts,
+            apart,
+            text,
+        } => put_line(out, before, starts, apart, text),
+        Element::Block {
+            starts,
+            apart,
+            text,
+        } => put_block(out, before, starts, apart, text),
+    }
+}
+
+/// Writes tokens and comments, as after a line feed.
+fn put_elements(alloc: Global, elements: &[Element<'_>]) -> Result<Vec<u8>, AllocError>
+    ensures { IfOk result (λ out. out.items ≡ canonical_after_feed (map element_of elements.now)) }
 {
     let mut out = Vec::new(alloc);
-    let mut place = Place {
-        braces: false,
-        parentheses: false,
+    let mut before = Before {
+        place: Place {
+            braces: false,
+            parentheses: false,
+        },
+        gap: b"\n",
+        line: b"\n",
+        empty: false,
     };
-    let mut rest = tokens;
-    'tokens: while let Some((token, after)) = rest.split_first() {
-        put_token(&mut out, token)?;
-        place = place_after(place, token);
-        out.extend_from_slice(gap_before(place, token, after))?;
-        rest = after;
+    'elements: for (index, element) in elements.iter().enumerate() {
+        let (_, after) = elements.split_at(index + 1);
+        before = put_element(&mut out, before, *element, after)?;
+    }
+    out.extend_from_slice(before.gap)?;
+    Ok(out)
+}
+
+/// Returns the canonical text of a text whose tokens can be read, with its comments.
+pub(crate) fn canonical_text(alloc: Global, text: &[u8]) -> Result<Vec<u8>, AllocError>
+    ensures { IfOk result (λ out. (parts : List Part) → AreParts parts → text.now ≡ spelled parts
+        → out.items ≡ canonical (elements_of parts)) }
+{
+    let elements = elements(alloc, text)?;
+    let mut out = put_elements(alloc, &elements)?;
+    if !out.is_empty() {
+        let _feed = out.remove(0);
     }
     Ok(out)
 }

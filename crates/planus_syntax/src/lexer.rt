@@ -107,7 +107,7 @@ fn is_number_byte(b: u8) -> bool
     is_word_byte(b) || b == b'.' || b == b'+' || b == b'-'
 }
 
-fn is_blank(b: u8) -> bool
+pub(crate) fn is_blank(b: u8) -> bool
     ensures { result ≡ is_blank_lem b }
 {
     b == b' ' || b == b'\n' || b == b'\t' || b == b'\r'
@@ -142,7 +142,7 @@ fn split(run: Run, bytes: &[u8]) -> (&[u8], &[u8])
     (bytes, &[])
 }
 
-fn after(bytes: &[u8], byte: u8) -> Option<&[u8]>
+pub(crate) fn after(bytes: &[u8], byte: u8) -> Option<&[u8]>
     ensures { MatchOption result (begins (λ b. b == byte) bytes.now ≡ false)
         (λ rest. bytes.now ≡ byte ∷ rest.now) }
 {
@@ -154,7 +154,7 @@ fn after(bytes: &[u8], byte: u8) -> Option<&[u8]>
 
 /// `left` counts the bytes from the error's place to the text's end.
 #[derive(Clone, Copy)]
-struct Stop {
+pub(crate) struct Stop {
     fault: LexFault,
     left: usize,
 }
@@ -329,7 +329,7 @@ fn comment_at(bytes: &[u8]) -> Result<(Option<Lexeme>, &[u8]), Stop>
     }
 }
 
-fn token_at(bytes: &[u8]) -> Result<(Option<Lexeme>, &[u8]), Stop>
+pub(crate) fn token_at(bytes: &[u8]) -> Result<(Option<Lexeme>, &[u8]), Stop>
     requires { 0 < length bytes.now }
     ensures cuts { Cuts bytes.now result }
     ensures starts { IfOk result (λ x. Starts bytes.now x.0 x.1.now) }

@@ -3,7 +3,9 @@
 //! texts spell which schema.
 #![tactic(auto)]
 
+mod comments;
 mod due;
+mod element;
 mod laws;
 mod layout;
 mod lexer;
@@ -18,7 +20,8 @@ mod token;
 mod value;
 
 pub use laws::{
-    declarations_again, layout_spells, one_place, one_schema, spelling_found, spelling_read,
+    canonical_again, declarations_again, layout_spells, no_comments, one_place, one_schema,
+    spelling_found, spelling_read,
 };
 pub use lexer::LexFault;
 pub use number::{is_float_name, is_number};

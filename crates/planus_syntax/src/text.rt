@@ -1,7 +1,7 @@
 //! A text to declarations, and to its canonical text.
 
-ghost use Rattle.std.specs.Prelude.{◌≡◌, ◌≤◌, ◌-◌, List, length, IfOk, IfErr, Ok};
-ghost use Rattle.planus_syntax.specs.Tokens.{Piece, pieces_of};
+ghost use Rattle.std.specs.Prelude.{◌≡◌, ◌≤◌, ◌-◌, ℕ, List, length, IfOk, IfErr, Ok};
+ghost use Rattle.planus_syntax.specs.Tokens.{Piece};
 ghost use Rattle.planus_syntax.specs.Placing.{StandsAt};
 ghost use Rattle.planus_syntax.specs.Lexing.{lex_of};
 ghost use Rattle.planus_syntax.specs.declared.text.SchemaError.TheVariants.{OutOfMemory};
@@ -10,13 +10,15 @@ ghost use Rattle.planus_syntax.specs.Values.{schema_pieces, text_of};
 ghost use Rattle.planus_syntax.specs.Spelled.{after_order_mark as after_order_mark_lem};
 ghost use Rattle.planus_syntax.specs.Counting.{SchemaCounted};
 ghost use Rattle.planus_syntax.specs.Parsed.{IsFaultOf, LiesIn, Spells};
-ghost use Rattle.planus_syntax.specs.Parsed.{TextFormatsTo, TextParsesTo, TextReadsTo};
+ghost use Rattle.planus_syntax.specs.Parsed.{HasCanonicalText, KeepsComments};
+ghost use Rattle.planus_syntax.specs.Parsed.{TextFormatsTo, TextParsesTo};
+ghost use Rattle.planus_syntax.specs.Spelled.{Part, AreParts, spelled, tokens_in};
+ghost use Rattle.planus_syntax.specs.Comments.{canonical, elements_of};
 
-use crate::layout::print_tokens;
+use crate::layout::canonical_text;
 use crate::lexer::{LexError, LexFault, lex, place_of};
 use crate::parse::{ParseError, parse};
 use crate::parse_fault::ParseFault;
-use crate::token::Token;
 use crate::value::Schema;
 use std::alloc::{AllocError, Global};
 
@@ -49,20 +51,18 @@ pub fn after_order_mark(text: &[u8]) -> &[u8]
     }
 }
 
-fn read(alloc: Global, text: &[u8]) -> Result<(Vec<Token>, Schema), SchemaError>
-    ensures found { IfOk result (λ x. lex_of text.now ≡ Ok (schema_pieces (schema_of x.1))) }
-    ensures tokens { IfOk result (λ x. pieces_of x.0.items
-        ≡ schema_pieces (schema_of x.1)) }
-    ensures whole { IfOk result (λ x. AreWhole (schema_of x.1).declarations) }
-    ensures counted { IfOk result (λ x. SchemaCounted x.1) }
+fn read(alloc: Global, text: &[u8]) -> Result<Schema, SchemaError>
+    ensures found { IfOk result (λ s. lex_of text.now ≡ Ok (schema_pieces (schema_of s))) }
+    ensures whole { IfOk result (λ s. AreWhole (schema_of s).declarations) }
+    ensures counted { IfOk result (λ s. SchemaCounted s) }
     ensures only { (schema : SchemaV) → AreWhole schema.declarations
-        → lex_of text.now ≡ Ok (schema_pieces schema) → TextReadsTo schema result }
+        → lex_of text.now ≡ Ok (schema_pieces schema) → TextParsesTo schema result }
     ensures exact { IfErr result (λ error. IsFaultOf text.now error) }
     ensures within { IfErr result (λ error. LiesIn (length text.now) error) }
 {
     match lex(alloc, text) {
         Ok(tokens) => match parse(alloc, &tokens) {
-            Ok(schema) => Ok((tokens, schema)),
+            Ok(schema) => Ok(schema),
             Err(ParseError::OutOfMemory) => Err(SchemaError::OutOfMemory),
             Err(ParseError::Fault { fault, index }) => {
                 let at = place_of(text, index);
@@ -95,31 +95,36 @@ pub fn parse_text(alloc: Global, text: &[u8]) -> Result<Schema, SchemaError>
     ensures within { IfErr result (λ error. LiesIn (length text.now) error) }
 {
     match read(alloc, text) {
-        Ok((_, schema)) => Ok(schema),
+        Ok(schema) => Ok(schema),
         Err(error) => Err(error),
     }
 }
 
-/// Returns the canonical text of the schema that a text spells, which is the same for every text
-/// that spells it. Comments that aren't documentation are left out.
+/// Returns the canonical text of the schema that a text spells, with the text's comments. Each
+/// stands before the token that it stood before, on a line of its own if it was on one.
 ///
 /// The errors are those of [`parse_text`].
 pub fn format_text(alloc: Global, text: &[u8]) -> Result<Vec<u8>, SchemaError>
-    // The text spells the schema whose text is returned.
-    ensures found { IfOk result (λ out. (schema : SchemaV)
-        × AreWhole schema.declarations × Spells text.now schema × (out.items ≡ text_of schema)) }
-    // A text that spells a schema gives the text of that schema, unless memory is refused.
-    ensures only { (schema : SchemaV) → AreWhole schema.declarations → Spells text.now schema
-        → TextFormatsTo schema result }
-    // The canonical text stays as it is.
-    ensures canonical { (schema : SchemaV) → IsSchema schema
-        → text.now ≡ text_of schema → TextFormatsTo schema result }
+    // The text spells a schema, and its canonical text is returned.
+    ensures found { IfOk result (λ out. HasCanonicalText text.now out.items) }
+    // That spells the same schema, and has each comment of the text once, in order.
+    ensures kept { IfOk result (λ out. KeepsComments text.now out.items) }
+    // A text that spells a schema gives its canonical text, unless memory is refused.
+    ensures only { (schema : SchemaV) (parts : List Part) → AreWhole schema.declarations
+        → AreParts parts → text.now ≡ spelled parts → schema_pieces schema ≡ tokens_in parts
+        → TextFormatsTo (canonical (elements_of parts)) result }
+    // The canonical text of any text stays as it is.
+    ensures stays { (source : List ℕ) → HasCanonicalText source text.now
+        → TextFormatsTo text.now result }
+    // So does the canonical text of a schema, which has no comments.
+    ensures plain { (schema : SchemaV) → IsSchema schema
+        → text.now ≡ text_of schema → TextFormatsTo text.now result }
     // Which error it is, and where.
     ensures exact { IfErr result (λ error. IsFaultOf text.now error) }
     ensures within { IfErr result (λ error. LiesIn (length text.now) error) }
 {
     match read(alloc, text) {
-        Ok((tokens, _)) => match print_tokens(alloc, &tokens) {
+        Ok(_) => match canonical_text(alloc, text) {
             Ok(out) => Ok(out),
             Err(AllocError) => Err(SchemaError::OutOfMemory),
         },

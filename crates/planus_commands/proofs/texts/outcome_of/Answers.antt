@@ -3,5 +3,5 @@ use Rattle.planus_commands.proofs.texts.outcome_of.Goals as goal
 
 pub returns-in_ok-error_report-in-Err-clause-only :
     goal.returns-in_ok-error_report-in-Err-clause-only
-returns-in_ok-error_report-in-Err-clause-only c = λ schema whole spells.
-    not_reported _ _ _ _ (c.in-Err.ensures.only schema whole spells) c.in_ok-error_report-in-Err.ensures
+returns-in_ok-error_report-in-Err-clause-only c = λ schema parts whole are spells tokens.
+    not_reported _ _ _ _ (c.in-Err.ensures.only schema parts whole are spells tokens) c.in_ok-error_report-in-Err.ensures

@@ -1,35 +1,30 @@
-use Rattle.std.proofs.Common.{ap, ◌∙◌}
-use Rattle.planus_syntax.specs.Tokens.{pieces_of}
-use Rattle.planus_syntax.specs.Layout.{printed}
-use Rattle.planus_syntax.specs.Values.{schema_of, text_of}
-use Rattle.planus_syntax.proofs.Composed.{lexed_spells, spelled_lexes, text_lexes}
+use Rattle.planus_syntax.specs.Values.{schema_of}
+use Rattle.planus_syntax.proofs.Composed.{spelled_lexes, text_lexes}
+use Rattle.planus_syntax.proofs.Formatted.{formats, keeps, formatted_lexes, stays, plain_stays}
 use Rattle.planus_syntax.proofs.text.format_text.Goals as goal
 
-pub returns-in-Ok-print_tokens-clause-found : goal.returns-in-Ok-print_tokens-clause-found
-returns-in-Ok-print_tokens-clause-found c = (
-  schema_of c.in-Ok.field-0-1,
-  c.in-Ok.ensures.whole,
-  lexed_spells c.args.text.now (schema_of c.in-Ok.field-0-1) c.in-Ok.ensures.found,
-  c.in-Ok-print_tokens.ensures ∙ ap (λ ts. printed (pieces_of ts)) c.deref.ensures.value
-      ∙ ap printed c.in-Ok.ensures.tokens,
-)
+pub returns-in-Ok-canonical_text-clause-found : goal.returns-in-Ok-canonical_text-clause-found
+returns-in-Ok-canonical_text-clause-found c =
+    formats _ _ (schema_of c.in-Ok.field-0) c.in-Ok.ensures.whole c.in-Ok.ensures.found c.in-Ok-canonical_text.ensures
 
-pub returns-in-Ok-print_tokens-clause-only : goal.returns-in-Ok-print_tokens-clause-only
-returns-in-Ok-print_tokens-clause-only c = λ schema w s.
-    c.in-Ok-print_tokens.ensures ∙ ap (λ ts. printed (pieces_of ts)) c.deref.ensures.value
-    ∙ ap printed c.in-Ok.ensures.tokens
-    ∙ ap text_of (c.in-Ok.ensures.only schema w (spelled_lexes c.args.text.now schema s))
+pub returns-in-Ok-canonical_text-clause-kept : goal.returns-in-Ok-canonical_text-clause-kept
+returns-in-Ok-canonical_text-clause-kept c =
+    keeps _ _ (formats _ _ (schema_of c.in-Ok.field-0) c.in-Ok.ensures.whole c.in-Ok.ensures.found c.in-Ok-canonical_text.ensures)
 
-pub returns-in-Ok-print_tokens-clause-canonical : goal.returns-in-Ok-print_tokens-clause-canonical
-returns-in-Ok-print_tokens-clause-canonical c = λ schema h e.
-    c.in-Ok-print_tokens.ensures ∙ ap (λ ts. printed (pieces_of ts)) c.deref.ensures.value
-    ∙ ap printed c.in-Ok.ensures.tokens
-    ∙ ap text_of (c.in-Ok.ensures.only schema h.0 (text_lexes c.args.text.now schema h e))
+pub returns-in-Ok-canonical_text-clause-stays : goal.returns-in-Ok-canonical_text-clause-stays
+returns-in-Ok-canonical_text-clause-stays c = λ source f. stays source _ _ f c.in-Ok-canonical_text.ensures
+
+pub returns-in-Ok-canonical_text-clause-plain : goal.returns-in-Ok-canonical_text-clause-plain
+returns-in-Ok-canonical_text-clause-plain c = λ schema i e. plain_stays _ _ schema i e c.in-Ok-canonical_text.ensures
 
 pub returns-clause-only : goal.returns-clause-only
-returns-clause-only c = λ schema w s.
-    c.in-Err.ensures.only schema w (spelled_lexes c.args.text.now schema s)
+returns-clause-only c = λ schema parts w a e t.
+    c.in-Err.ensures.only schema w (spelled_lexes c.args.text.now schema (parts, a, e, t))
 
-pub returns-clause-canonical : goal.returns-clause-canonical
-returns-clause-canonical c = λ schema h e.
-    c.in-Err.ensures.only schema h.0 (text_lexes c.args.text.now schema h e)
+pub returns-clause-stays : goal.returns-clause-stays
+returns-clause-stays c = λ source f.
+    c.in-Err.ensures.only f.schema f.whole (formatted_lexes source c.args.text.now f)
+
+pub returns-clause-plain : goal.returns-clause-plain
+returns-clause-plain c = λ schema i e.
+    c.in-Err.ensures.only schema i.0 (text_lexes c.args.text.now schema i e)

@@ -14,10 +14,10 @@ pub returns-in-Ok-clause-canonical : goal.returns-in-Ok-clause-canonical
 returns-in-Ok-clause-canonical c = λ schema h e.
     c.in-Ok.ensures.only schema h.0 (text_lexes c.args.text.now schema h e)
 
-pub returns-clause-only : goal.returns-clause-only
-returns-clause-only c = λ schema w s.
+pub returns-in-Err-clause-only : goal.returns-in-Err-clause-only
+returns-in-Err-clause-only c = λ schema w s.
     c.in-Err.ensures.only schema w (spelled_lexes c.args.text.now schema s)
 
-pub returns-clause-canonical : goal.returns-clause-canonical
-returns-clause-canonical c = λ schema h e.
+pub returns-in-Err-clause-canonical : goal.returns-in-Err-clause-canonical
+returns-in-Err-clause-canonical c = λ schema h e.
     c.in-Err.ensures.only schema h.0 (text_lexes c.args.text.now schema h e)
