@@ -99,7 +99,8 @@ option_of command w = if is_help w then Some HelpChoice else option_in command
   where
     option_in : Command → Option Choice
     option_in Check = if bytes_eq w (codes "-I") then Some Folder else None
-    option_in Format = if bytes_eq w (codes "--write") then Some Write else None
+    option_in Format = if bytes_eq w (codes "--write") then Some Write
+        else if bytes_eq w (codes "--check") then Some CheckChoice else None
     option_in View = view_option w
     option_in RattleCommand = rattle_option w
 
@@ -205,6 +206,7 @@ pub data Asked : Type 0 where
   no_number : List ℕ → Asked
   several_schemas : Asked
   no_output : Asked
+  write_and_check : Asked
 
 abbrev pub asked : Request → Asked
 asked code.Help = help
@@ -220,6 +222,7 @@ asked code.NoBuffer = no_buffer
 asked (code.NoNumber w) = no_number w.now
 asked code.SeveralSchemas = several_schemas
 asked code.NoOutput = no_output
+asked code.WriteAndCheck = write_and_check
 
 abbrev pub is_empty : List (List ℕ) → Bool
 is_empty [] = true
@@ -241,9 +244,13 @@ abbrev pub rattle_request : WordsV → Asked
 rattle_request ws = if not (length ws.files == 1) then several_schemas
     else run_with ws.output ws
 
+-- `format` writes files or compares them
+abbrev pub format_request : WordsV → Asked
+format_request ws = if ws.write && ws.check then write_and_check else run Format ws
+
 abbrev pub run_request : Command → WordsV → Asked
 run_request Check ws = run Check ws
-run_request Format ws = run Format ws
+run_request Format ws = format_request ws
 run_request View ws = view_request ws
 run_request RattleCommand ws = rattle_request ws
 

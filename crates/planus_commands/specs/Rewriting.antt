@@ -4,6 +4,7 @@ use Rattle.std.specs.Io.KnownBytes.{Appends, Keeps}
 use Rattle.planus_commands.specs.declared.outcome.Outcome.{Outcome}
 use Rattle.planus_commands.specs.declared.outcome.Outcome.TheVariants.{Formatted, Faulty}
 use Rattle.std.specs.Str.{bytes_eq}
+use Rattle.planus_syntax.specs.Spelled.{after_order_mark}
 use Rattle.planus_commands.specs.Arguments.{WordsV}
 use Rattle.planus_commands.specs.Disks.{Disk}
 use Rattle.planus_commands.specs.Files.{IsTextOf, PutsFile, SaysUnread}
@@ -75,9 +76,45 @@ pub record FormatsRead (disk : Disk) (words : WordsV) (name : List ℕ) (status 
   pub kept : Keeps unsaid told
   pub formats : FormatsBy disk words name text status before after told said
 
+-- It was said that a file's bytes aren't its canonical text, or its first fault was reported.
+abbrev pub SaysOther : List ℕ → List ℕ → Option (List ℕ) → Option (List ℕ) → Type 0
+SaysOther name bytes unsaid said =
+    (((out : List ℕ) × Formats (after_order_mark bytes) out × (bytes_eq out bytes ≡ false))
+    × Appends unsaid said (line_of [] name (codes " isn't formatted")))
+    ⊎ ((report : List ℕ) × Reports name (after_order_mark bytes) report
+    × Appends unsaid said report)
+
+-- A file's bytes are its canonical text, with status 0, or something was said, with status 1.
+abbrev pub ComparesBytes : List ℕ → List ℕ → ℕ → Option (List ℕ) → Option (List ℕ) → Type 0
+ComparesBytes name bytes status unsaid said =
+    ((status ≡ 0) × Formats (after_order_mark bytes) bytes × (said ≡ unsaid))
+    ⊎ ((status ≡ 1) × SaysOther name bytes unsaid said)
+
+-- A file was read, and compared with its canonical text.
+pub record ComparesRead (disk : Disk) (name : List ℕ) (status : ℕ) (unsaid said : Option (List ℕ))
+    : Type 0 where
+  pub bytes : List ℕ
+  pub holds : disk.Holds name bytes
+  pub told : Option (List ℕ)
+  pub kept : Keeps unsaid told
+  pub compares : ComparesBytes name bytes status told said
+
+-- what `format --check` does with a file, by its status
+abbrev pub ComparesFile : Disk → List ℕ → ℕ → Option (List ℕ) → Option (List ℕ) → Type 0
+ComparesFile disk name status unsaid said =
+    ((status ≡ 2) × SaysUnread disk name unsaid said)
+    ⊎ ComparesRead disk name status unsaid said
+
 -- what `format` does with a file, by its status
+abbrev pub FormatsOne : Bool → Disk → WordsV → List ℕ → ℕ → Option (List ℕ) → Option (List ℕ)
+    → Option (List ℕ) → Option (List ℕ) → Type 0
+FormatsOne true disk words name status before after unsaid said =
+    (after ≡ before) × ComparesFile disk name status unsaid said
+FormatsOne false disk words name status before after unsaid said =
+    ((status ≡ 2) × (after ≡ before) × SaysUnread disk name unsaid said)
+    ⊎ FormatsRead disk words name status before after unsaid said
+
 abbrev pub FormatsFile : Disk → WordsV → List ℕ → ℕ → Option (List ℕ) → Option (List ℕ)
     → Option (List ℕ) → Option (List ℕ) → Type 0
 FormatsFile disk words name status before after unsaid said =
-    ((status ≡ 2) × (after ≡ before) × SaysUnread disk name unsaid said)
-    ⊎ FormatsRead disk words name status before after unsaid said
+    FormatsOne words.check disk words name status before after unsaid said

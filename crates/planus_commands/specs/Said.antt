@@ -12,7 +12,7 @@ use Rattle.planus_commands.specs.Shown.{shown}
 use Rattle.planus_commands.specs.Arguments.{Asked, help, help_of as help_asked, version, run}
 use Rattle.planus_commands.specs.Arguments.{no_command, unknown_command, unknown_option}
 use Rattle.planus_commands.specs.Arguments.{no_value, no_schema, no_buffer, no_number}
-use Rattle.planus_commands.specs.Arguments.{several_schemas, no_output}
+use Rattle.planus_commands.specs.Arguments.{several_schemas, no_output, write_and_check}
 
 pub record SaidV : Type 0 where
   pub wrong : Bool
@@ -44,6 +44,7 @@ option_hint Check (Some b) =
     else codes "see planus help"
 option_hint Format (Some b) =
     if b == 119 then codes "did you mean `--write`?"
+    else if b == 99 then codes "did you mean `--check`?"
     else if b == 104 then codes "did you mean `--help`?"
     else codes "see planus help"
 option_hint View (Some b) =
@@ -65,20 +66,20 @@ abbrev pub version_text : List ℕ
 version_text = codes "planus 0.1.0\n"
 
 abbrev pub help_text : List ℕ
-help_text = codes "planus reads schemas of flatbuffers, shows buffers by them, and prints their code.\n\nusage: planus check [-I FOLDER].. SCHEMA..\n       planus format [--write] SCHEMA..\n       planus view [OPTION].. SCHEMA BUFFER\n       planus rattle [--check] [-I FOLDER].. SCHEMA -o FOLDER\n       planus help [COMMAND], planus [COMMAND] --help, planus --version\n\nSCHEMA and BUFFER are files, or - for standard input; after --, each word is one. The\nvalue of an option may be in the same word: -IFOLDER, -oFOLDER, --root=NAME. -h is\n--help, and -V is --version.\n"
+help_text = codes "planus reads schemas of flatbuffers, shows buffers by them, and prints their code.\n\nusage: planus check [-I FOLDER].. SCHEMA..\n       planus format [--write | --check] SCHEMA..\n       planus view [OPTION].. SCHEMA BUFFER\n       planus rattle [--check] [-I FOLDER].. SCHEMA -o FOLDER\n       planus help [COMMAND], planus [COMMAND] --help, planus --version\n\nSCHEMA and BUFFER are files, or - for standard input; after --, each word is one. The\nvalue of an option may be in the same word: -IFOLDER, -oFOLDER, --root=NAME. -h is\n--help, and -V is --version.\n"
 
 -- the usage line of a command, with which its help begins, or of the program; what is said of a
 -- wrong call ends with it
 unfoldable pub usage_of : Option Command → List ℕ
 usage_of None = codes "usage: planus COMMAND ..; the commands are check, format, view, rattle and help\n"
 usage_of (Some Check) = codes "usage: planus check [-I FOLDER].. SCHEMA..\n"
-usage_of (Some Format) = codes "usage: planus format [--write] SCHEMA..\n"
+usage_of (Some Format) = codes "usage: planus format [--write | --check] SCHEMA..\n"
 usage_of (Some View) = codes "usage: planus view [OPTION].. SCHEMA BUFFER\n"
 usage_of (Some RattleCommand) = codes "usage: planus rattle [--check] [-I FOLDER].. SCHEMA -o FOLDER\n"
 
 abbrev pub details_of : Command → List ℕ
 details_of Check = codes "\nSays on standard error what is wrong with each schema and the files that it includes,\nor nothing. Included files are sought beside the file and in each FOLDER.\nEnds with 0 where nothing is wrong, with 1 where a schema has a fault, and with 2\nwhere the call is wrong or a file can't be read.\n"
-details_of Format = codes "\nPrints the canonical text of each schema, with its comments.\n\n  --write  replaces each file by its text\n\nEnds with 0 where nothing is wrong, with 1 where a schema has a fault, and with 2\nwhere the call is wrong or a file can't be read or written.\n"
+details_of Format = codes "\nPrints the canonical text of each schema, with its comments.\n\n  --write  replaces each file by its text\n  --check  prints nothing, and says which files don't have that text\n\nEnds with 0 where nothing is wrong, with 1 where a schema has a fault or --check names\na file, and with 2 where the call is wrong or a file can't be read or written.\n"
 details_of View = codes "\nPrints what a buffer holds, a line a value, as far as the lines and bytes go.\n\n  --root NAME      the root is this table, and not that of the schema\n  --size-prefixed  BUFFER is any number of buffers, each after its size\n  --lines N        at most N lines, and not 1000\n  --bytes N        at most N bytes, and not 1048576\n  -I FOLDER        included files are sought in this folder too\n\nEnds with 0 where all is shown, with 1 where something is wrong with the buffer or\nmore follows, and with 2 where the call is wrong or a file can't be read.\n"
 details_of RattleCommand = codes "\nPrints the code of a schema as a crate: its files in FOLDER, whose last word is the\ncrate's name. A file that has its text already is left alone.\n\n  -o FOLDER        the folder of the crate, which is made if it isn't there\n  --check          writes nothing, and says which files aren't what is printed\n  -I FOLDER        included files are sought in this folder too\n\nEnds with 0 where all is printed, with 1 where the schema has a fault or something\nthat isn't supported, or --check names a file, and with 2 where the call is wrong or\na file can't be read or written.\n"
 
@@ -123,6 +124,8 @@ said_of several_schemas = on_errors (codes "planus: rattle has one schema\n"
     ++ usage_of (Some RattleCommand))
 said_of no_output = on_errors (codes "planus: no folder is given: -o FOLDER\n"
     ++ usage_of (Some RattleCommand))
+said_of write_and_check = on_errors (codes "planus: format has --write or --check, and not both\n"
+    ++ usage_of (Some Format))
 
 -- The text was written, on standard error with status 2 or on standard output with 0.
 abbrev pub SaysBy : Bool → List ℕ → Option ℕ → Option (List ℕ) → Option (List ℕ)

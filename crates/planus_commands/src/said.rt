@@ -26,7 +26,7 @@ const HELP: &str = "\
 planus reads schemas of flatbuffers, shows buffers by them, and prints their code.
 
 usage: planus check [-I FOLDER].. SCHEMA..
-       planus format [--write] SCHEMA..
+       planus format [--write | --check] SCHEMA..
        planus view [OPTION].. SCHEMA BUFFER
        planus rattle [--check] [-I FOLDER].. SCHEMA -o FOLDER
        planus help [COMMAND], planus [COMMAND] --help, planus --version
@@ -48,15 +48,16 @@ Ends with 0 where nothing is wrong, with 1 where a schema has a fault, and with 
 where the call is wrong or a file can't be read.
 ";
 
-const USAGE_OF_FORMAT: &str = "usage: planus format [--write] SCHEMA..\n";
+const USAGE_OF_FORMAT: &str = "usage: planus format [--write | --check] SCHEMA..\n";
 
 const DETAILS_OF_FORMAT: &str = "
 Prints the canonical text of each schema, with its comments.
 
   --write  replaces each file by its text
+  --check  prints nothing, and says which files don't have that text
 
-Ends with 0 where nothing is wrong, with 1 where a schema has a fault, and with 2
-where the call is wrong or a file can't be read or written.
+Ends with 0 where nothing is wrong, with 1 where a schema has a fault or --check names
+a file, and with 2 where the call is wrong or a file can't be read or written.
 ";
 
 const USAGE_OF_VIEW: &str = "usage: planus view [OPTION].. SCHEMA BUFFER\n";
@@ -98,6 +99,8 @@ const NO_BUFFER: &str = "planus: view has a schema and a buffer\n";
 const SEVERAL_SCHEMAS: &str = "planus: rattle has one schema\n";
 
 const NO_OUTPUT: &str = "planus: no folder is given: -o FOLDER\n";
+
+const WRITE_AND_CHECK: &str = "planus: format has --write or --check, and not both\n";
 
 /// The exit status where all went well.
 pub const CLEAN: u8 = 0;
@@ -161,6 +164,7 @@ fn option_hint(command: Command, word: &str) -> &'static str
     match (command, first_letter(word)) {
         (Command::Check | Command::View | Command::Rattle, Some(b'I')) => "did you mean `-I`?",
         (Command::Format, Some(b'w')) => "did you mean `--write`?",
+        (Command::Format, Some(b'c')) => "did you mean `--check`?",
         (Command::View, Some(b'r')) => "did you mean `--root`?",
         (Command::View, Some(b's')) => "did you mean `--size-prefixed`?",
         (Command::View, Some(b'l')) => "did you mean `--lines`?",
@@ -296,6 +300,7 @@ pub fn said_of(alloc: Global, request: &Request<'_>) -> Result<Option<Said>, All
         }
         Request::SeveralSchemas => wrong(alloc, SEVERAL_SCHEMAS, Some(Command::Rattle)),
         Request::NoOutput => wrong(alloc, NO_OUTPUT, Some(Command::Rattle)),
+        Request::WriteAndCheck => wrong(alloc, WRITE_AND_CHECK, Some(Command::Format)),
     }
 }
 
