@@ -1,11 +1,35 @@
 -- What the elements of a text are.
 use Rattle.std.proofs.Common.{◌≡◌, ℕ, List, [], ◌∷◌, ◌++◌, Bool, true, false, refl, sym, ap, ◌∙◌}
 use Rattle.std.specs.Prelude.{◌==◌, ◌&&◌, ◌||◌, not}
-use Rattle.planus_syntax.specs.Tokens.{Piece, word, number, text, doc, mark, begins, is_line_byte}
+use Rattle.planus_syntax.specs.Tokens.{Piece, word, number, text, doc, mark, begins, is_line_byte, is_lawful}
 use Rattle.planus_syntax.specs.Layout.{is_doc}
-use Rattle.planus_syntax.specs.Spelled.{Part, token, blank, comment, block, goes_on, spelled, tokens_in, AreParts}
-use Rattle.planus_syntax.specs.Comments.{Element, piece, line_comment, block_comment, trimmed, elements_in, elements_of, comments_in, pieces_among, is_apart, has_empty_line, implies, is_more, AreElements}
+use Rattle.planus_syntax.specs.Spelled.{Part, token, blank, comment, block, goes_on, spelled, tokens_in, AreParts, is_part, stays_open}
+use Rattle.planus_syntax.specs.Comments.{Element, piece, line_comment, block_comment, trimmed, is_apart, has_empty_line, elements_in, elements_of, comments_in}
 use Rattle.planus_syntax.proofs.Trimmed.{trimmed_again, trimmed_part}
+
+abbrev pub implies : Bool → Bool → Bool
+implies a b = not (a && not b)
+
+abbrev pub is_more : List Element → Bool
+is_more [] = false
+is_more (e ∷ es) = true
+
+-- The elements of some text: after documentation, a comment to the end of its line and an empty
+-- line the next comment begins its line, as does the first.
+abbrev pub AreElements : Bool → List Element → Type 0
+AreElements due [] = Unit {0}
+AreElements due (piece p ∷ es) = (is_lawful p ≡ true) × AreElements (is_doc p) es
+AreElements due (line_comment starts apart w ∷ es) = (implies due starts ≡ true)
+    × (is_part (comment w) ≡ true) × (trimmed w ≡ w)
+    × (implies apart (starts && is_more es) ≡ true) × AreElements true es
+AreElements due (block_comment starts apart w ∷ es) = (implies due starts ≡ true)
+    × (stays_open w ≡ true) × (implies apart (starts && is_more es) ≡ true) × AreElements apart es
+
+abbrev pieces_among : List Element → List Piece
+pieces_among [] = []
+pieces_among (piece p ∷ es) = p ∷ pieces_among es
+pieces_among (line_comment starts apart w ∷ es) = pieces_among es
+pieces_among (block_comment starts apart w ∷ es) = pieces_among es
 
 pub elements_pieces : (begun : Bool) (ps : List Part) → pieces_among (elements_in begun ps) ≡ tokens_in ps
 elements_pieces begun [] = refl

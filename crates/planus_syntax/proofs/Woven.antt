@@ -8,10 +8,10 @@ use Rattle.planus_syntax.specs.Tokens.{Piece, word, number, text, doc, mark, byt
 use Rattle.planus_syntax.specs.Layout.{is_doc, is_mark_of, place_after, outside, gap_before, laid_out, printed}
 use Rattle.planus_syntax.specs.Spelled.{Part, token, blank, comment, block, part_bytes, goes_on, spelled, tokens_in, AreParts}
 use Rattle.planus_syntax.specs.Comments.{Element, piece, line_comment, block_comment, trimmed, is_apart, has_empty_line, elements_in, elements_of, comments_in}
-use Rattle.planus_syntax.specs.Comments.{next_piece, gap_to, line_to, empty_to, comment_line, empty_line, before_comment, breaks, after_line, after_block, woven, canonical_after_feed, canonical, implies, is_more, AreElements}
+use Rattle.planus_syntax.specs.Comments.{next_piece, gap_to, line_to, empty_to, comment_line, empty_line, before_comment, breaks, after_line, after_block, woven, canonical_after_feed, canonical}
 use Rattle.planus_syntax.proofs.Marks.{never}
 use Rattle.planus_syntax.proofs.Laid.{blanks, blanks_spelled, blanks_are, IsBlank, gap_blank, either, Stops, one_stops, feed_stops, space_stops}
-use Rattle.planus_syntax.proofs.Elements.{elements_are}
+use Rattle.planus_syntax.proofs.Elements.{implies, is_more, AreElements, elements_are}
 
 -- ---- parts that spell the text
 

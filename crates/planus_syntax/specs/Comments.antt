@@ -1,11 +1,11 @@
 -- The comments of a text, and the canonical text that has them.
-use Rattle.std.specs.Prelude.{◌≡◌, ℕ, Bool, true, false, ◌==◌, ◌&&◌, ◌||◌, not, List, [], ◌∷◌, ◌++◌}
+use Rattle.std.specs.Prelude.{ℕ, Bool, true, false, ◌==◌, ◌&&◌, ◌||◌, not, List, [], ◌∷◌, ◌++◌}
 use Rattle.std.specs.Prelude.{codes, drop, if◌then◌else◌, Option, Some, None}
 use Rattle.std.specs.Str.{bytes_eq}
 use Rattle.planus_syntax.specs.declared.layout.Place.{Place}
-use Rattle.planus_syntax.specs.Tokens.{Piece, doc, bytes_of, begins, is_blank, is_lawful}
-use Rattle.planus_syntax.specs.Layout.{place_after, outside, gap, new_line, is_doc}
-use Rattle.planus_syntax.specs.Spelled.{Part, token, blank, comment, block, is_part, stays_open}
+use Rattle.planus_syntax.specs.Tokens.{Piece, doc, bytes_of, begins, is_blank}
+use Rattle.planus_syntax.specs.Layout.{place_after, outside, gap, new_line}
+use Rattle.planus_syntax.specs.Spelled.{Part, token, blank, comment, block}
 
 -- ---- comments
 
@@ -58,12 +58,6 @@ elements_in begun (block w ∷ ps) =
 
 abbrev pub elements_of : List Part → List Element
 elements_of parts = elements_in true parts
-
-abbrev pub pieces_among : List Element → List Piece
-pieces_among [] = []
-pieces_among (piece p ∷ es) = p ∷ pieces_among es
-pieces_among (line_comment starts apart w ∷ es) = pieces_among es
-pieces_among (block_comment starts apart w ∷ es) = pieces_among es
 
 -- ---- the layout
 
@@ -140,23 +134,3 @@ canonical_after_feed es = woven outside (codes "\n") (codes "\n") false es
 -- the canonical text of elements: as after a line feed
 abbrev pub canonical : List Element → List ℕ
 canonical es = drop 1 (canonical_after_feed es)
-
--- ---- which elements there are
-
-abbrev pub implies : Bool → Bool → Bool
-implies a b = not (a && not b)
-
-abbrev pub is_more : List Element → Bool
-is_more [] = false
-is_more (e ∷ es) = true
-
--- The elements of some text: after documentation, a comment to the end of its line and an empty
--- line the next comment begins its line, as does the first.
-abbrev pub AreElements : Bool → List Element → Type 0
-AreElements due [] = Unit {0}
-AreElements due (piece p ∷ es) = (is_lawful p ≡ true) × AreElements (is_doc p) es
-AreElements due (line_comment starts apart w ∷ es) = (implies due starts ≡ true)
-    × (is_part (comment w) ≡ true) × (trimmed w ≡ w)
-    × (implies apart (starts && is_more es) ≡ true) × AreElements true es
-AreElements due (block_comment starts apart w ∷ es) = (implies due starts ≡ true)
-    × (stays_open w ≡ true) × (implies apart (starts && is_more es) ≡ true) × AreElements apart es

@@ -3,7 +3,7 @@
 ghost use Rattle.std.specs.Prelude.{◌≡◌, ◌++◌, ◌∷◌, List, map, IfOk, OnOk};
 ghost use Rattle.planus_syntax.specs.Tokens.{bytes_of, word as word_piece};
 ghost use Rattle.planus_syntax.specs.Cutting.{cut_piece};
-ghost use Rattle.planus_syntax.specs.Layout.{is_mark_of, place_after as place_after_lem, outside};
+ghost use Rattle.planus_syntax.specs.Layout.{is_mark_of, place_after as place_after_lem};
 ghost use Rattle.planus_syntax.specs.Layout.{is_tight as is_tight_lem, is_open as is_open_lem};
 ghost use Rattle.planus_syntax.specs.Layout.{is_tight_piece, is_number_piece, is_glued as is_glued_lem};
 ghost use Rattle.planus_syntax.specs.Layout.{is_grouped as is_grouped_lem, is_doc as is_doc_lem};

@@ -1,6 +1,6 @@
 //! The syntax of flatbuffers schemas. [`parse_text`] reads a text as declarations, and
-//! [`format_text`] returns its canonical text. `Spelled` and `Values` of `specs/` define which
-//! texts spell which schema.
+//! [`format_text`] returns its canonical text, with its comments. `Spelled` and `Values` of `specs/`
+//! define which texts spell which schema, `Comments` the canonical text.
 #![tactic(auto)]
 
 mod comments;
