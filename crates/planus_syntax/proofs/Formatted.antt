@@ -7,6 +7,7 @@ use Rattle.planus_syntax.specs.Lexing.{lex_of}
 use Rattle.planus_syntax.specs.Parsed.{HasCanonicalText, KeepsComments}
 use Rattle.planus_syntax.proofs.Composed.{lexed_spells, spelled_lexes}
 use Rattle.planus_syntax.proofs.Elements.{same_tokens, same_comments}
+use Rattle.planus_syntax.proofs.Unique.{one_spelling}
 use Rattle.planus_syntax.proofs.Woven.{canonical_again, layout_stays}
 
 -- `out` is the canonical text, however the text is spelled
@@ -54,3 +55,13 @@ pub plain_stays : (text out : List ℕ) (s : SchemaV) → IsSchema s → text �
 plain_stays text out s i e h =
     let k = layout_stays (schema_pieces s) i.1 in
     h k.0 k.1 (e ∙ k.2) ∙ k.3 ∙ sym e
+
+determined : (text out : List ℕ) → HasCanonicalText text out → IsCanonical text out
+determined text out f parts a e =
+    f.canonical ∙ ap (λ ps. canonical (elements_of ps)) (one_spelling f.parts parts f.are a (sym f.spells ∙ e))
+
+pub one_canonical_text : (text a b : List ℕ) → HasCanonicalText text a → HasCanonicalText text b → a ≡ b
+one_canonical_text text a b f g = determined text a f g.parts g.are g.spells ∙ sym g.canonical
+
+pub canonical_stays : (text a b : List ℕ) → HasCanonicalText text a → HasCanonicalText a b → b ≡ a
+canonical_stays text a b f g = stays text a b f (determined a b g)

@@ -17,4 +17,4 @@ pub mod Trimmed
 pub mod Elements
 pub mod Woven
 pub mod Formatted
-pub mod Elemental
+pub mod ReadElements

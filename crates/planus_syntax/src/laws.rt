@@ -11,6 +11,7 @@ ghost use Rattle.planus_syntax.specs.Reading.{schema_at};
 ghost use Rattle.planus_syntax.specs.Placing.{StandsAt};
 ghost use Rattle.planus_syntax.specs.Spelled.{Part, AreParts, spelled, tokens_in};
 ghost use Rattle.planus_syntax.specs.Comments.{canonical, comments_in, elements_of};
+ghost use Rattle.planus_syntax.specs.Parsed.{HasCanonicalText};
 
 /// The canonical layout of tokens is a spelling of them.
 pub fn layout_spells()
@@ -56,6 +57,16 @@ pub fn canonical_again()
     ensures { (parts : List Part) → AreParts parts
         → (again : List Part) × AreParts again × (canonical (elements_of parts) ≡ spelled again)
         × (elements_of again ≡ elements_of parts) }
+{}
+
+/// A text has one canonical text.
+pub fn one_canonical_text()
+    ensures { (text a b : List ℕ) → HasCanonicalText text a → HasCanonicalText text b → a ≡ b }
+{}
+
+/// A canonical text is its own canonical text.
+pub fn canonical_stays()
+    ensures { (text a b : List ℕ) → HasCanonicalText text a → HasCanonicalText a b → b ≡ a }
 {}
 
 /// The canonical text of a text without comments is the canonical layout of its tokens.

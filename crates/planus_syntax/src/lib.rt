@@ -20,8 +20,8 @@ mod token;
 mod value;
 
 pub use laws::{
-    canonical_again, declarations_again, layout_spells, no_comments, one_place, one_schema,
-    spelling_found, spelling_read,
+    canonical_again, canonical_stays, declarations_again, layout_spells, no_comments,
+    one_canonical_text, one_place, one_schema, spelling_found, spelling_read,
 };
 pub use lexer::LexFault;
 pub use number::{is_float_name, is_number};

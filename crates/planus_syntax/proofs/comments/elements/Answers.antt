@@ -1,7 +1,7 @@
 use Rattle.std.proofs.Common.{arith, refl, sym, ◌∙◌}
 use Rattle.planus_syntax.specs.Cutting.{cut_piece}
 use Rattle.planus_syntax.proofs.Placed.{empty_is}
-use Rattle.planus_syntax.proofs.Elemental.{token_read, part_read, all_read, no_error}
+use Rattle.planus_syntax.proofs.ReadElements.{token_read, part_read, all_read, no_error}
 use Rattle.planus_syntax.proofs.comments.elements.Goals as goal
 
 pub loop-rest-preserved-in-Ok-Some-default : goal.loop-rest-preserved-in-Ok-Some-default

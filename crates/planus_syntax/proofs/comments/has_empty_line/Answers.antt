@@ -1,6 +1,6 @@
 use Rattle.std.proofs.Common.{false, ap, ◌∙◌}
 use Rattle.planus_syntax.specs.Elements.{apart_bytes}
-use Rattle.planus_syntax.proofs.Elemental.{apart_same}
+use Rattle.planus_syntax.proofs.ReadElements.{apart_same}
 use Rattle.planus_syntax.proofs.comments.has_empty_line.Goals as goal
 
 pub returns : goal.returns
