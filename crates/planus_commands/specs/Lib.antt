@@ -16,3 +16,4 @@ pub mod Viewing
 pub mod Buffers
 pub mod Printing
 pub mod Running
+pub mod Outputs

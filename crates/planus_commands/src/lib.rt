@@ -13,6 +13,7 @@ mod libraries;
 mod message;
 mod near;
 mod outcome;
+mod output;
 mod parsed;
 mod placed;
 mod printing;

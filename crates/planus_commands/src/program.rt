@@ -1,14 +1,16 @@
 //! The program `planus`: start here.
 
-ghost use Rattle.std.specs.Prelude.{map, IfOk};
+ghost use Rattle.std.specs.Prelude.{◌≡◌, map, IfOk};
 ghost use Rattle.std.specs.String.{string_bytes};
 ghost use Rattle.planus_commands.specs.Arguments.{request_of as request_lem};
 ghost use Rattle.planus_commands.specs.Arguments.{asked, words_of};
+ghost use Rattle.planus_commands.specs.Outputs.{ends_quietly as ends_quietly_lem, Ends};
 ghost use Rattle.planus_commands.specs.Running.{RunsFile, RunsFiles, Runs, SaysOrRuns};
 
 use crate::arguments::{Command, Request, Words, request_of};
 use crate::buffers::view_file;
 use crate::files::{Files, HostFiles};
+use crate::output::Output;
 use crate::printing::print_code;
 use crate::rewrite::format_file;
 use crate::said::{CLEAN, FAILED, say as say_of};
@@ -128,15 +130,34 @@ fn run<W: Write, X: Write>(
     run_words(&HostFiles { rt }, rt.alloc(), &words, writer, errors)
 }
 
-/// Runs the program. Returns the exit status: 0 where all is well, 1 where a schema or a buffer has
-/// a fault or a file isn't what is printed, 2 where the call is wrong, a file can't be read or
-/// written, or memory is refused.
+/// Whether nothing is said of the error, as what reads the output is gone.
+fn ends_quietly(error: RunError, closed: bool) -> bool
+    ensures { result ≡ ends_quietly_lem error closed }
+{
+    matches!(error, RunError::Write) && closed
+}
+
+/// Says why a call failed, or nothing where what reads the output is gone. Returns the exit status.
+fn end<X: Write>(error: RunError, closed: bool, errors: &mut X) -> u8
+    ensures { Ends error closed result (X.contents errors.old) (X.contents errors.new) }
+{
+    if ends_quietly(error, closed) {
+        return CLEAN;
+    }
+    let _said = write_out(errors, reason_of(error).as_bytes());
+    FAILED
+}
+
+/// Runs the program. Returns the exit status: 0 where all is well or what reads the output is gone,
+/// 1 where a schema or a buffer has a fault or a file isn't what is printed, 2 where the call is
+/// wrong, a file can't be read or written, or memory is refused.
 pub fn run_program<W: Write, X: Write>(rt: &HostRuntime, writer: &mut W, errors: &mut X) -> u8 {
-    match run(rt, writer, errors) {
+    let mut output = Output {
+        writer,
+        closed: false,
+    };
+    match run(rt, &mut output, errors) {
         Ok(status) => status,
-        Err(error) => {
-            let _said = write_out(errors, reason_of(error).as_bytes());
-            FAILED
-        }
+        Err(error) => end(error, output.closed, errors),
     }
 }
