@@ -5,7 +5,7 @@
 
 A case is some lines of a file, and an empty line ends it. The first mark of a line says what it is:
 
-    $ view s.fbs b.bin      the words of the call; left out, they are those of the case before
+    $ view s.fbs b.bin      the words of the call, '' an empty one; left out, they are those of the case before
     < table A { }           a line of standard input
     > root.x = 7            a line that is written on standard output
     ! planus: ..            a line that is written on standard error
@@ -45,7 +45,7 @@ class Case:
         beside = re.match(r"([-\w./]+)([|:>]) ?(.*)", line)
         mark, said = line[0], line[2:]
         if mark == "$":
-            self.words = said.split()
+            self.words = [word if word != "''" else "" for word in said.split()]
         elif mark == "<":
             self.input += said + "\n"
         elif mark == ">":

@@ -3,9 +3,9 @@ use Rattle.std.specs.Prelude.{ℕ, Bool, true, false, ◌&&◌, ◌||◌, ◌==�
 use Rattle.std.specs.Prelude.{fold, map, length, codes, slice_index, Option, Some, None}
 use Rattle.std.specs.Prelude.{if◌then◌else◌, not, nat_eq, drop}
 use Rattle.std.specs.Option.{option_map, option_or, unwrap_or}
-use Rattle.std.specs.List.{starts_with}
+use Rattle.std.specs.List.{list_any, starts_with}
 use Rattle.std.specs.Str.{bytes_eq}
-use Rattle.planus_layout.specs.Numbers.{integer_said}
+use Rattle.planus_layout.specs.Numbers.{integer_said, without_mark, without_sign}
 use Rattle.planus_layout.specs.declared.number.Number.{Number}
 use Rattle.planus_commands.specs.declared.arguments.Command.{Command}
 use Rattle.planus_commands.specs.declared.arguments.Command.TheVariants.{Check, Format, View}
@@ -175,12 +175,34 @@ with_word command ws w = by_want ws.wants
         else if bytes_eq w (codes "--") then record ws { only_files = true }
         else with_option command ws w
 
+abbrev pub is_empty_word : List ℕ → Bool
+is_empty_word [] = true
+is_empty_word (b ∷ bs) = false
+
+-- present, and empty
+abbrev pub is_empty_value : Option (List ℕ) → Bool
+is_empty_value None = false
+is_empty_value (Some w) = is_empty_word w
+
+-- the first option whose value is empty
+abbrev pub empty_choice : WordsV → Option Choice
+empty_choice ws = if list_any is_empty_word ws.folders then Some Folder
+    else if is_empty_value ws.root then Some Root
+    else if is_empty_value ws.lines then Some Lines
+    else if is_empty_value ws.bytes then Some Bytes
+    else if is_empty_value ws.output then Some Output else None
+
 abbrev pub not_negative : Option Number → Option ℕ
 not_negative None = None
 not_negative (Some n) = if n.negative then None else Some n.magnitude
 
+-- what follows a sign and the mark of a hexadecimal number
+abbrev pub digits_of : List ℕ → List ℕ
+digits_of w = without_mark (without_sign w)
+
+-- a number has a digit
 abbrev pub number_of : List ℕ → Option ℕ
-number_of w = not_negative (integer_said w)
+number_of w = if is_empty_word (digits_of w) then None else not_negative (integer_said w)
 
 abbrev pub is_none : Option ℕ → Bool
 is_none None = true
@@ -203,7 +225,9 @@ pub data Asked : Type 0 where
   no_value : Command → Choice → Asked
   no_schema : Command → Asked
   no_buffer : Asked
-  no_number : List ℕ → Asked
+  empty_value : Command → Choice → Asked
+  empty_file : Command → Asked
+  no_number : Choice → List ℕ → Asked
   several_schemas : Asked
   no_output : Asked
   write_and_check : Asked
@@ -219,7 +243,9 @@ asked (code.UnknownOption command w) = unknown_option command w.now
 asked (code.NoValue command choice) = no_value command choice
 asked (code.NoSchema command) = no_schema command
 asked code.NoBuffer = no_buffer
-asked (code.NoNumber w) = no_number w.now
+asked (code.EmptyValue command choice) = empty_value command choice
+asked (code.EmptyFile command) = empty_file command
+asked (code.NoNumber choice w) = no_number choice w.now
 asked code.SeveralSchemas = several_schemas
 asked code.NoOutput = no_output
 asked code.WriteAndCheck = write_and_check
@@ -231,8 +257,8 @@ is_empty (x ∷ xs) = false
 -- `view` needs a schema, a buffer and numbers
 abbrev pub view_request : WordsV → Asked
 view_request ws = if not (length ws.files == 2) then no_buffer
-    else if is_no_number ws.lines then no_number (unwrap_or ws.lines [])
-    else if is_no_number ws.bytes then no_number (unwrap_or ws.bytes [])
+    else if is_no_number ws.lines then no_number Lines (unwrap_or ws.lines [])
+    else if is_no_number ws.bytes then no_number Bytes (unwrap_or ws.bytes [])
     else run View ws
 
 abbrev pub run_with : Option (List ℕ) → WordsV → Asked
@@ -257,9 +283,14 @@ run_request RattleCommand ws = rattle_request ws
 abbrev pub request_by : Command → WordsV → Asked
 request_by command ws = unknown_or ws.unknown
   where
+    empty_or : Option Choice → Asked
+    empty_or (Some choice) = empty_value command choice
+    empty_or None = if list_any is_empty_word ws.files then empty_file command
+        else if is_empty ws.files then no_schema command else run_request command ws
+
     value_or : Option Choice → Asked
     value_or (Some choice) = no_value command choice
-    value_or None = if is_empty ws.files then no_schema command else run_request command ws
+    value_or None = empty_or (empty_choice ws)
 
     unknown_or : Option (List ℕ) → Asked
     unknown_or (Some w) = unknown_option command w

@@ -12,6 +12,7 @@ use Rattle.planus_commands.specs.Shown.{shown}
 use Rattle.planus_commands.specs.Arguments.{Asked, help, help_of as help_asked, version, run}
 use Rattle.planus_commands.specs.Arguments.{no_command, unknown_command, unknown_option}
 use Rattle.planus_commands.specs.Arguments.{no_value, no_schema, no_buffer, no_number}
+use Rattle.planus_commands.specs.Arguments.{empty_value, empty_file}
 use Rattle.planus_commands.specs.Arguments.{several_schemas, no_output, write_and_check}
 
 pub record SaidV : Type 0 where
@@ -93,6 +94,18 @@ no_value_text Bytes = codes "planus: no number follows --bytes\n"
 no_value_text Output = codes "planus: no folder follows -o\n"
 no_value_text choice = codes "planus: no folder follows -I\n"
 
+abbrev pub empty_value_text : Choice → List ℕ
+empty_value_text Root = codes "planus: the name of --root is empty\n"
+empty_value_text Lines = codes "planus: the number of --lines is empty\n"
+empty_value_text Bytes = codes "planus: the number of --bytes is empty\n"
+empty_value_text Output = codes "planus: the folder of -o is empty\n"
+empty_value_text choice = codes "planus: the folder of -I is empty\n"
+
+-- after the value
+abbrev pub no_number_text : Choice → List ℕ
+no_number_text Lines = codes ", the value of --lines, is no number"
+no_number_text choice = codes ", the value of --bytes, is no number"
+
 abbrev pub said_text : Bool → List ℕ → Option SaidV
 said_text wrong text = Some (record { wrong = wrong; text = text })
 
@@ -118,8 +131,11 @@ said_of (no_value command choice) = on_errors (no_value_text choice ++ usage_of 
 said_of (no_schema command) = on_errors (codes "planus: no schema is named; - is standard input\n"
     ++ usage_of (Some command))
 said_of no_buffer = on_errors (codes "planus: view has a schema and a buffer\n" ++ usage_of (Some View))
-said_of (no_number w) = on_errors (codes "planus: `" ++ (shown w
-    ++ (codes "` is no number\n" ++ usage_of (Some View))))
+said_of (empty_value command choice) = on_errors (empty_value_text choice ++ usage_of (Some command))
+said_of (empty_file command) = on_errors (codes "planus: the name of a file is empty\n"
+    ++ usage_of (Some command))
+said_of (no_number choice w) = on_errors (codes "planus: `" ++ (shown w
+    ++ (codes "`" ++ (no_number_text choice ++ (codes "\n" ++ usage_of (Some View))))))
 said_of several_schemas = on_errors (codes "planus: rattle has one schema\n"
     ++ usage_of (Some RattleCommand))
 said_of no_output = on_errors (codes "planus: no folder is given: -o FOLDER\n"

@@ -8,6 +8,7 @@ ghost use Rattle.planus_commands.specs.Said.{first_letter as first_letter_lem};
 ghost use Rattle.planus_commands.specs.Said.{command_hint as command_hint_lem};
 ghost use Rattle.planus_commands.specs.Said.{option_hint as option_hint_lem};
 ghost use Rattle.planus_commands.specs.Said.{help_of as help_of_lem, help_text, no_value_text};
+ghost use Rattle.planus_commands.specs.Said.{empty_value_text, no_number_text};
 ghost use Rattle.planus_commands.specs.Said.{usage_of as usage_of_lem, details_of as details_of_lem};
 ghost use Rattle.planus_commands.specs.Said.{said_text as said_text_lem};
 ghost use Rattle.planus_commands.specs.Said.{said_of as said_of_lem, said_view, Says};
@@ -93,6 +94,8 @@ a file can't be read or written.
 const NO_COMMAND: &str = "planus: no command is given\n";
 
 const NO_SCHEMA: &str = "planus: no schema is named; - is standard input\n";
+
+const EMPTY_FILE: &str = "planus: the name of a file is empty\n";
 
 const NO_BUFFER: &str = "planus: view has a schema and a buffer\n";
 
@@ -219,6 +222,27 @@ fn no_value(choice: Choice) -> &'static str
     }
 }
 
+fn empty_value(choice: Choice) -> &'static str
+    ensures { result.now ≡ empty_value_text choice }
+{
+    match choice {
+        Choice::Root => "planus: the name of --root is empty\n",
+        Choice::Lines => "planus: the number of --lines is empty\n",
+        Choice::Bytes => "planus: the number of --bytes is empty\n",
+        Choice::Output => "planus: the folder of -o is empty\n",
+        _ => "planus: the folder of -I is empty\n",
+    }
+}
+
+fn no_number(choice: Choice) -> &'static str
+    ensures { result.now ≡ no_number_text choice }
+{
+    match choice {
+        Choice::Lines => ", the value of --lines, is no number",
+        _ => ", the value of --bytes, is no number",
+    }
+}
+
 fn said_text(alloc: Global, wrong: bool, text: &str) -> Result<Option<Said>, AllocError>
     ensures { IfOk result (λ said. option_map said_view said ≡ said_text_lem wrong text.now) }
 {
@@ -295,8 +319,17 @@ pub fn said_of(alloc: Global, request: &Request<'_>) -> Result<Option<Said>, All
         Request::NoValue(command, choice) => wrong(alloc, no_value(*choice), Some(*command)),
         Request::NoSchema(command) => wrong(alloc, NO_SCHEMA, Some(*command)),
         Request::NoBuffer => wrong(alloc, NO_BUFFER, Some(Command::View)),
-        Request::NoNumber(word) => {
-            about(alloc, "", *word, " is no number", "", Some(Command::View))
+        Request::EmptyValue(command, choice) => wrong(alloc, empty_value(*choice), Some(*command)),
+        Request::EmptyFile(command) => wrong(alloc, EMPTY_FILE, Some(*command)),
+        Request::NoNumber(choice, word) => {
+            about(
+                alloc,
+                "",
+                *word,
+                no_number(*choice),
+                "",
+                Some(Command::View),
+            )
         }
         Request::SeveralSchemas => wrong(alloc, SEVERAL_SCHEMAS, Some(Command::Rattle)),
         Request::NoOutput => wrong(alloc, NO_OUTPUT, Some(Command::Rattle)),
