@@ -1,6 +1,7 @@
 pub mod Included
 pub mod Reported
-pub mod Nearby
+pub mod Distances
+pub mod Nearest
 pub mod SpelledFiles
 pub mod Sized
 pub mod LoadedFiles

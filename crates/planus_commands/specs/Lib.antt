@@ -11,6 +11,7 @@ pub mod Including
 pub mod Loading
 pub mod Sources
 pub mod Rewriting
+pub mod Distance
 pub mod Near
 pub mod Viewing
 pub mod Buffers

@@ -3,7 +3,7 @@ use Rattle.std.specs.Prelude.{ℕ, List, [], ◌++◌, codes, slice_get, Option,
 use Rattle.planus_syntax.specs.Values.{Name}
 use Rattle.planus_schema.specs.declared.fault.Problem.{Problem}
 use Rattle.planus_schema.specs.declared.fault.Problem.TheVariants as problem
-use Rattle.planus_commands.specs.Near.{hint_of, nearest}
+use Rattle.planus_commands.specs.Near.{hint_of, nearest_type}
 
 -- before the word at fault
 abbrev pub before : Problem → List ℕ
@@ -66,11 +66,11 @@ abbrev pub both_text : List ℕ → List ℕ → List ℕ → List ℕ
 both_text word here elsewhere = codes "`" ++ word ++ codes "` means `" ++ here
     ++ codes "`, but flatc takes it for `" ++ elsewhere ++ codes "`; declare it before its use"
 
--- the message, with the nearest of these full names for an unknown type, and with both for a name
+-- the message, with the nearest type for an unknown one, and with both for a name
 -- of two meanings
 abbrev pub message_text : List Name → Problem → List ℕ → List ℕ
 message_text names problem.UnknownType word =
-    problem_text problem.UnknownType word ++ hint_of (nearest names word)
+    problem_text problem.UnknownType word ++ hint_of (nearest_type names word)
 message_text names (problem.TwoMeanings here elsewhere) word =
     both_text word (name_at (slice_get names here)) (name_at (slice_get names elsewhere))
 message_text names p word = problem_text p word

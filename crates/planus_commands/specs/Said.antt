@@ -1,6 +1,7 @@
 -- What is written of a call that names no schema.
 use Rattle.std.specs.Prelude.{◌≡◌, ℕ, Bool, true, false, ◌==◌, List, [], ◌∷◌, ◌++◌, codes}
-use Rattle.std.specs.Prelude.{Option, Some, None, if◌then◌else◌}
+use Rattle.std.specs.Prelude.{Option, Some, None, take}
+use Rattle.std.specs.List.{position_or_len}
 use Rattle.std.specs.Io.KnownBytes.{Appends, Keeps}
 use Rattle.planus_commands.specs.declared.arguments.Command.{Command}
 use Rattle.planus_commands.specs.declared.arguments.Command.TheVariants.{Check, Format, View}
@@ -8,6 +9,7 @@ use Rattle.planus_commands.specs.declared.arguments.Command.TheVariants.{Rattle 
 use Rattle.planus_commands.specs.declared.arguments.Choice.{Choice}
 use Rattle.planus_commands.specs.declared.arguments.Choice.TheVariants.{Root, Lines, Bytes, Output}
 use Rattle.planus_commands.specs.declared.said.Said.{Said}
+use Rattle.planus_commands.specs.Near.{nearest}
 use Rattle.planus_commands.specs.Shown.{shown}
 use Rattle.planus_commands.specs.Arguments.{Asked, help, help_of as help_asked, version, run}
 use Rattle.planus_commands.specs.Arguments.{no_command, unknown_command, unknown_option}
@@ -22,46 +24,30 @@ pub record SaidV : Type 0 where
 abbrev pub said_view : Said → SaidV
 said_view said = record { wrong = said.wrong; text = said.text.items }
 
--- the first letter of a word, after dashes
-abbrev pub first_letter : List ℕ → Option ℕ
-first_letter [] = None
-first_letter (b ∷ bs) = if b == 45 then first_letter bs else Some b
+-- the words that a call may begin with
+abbrev pub command_words : List (List ℕ)
+command_words = codes "check" ∷ codes "format" ∷ codes "view" ∷ codes "rattle" ∷ codes "help"
+    ∷ codes "--help" ∷ codes "-h" ∷ codes "--version" ∷ codes "-V" ∷ []
 
-abbrev pub command_hint : Option ℕ → List ℕ
-command_hint None = codes "see planus help"
-command_hint (Some b) =
-    if b == 99 then codes "did you mean `check`?"
-    else if b == 102 then codes "did you mean `format`?"
-    else if b == 104 then codes "did you mean `help`?"
-    else if b == 118 then codes "did you mean `view`?"
-    else if b == 114 then codes "did you mean `rattle`?"
-    else codes "see planus help"
+abbrev pub option_words : Command → List (List ℕ)
+option_words Check = codes "-I" ∷ codes "--help" ∷ codes "-h" ∷ []
+option_words Format = codes "--write" ∷ codes "--drop-comments" ∷ codes "--help" ∷ codes "-h" ∷ []
+option_words View = codes "--root" ∷ codes "--size-prefixed" ∷ codes "--lines" ∷ codes "--bytes"
+    ∷ codes "-I" ∷ codes "--help" ∷ codes "-h" ∷ []
+option_words RattleCommand =
+    codes "-o" ∷ codes "--check" ∷ codes "-I" ∷ codes "--help" ∷ codes "-h" ∷ []
 
-abbrev pub option_hint : Command → Option ℕ → List ℕ
-option_hint command None = codes "see planus help"
-option_hint Check (Some b) =
-    if b == 73 then codes "did you mean `-I`?"
-    else if b == 104 then codes "did you mean `--help`?"
-    else codes "see planus help"
-option_hint Format (Some b) =
-    if b == 119 then codes "did you mean `--write`?"
-    else if b == 99 then codes "did you mean `--check`?"
-    else if b == 104 then codes "did you mean `--help`?"
-    else codes "see planus help"
-option_hint View (Some b) =
-    if b == 73 then codes "did you mean `-I`?"
-    else if b == 114 then codes "did you mean `--root`?"
-    else if b == 115 then codes "did you mean `--size-prefixed`?"
-    else if b == 108 then codes "did you mean `--lines`?"
-    else if b == 98 then codes "did you mean `--bytes`?"
-    else if b == 104 then codes "did you mean `--help`?"
-    else codes "see planus help"
-option_hint RattleCommand (Some b) =
-    if b == 73 then codes "did you mean `-I`?"
-    else if b == 111 then codes "did you mean `-o`?"
-    else if b == 99 then codes "did you mean `--check`?"
-    else if b == 104 then codes "did you mean `--help`?"
-    else codes "see planus help"
+abbrev pub is_equals : ℕ → Bool
+is_equals b = b == 61
+
+-- what comes before the first `=`, or all
+abbrev pub before_equals : List ℕ → List ℕ
+before_equals word = take (position_or_len is_equals word) word
+
+-- what is said after a word that is no command or option: the nearest that is one, if one is near
+abbrev pub call_hint : Option (List ℕ) → List ℕ
+call_hint None = codes "see planus help"
+call_hint (Some w) = codes "did you mean `" ++ (w ++ codes "`?")
 
 abbrev pub version_text : List ℕ
 version_text = codes "planus 0.1.0\n"
@@ -123,9 +109,9 @@ said_of version = on_output version_text
 said_of (run command words) = None
 said_of no_command = on_errors (codes "planus: no command is given\n" ++ usage_of None)
 said_of (unknown_command w) = on_errors (codes "planus: unknown command `" ++ (shown w
-    ++ (codes "`; " ++ (command_hint (first_letter w) ++ (codes "\n" ++ usage_of None)))))
+    ++ (codes "`; " ++ (call_hint (nearest command_words w) ++ (codes "\n" ++ usage_of None)))))
 said_of (unknown_option command w) = on_errors (codes "planus: unknown option `" ++ (shown w
-    ++ (codes "`; " ++ (option_hint command (first_letter w)
+    ++ (codes "`; " ++ (call_hint (nearest (option_words command) (before_equals w))
     ++ (codes "\n" ++ usage_of (Some command))))))
 said_of (no_value command choice) = on_errors (no_value_text choice ++ usage_of (Some command))
 said_of (no_schema command) = on_errors (codes "planus: no schema is named; - is standard input\n"

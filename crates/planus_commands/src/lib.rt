@@ -5,6 +5,7 @@
 mod arguments;
 mod buffers;
 mod checking;
+mod distance;
 mod file_error;
 mod files;
 mod include;

@@ -10,7 +10,7 @@ ghost use Rattle.planus_commands.specs.Problems.{message_text as message_text_le
 ghost use Rattle.planus_commands.specs.Problems.{after as after_lem, before as before_lem};
 ghost use Rattle.planus_commands.specs.Problems.{problem_text as problem_text_lem};
 
-use crate::near::nearest;
+use crate::near::nearest_type;
 use planus_schema::Problem;
 use std::alloc::{AllocError, Global};
 
@@ -148,7 +148,7 @@ pub fn message_text(
     }
     let mut text = problem_text(alloc, problem, word)?;
     if let Problem::UnknownType = problem {
-        put_hint(alloc, &mut text, nearest(names, word))?;
+        put_hint(alloc, &mut text, nearest_type(names, word))?;
     }
     Ok(text)
 }

@@ -1,12 +1,15 @@
 //! What is written of a call that names no schema.
 
-ghost use Rattle.std.specs.Prelude.{◌≡◌, ◌++◌, codes, true, false, IfOk};
+ghost use Rattle.std.specs.Prelude.{◌≡◌, ◌++◌, codes, map, true, false, IfOk};
 ghost use Rattle.planus_commands.specs.Outcomes.{line_of};
 ghost use Rattle.std.specs.Option.{option_map};
 ghost use Rattle.planus_commands.specs.Arguments.{asked};
-ghost use Rattle.planus_commands.specs.Said.{first_letter as first_letter_lem};
-ghost use Rattle.planus_commands.specs.Said.{command_hint as command_hint_lem};
-ghost use Rattle.planus_commands.specs.Said.{option_hint as option_hint_lem};
+ghost use Rattle.planus_commands.specs.Arguments.{unknown_command as unknown_command_asked};
+ghost use Rattle.planus_commands.specs.Arguments.{unknown_option as unknown_option_asked};
+ghost use Rattle.planus_commands.specs.Near.{nearest};
+ghost use Rattle.planus_commands.specs.Said.{command_words as command_words_lem, call_hint};
+ghost use Rattle.planus_commands.specs.Said.{option_words as option_words_lem};
+ghost use Rattle.planus_commands.specs.Said.{before_equals as before_equals_lem};
 ghost use Rattle.planus_commands.specs.Said.{help_of as help_of_lem, help_text, no_value_text};
 ghost use Rattle.planus_commands.specs.Said.{empty_value_text, no_number_text};
 ghost use Rattle.planus_commands.specs.Said.{usage_of as usage_of_lem, details_of as details_of_lem};
@@ -16,6 +19,7 @@ ghost use Rattle.planus_commands.specs.Shown.{shown};
 ghost use Rattle.std.specs.Io.KnownBytes.{Appends, Keeps};
 
 use crate::arguments::{Choice, Command, Request};
+use crate::near::nearest_word;
 use crate::shown::put_shown;
 use crate::streams::{RunError, say as say_line, write_out};
 use std::alloc::{AllocError, Global};
@@ -136,47 +140,66 @@ pub struct Said {
     pub text: Vec<u8>,
 }
 
-fn first_letter(word: &str) -> Option<u8>
-    ensures { result ≡ first_letter_lem word.now }
+fn command_words() -> &'static [&'static str]
+    ensures { map (λ w. w.now) result.now ≡ command_words_lem }
 {
-    let bytes = word.as_bytes();
-    'bytes: for b in bytes {
-        if *b != b'-' {
-            return Some(*b);
+    &[
+        "check",
+        "format",
+        "view",
+        "rattle",
+        "help",
+        "--help",
+        "-h",
+        "--version",
+        "-V",
+    ]
+}
+
+fn option_words(command: Command) -> &'static [&'static str]
+    ensures { map (λ w. w.now) result.now ≡ option_words_lem command }
+{
+    match command {
+        Command::Check => &["-I", "--help", "-h"],
+        Command::Format => &["--write", "--drop-comments", "--help", "-h"],
+        Command::View => {
+            &[
+                "--root",
+                "--size-prefixed",
+                "--lines",
+                "--bytes",
+                "-I",
+                "--help",
+                "-h",
+            ]
         }
-    }
-    None
-}
-
-fn command_hint(word: &str) -> &'static str
-    ensures { result.now ≡ command_hint_lem (first_letter_lem word.now) }
-{
-    match first_letter(word) {
-        Some(b'c') => "did you mean `check`?",
-        Some(b'f') => "did you mean `format`?",
-        Some(b'h') => "did you mean `help`?",
-        Some(b'v') => "did you mean `view`?",
-        Some(b'r') => "did you mean `rattle`?",
-        _ => "see planus help",
+        Command::Rattle => &["-o", "--check", "-I", "--help", "-h"],
     }
 }
 
-fn option_hint(command: Command, word: &str) -> &'static str
-    ensures { result.now ≡ option_hint_lem command (first_letter_lem word.now) }
+/// Returns what comes before the first `=`, or all.
+fn before_equals(word: &[u8]) -> &[u8]
+    ensures { result.now ≡ before_equals_lem word.now }
 {
-    match (command, first_letter(word)) {
-        (Command::Check | Command::View | Command::Rattle, Some(b'I')) => "did you mean `-I`?",
-        (Command::Format, Some(b'w')) => "did you mean `--write`?",
-        (Command::Format, Some(b'c')) => "did you mean `--check`?",
-        (Command::View, Some(b'r')) => "did you mean `--root`?",
-        (Command::View, Some(b's')) => "did you mean `--size-prefixed`?",
-        (Command::View, Some(b'l')) => "did you mean `--lines`?",
-        (Command::View, Some(b'b')) => "did you mean `--bytes`?",
-        (Command::Rattle, Some(b'o')) => "did you mean `-o`?",
-        (Command::Rattle, Some(b'c')) => "did you mean `--check`?",
-        (_, Some(b'h')) => "did you mean `--help`?",
-        _ => "see planus help",
+    let mut n = 0;
+    'bytes: while n < word.len() && word[n] != b'=' {
+        n += 1;
     }
+    &word[..n]
+}
+
+/// Returns what is said after a word that is none of these.
+fn hint(alloc: Global, words: &[&str], word: &[u8]) -> Result<Vec<u8>, AllocError>
+    ensures { IfOk result (λ text. text.items
+        ≡ call_hint (nearest (map (λ w. w.now) words.now) word.now)) }
+{
+    let Some(near) = nearest_word(words, word) else {
+        return Vec::from_slice(alloc, b"see planus help");
+    };
+    let mut text = Vec::from_slice(alloc, b"did you mean `")?;
+    text.extend_from_slice(near)?;
+    text.extend_from_slice(b"`?")?;
+    Ok(text)
 }
 
 fn help() -> &'static str
@@ -273,7 +296,7 @@ fn about(
     before: &str,
     word: &str,
     after: &str,
-    hint: &str,
+    hint: &[u8],
     command: Option<Command>,
 ) -> Result<Option<Said>, AllocError>
     ensures { IfOk result (λ said. option_map said_view said ≡ said_text_lem true
@@ -286,10 +309,27 @@ fn about(
     put_shown(&mut text, word.as_bytes())?;
     text.push(b'`')?;
     text.extend_from_slice(after.as_bytes())?;
-    text.extend_from_slice(hint.as_bytes())?;
+    text.extend_from_slice(hint)?;
     text.push(b'\n')?;
     text.extend_from_slice(usage_of(command).as_bytes())?;
     Ok(Some(Said { wrong: true, text }))
+}
+
+fn unknown_command(alloc: Global, word: &str) -> Result<Option<Said>, AllocError>
+    ensures { IfOk result (λ said. option_map said_view said
+        ≡ said_of_lem (unknown_command_asked word.now)) }
+{
+    let hint = hint(alloc, command_words(), word.as_bytes())?;
+    about(alloc, "unknown command ", word, "; ", &hint, None)
+}
+
+fn unknown_option(alloc: Global, command: Command, word: &str) -> Result<Option<Said>, AllocError>
+    ensures { IfOk result (λ said. option_map said_view said
+        ≡ said_of_lem (unknown_option_asked command word.now)) }
+{
+    let near = before_equals(word.as_bytes());
+    let hint = hint(alloc, option_words(command), near)?;
+    about(alloc, "unknown option ", word, "; ", &hint, Some(command))
 }
 
 /// Returns what is written of a request that names no schema.
@@ -302,20 +342,8 @@ pub fn said_of(alloc: Global, request: &Request<'_>) -> Result<Option<Said>, All
         Request::HelpOf(command) => help_of(alloc, *command),
         Request::Version => said_text(alloc, false, VERSION),
         Request::NoCommand => wrong(alloc, NO_COMMAND, None),
-        Request::UnknownCommand(word) => {
-            about(
-                alloc,
-                "unknown command ",
-                *word,
-                "; ",
-                command_hint(*word),
-                None,
-            )
-        }
-        Request::UnknownOption(command, word) => {
-            let hint = option_hint(*command, *word);
-            about(alloc, "unknown option ", *word, "; ", hint, Some(*command))
-        }
+        Request::UnknownCommand(word) => unknown_command(alloc, *word),
+        Request::UnknownOption(command, word) => unknown_option(alloc, *command, *word),
         Request::NoValue(command, choice) => wrong(alloc, no_value(*choice), Some(*command)),
         Request::NoSchema(command) => wrong(alloc, NO_SCHEMA, Some(*command)),
         Request::NoBuffer => wrong(alloc, NO_BUFFER, Some(Command::View)),
@@ -327,7 +355,7 @@ pub fn said_of(alloc: Global, request: &Request<'_>) -> Result<Option<Said>, All
                 "",
                 *word,
                 no_number(*choice),
-                "",
+                b"",
                 Some(Command::View),
             )
         }
