@@ -9,3 +9,4 @@ pub mod RunFiles
 pub mod Seen
 mod ViewedBuffer
 mod Failing
+mod Led

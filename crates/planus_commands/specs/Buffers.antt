@@ -1,11 +1,18 @@
 -- What is written of a file of buffers.
 use Rattle.std.specs.Prelude.{◌≡◌, ◌⊎◌, ℕ, Bool, true, false, ◌&&◌, not, nat_lt, List, [], ◌∷◌, ◌++◌, codes}
+use Rattle.std.specs.Prelude.{◌+◌, ◌-◌, ◌==◌, if◌then◌else◌, MatchBool}
 use Rattle.std.specs.Prelude.{position, take, drop, length, max, Option, Some, None}
 use Rattle.std.specs.Option.{option_and_then, option_map, unwrap_or}
+use Rattle.std.specs.Fmt.{decimal}
 use Rattle.std.specs.Str.{bytes_eq}
 use Rattle.std.specs.Io.KnownBytes.{Appends, Keeps}
 use Rattle.planus_dump.specs.declared.schemas.Schema.{Schema as Dumped}
 use Rattle.planus_inspect.specs.Shown.{Shows}
+use Rattle.planus_dump.specs.declared.views.Seen.{Seen}
+use Rattle.planus_dump.specs.declared.views.End.{End}
+use Rattle.planus_dump.specs.declared.views.End.TheVariants.{TooManyLines, TooManyBytes}
+use Rattle.planus_commands.specs.declared.buffers.Lead.{Lead}
+use Rattle.planus_commands.specs.declared.buffers.One.{One}
 use Rattle.planus_commands.specs.declared.buffers.View.{View}
 use Rattle.planus_commands.specs.declared.buffers.Viewing.{Viewing}
 use Rattle.planus_commands.specs.declared.viewing.Limits.{Limits}
@@ -13,6 +20,7 @@ use Rattle.planus_commands.specs.Shown.{shown}
 use Rattle.planus_commands.specs.Arguments.{WordsV, number_of}
 use Rattle.planus_commands.specs.Outcomes.{line_of}
 use Rattle.planus_commands.specs.Viewing.{WritesView, FailsViewing, SplitsSized, EndsEarly}
+use Rattle.planus_commands.specs.Viewing.{end_text, is_clean, is_cut}
 use Rattle.planus_commands.specs.declared.streams.RunError.{RunError}
 use Rattle.planus_commands.specs.declared.streams.RunError.TheVariants.{OutOfMemory}
 use Rattle.planus_dump.specs.Writing.{WritesBeginning}
@@ -85,15 +93,29 @@ abbrev pub status_of : Bool → ℕ
 status_of true = 0
 status_of false = 1
 
+-- `known`: the buffer has the schema's identifier.
+abbrev pub one_of : Bool → Seen → One
+one_of known seen = record {
+  status = status_of (known && is_clean seen.end seen.has_fault);
+  is_cut = is_cut seen.end;
+  left = record { lines = seen.lines_left; bytes = seen.bytes_left };
+}
+
 -- A buffer's lines were written, and what is wrong with its identifier. The status is 0 if all is
 -- shown and nothing is wrong.
-pub record ViewsOne (look : Look) (bytes : List ℕ) (status : ℕ)
+pub record ViewsOne (look : Look) (bytes : List ℕ) (one : One)
     (before after unsaid said : Option (List ℕ)) : Type 0 where
   pub known : Bool
-  pub clean : Bool
+  pub seen : Seen
   pub told : ChecksIdentifier look.identifier look.name bytes known unsaid said
-  pub written : WritesView look.schema bytes look.lines look.bytes clean before after
-  pub is : status ≡ status_of (known && clean)
+  pub written : WritesView look.schema bytes look.lines look.bytes seen before after
+  pub is : one ≡ one_of known seen
+
+-- the same, of a file that is one buffer
+abbrev pub ViewsAlone : Look → List ℕ → ℕ → Option (List ℕ) → Option (List ℕ)
+    → Option (List ℕ) → Option (List ℕ) → Type 0
+ViewsAlone look bytes status before after unsaid said =
+    (one : One) × ViewsOne look bytes one before after unsaid said × (status ≡ one.status)
 
 -- A beginning of what is said of the identifier was written; or all of it, and a beginning of the
 -- lines.
@@ -113,44 +135,131 @@ EndsSized look (b ∷ bs) worst status before after unsaid said =
     (status ≡ 1) × EndsEarly (b ∷ bs) × Keeps before after
     × Appends unsaid said (line_of [] look.name (codes " ends before a buffer does"))
 
--- The first buffer was viewed, and then what follows it.
-pub record ViewsFirst (look : Look) (buffer bytes : List ℕ) (before unsaid : Option (List ℕ))
-    (Follows : List ℕ → ℕ → Option (List ℕ) → Option (List ℕ) → Type 0) : Type 0 where
+-- the line before a buffer of several: which it is, and where its first byte stands in the file
+abbrev pub header_text : ℕ → ℕ → List ℕ
+header_text number at =
+    codes "buffer " ++ (decimal number ++ (codes " at byte " ++ (decimal at ++ codes ":")))
+
+-- the limit that has no room for a line
+abbrev pub limit_reached : Limits → List ℕ → Option End
+limit_reached limits text = if limits.lines == 0 then Some TooManyLines
+    else if nat_lt limits.bytes (length text) then Some TooManyBytes else None
+
+-- what a line leaves of the limits
+abbrev pub limits_after : Limits → List ℕ → Limits
+limits_after limits text = record {
+  lines = limits.lines - 1;
+  bytes = limits.bytes - length text;
+}
+
+-- what is written before a buffer, whether it is left out, and what is left of the limits
+pub record LeadV : Type 0 where
+  pub text : List ℕ
+  pub is_cut : Bool
+  pub left : Limits
+
+abbrev pub lead_view : Lead → LeadV
+lead_view lead = record { text = lead.text.items; is_cut = lead.is_cut; left = lead.left }
+
+-- the line, or why no more follows if a limit has no room for it
+abbrev pub lead_of : Limits → List ℕ → LeadV
+lead_of limits text = by_limit (limit_reached limits text)
+  where
+    by_limit : Option End → LeadV
+    by_limit (Some end) = record { text = end_text end; is_cut = true; left = limits }
+    by_limit None = record {
+      text = text ++ 10 ∷ [];
+      is_cut = false;
+      left = limits_after limits text;
+    }
+
+abbrev pub cut_one : Limits → One
+cut_one left = record { status = 1; is_cut = true; left = left }
+
+abbrev pub look_left : Look → Limits → Look
+look_left look left = record look { lines = left.lines; bytes = left.bytes }
+
+abbrev pub limits_of : Look → Limits
+limits_of look = record { lines = look.lines; bytes = look.bytes }
+
+-- No more is written, or the buffer is viewed by what is left of the limits.
+abbrev pub ViewsAfter : Look → LeadV → List ℕ → One → Option (List ℕ) → Option (List ℕ)
+    → Option (List ℕ) → Option (List ℕ) → Type 0
+ViewsAfter look lead buffer one before after unsaid said = MatchBool lead.is_cut
+    ((one ≡ cut_one lead.left) × Keeps before after × Keeps unsaid said)
+    (ViewsOne (look_left look lead.left) buffer one before after unsaid said)
+
+-- The line before a buffer and the buffer's lines were written, as far as the limits go.
+pub record ViewsNext (look : Look) (header buffer : List ℕ) (one : One)
+    (before after unsaid said : Option (List ℕ)) : Type 0 where
+  pub between : Option (List ℕ)
+  pub led : Appends before between (lead_of (limits_of look) header).text
+  pub viewed : ViewsAfter look (lead_of (limits_of look) header) buffer one between after
+      unsaid said
+
+-- A beginning of what comes before the buffer was written; or all of it, and viewing failed.
+abbrev pub FailsNext : Look → List ℕ → List ℕ → RunError → Option (List ℕ) → Option (List ℕ)
+    → Option (List ℕ) → Option (List ℕ) → Type 0
+FailsNext look header buffer error before after unsaid said =
+    (WritesBeginning (lead_of (limits_of look) header).text before after × Keeps unsaid said)
+    ⊎ ((between : Option (List ℕ))
+    × Appends before between (lead_of (limits_of look) header).text
+    × ((lead_of (limits_of look) header).is_cut ≡ false)
+    × FailsOne (look_left look (lead_of (limits_of look) header).left) buffer error
+    between after unsaid said)
+
+-- The first buffer was viewed, and then what follows it. Before it are so many buffers and bytes.
+pub record ViewsFirst (look : Look) (number at : ℕ) (buffer bytes : List ℕ)
+    (before unsaid : Option (List ℕ))
+    (Follows : List ℕ → One → Option (List ℕ) → Option (List ℕ) → Type 0) : Type 0 where
   pub rest : List ℕ
-  pub status : ℕ
+  pub one : One
   pub written : Option (List ℕ)
   pub said : Option (List ℕ)
   pub split : SplitsSized bytes buffer rest
-  pub first : ViewsOne look buffer status before written unsaid said
-  pub follows : Follows rest status written said
+  pub first : ViewsNext look (header_text (number + 1) (at + 4)) buffer one before written
+      unsaid said
+  pub follows : Follows rest one written said
 
--- These buffers, each after its size, were viewed in order. `worst` is the greatest status of those
--- before.
-abbrev pub ViewsSized : Look → List (List ℕ) → List ℕ → ℕ → ℕ → Option (List ℕ)
+-- Nothing follows a buffer at which a limit was reached.
+pub record EndsCut (buffers : List (List ℕ)) (worst status : ℕ)
+    (before after unsaid said : Option (List ℕ)) : Type 0 where
+  pub last : buffers ≡ []
+  pub is : status ≡ worst
+  pub kept : Keeps before after
+  pub unsaid_kept : Keeps unsaid said
+
+-- These buffers, each after its size, were viewed in order, by the limits for all of them. `worst`
+-- is the greatest status of those before.
+abbrev pub ViewsSized : Look → ℕ → ℕ → List (List ℕ) → List ℕ → ℕ → ℕ → Option (List ℕ)
     → Option (List ℕ) → Option (List ℕ) → Option (List ℕ) → Type 0
-ViewsSized look [] bytes worst status before after unsaid said =
+ViewsSized look number at [] bytes worst status before after unsaid said =
     EndsSized look bytes worst status before after unsaid said
-ViewsSized look (buffer ∷ buffers) bytes worst status before after unsaid said =
-    ViewsFirst look buffer bytes before unsaid (λ rest one written told.
-    ViewsSized look buffers rest (max worst one) status written after told said)
+ViewsSized look number at (buffer ∷ buffers) bytes worst status before after unsaid said =
+    ViewsFirst look number at buffer bytes before unsaid (λ rest one written told.
+    MatchBool one.is_cut
+    (EndsCut buffers (max worst one.status) status written after told said)
+    (ViewsSized (look_left look one.left) (number + 1) (at + (4 + length buffer)) buffers rest
+    (max worst one.status) status written after told said))
 
 -- Viewing the next buffer failed, or saying that the bytes end before it does.
-abbrev pub FailsNext : Look → List ℕ → RunError → Option (List ℕ) → Option (List ℕ)
+abbrev pub FailsThere : Look → ℕ → ℕ → List ℕ → RunError → Option (List ℕ) → Option (List ℕ)
     → Option (List ℕ) → Option (List ℕ) → Type 0
-FailsNext look bytes error before after unsaid said =
+FailsThere look number at bytes error before after unsaid said =
     ((buffer : List ℕ) × (rest : List ℕ) × SplitsSized bytes buffer rest
-    × FailsOne look buffer error before after unsaid said)
+    × FailsNext look (header_text (number + 1) (at + 4)) buffer error before after unsaid said)
     ⊎ (EndsEarly bytes × Keeps before after × WritesBeginning
     (line_of [] look.name (codes " ends before a buffer does")) unsaid said)
 
 -- These buffers, each after its size, were viewed in order, and the next failed.
-abbrev pub FailsSized : Look → List (List ℕ) → List ℕ → RunError → Option (List ℕ)
+abbrev pub FailsSized : Look → ℕ → ℕ → List (List ℕ) → List ℕ → RunError → Option (List ℕ)
     → Option (List ℕ) → Option (List ℕ) → Option (List ℕ) → Type 0
-FailsSized look [] bytes error before after unsaid said =
-    FailsNext look bytes error before after unsaid said
-FailsSized look (buffer ∷ buffers) bytes error before after unsaid said =
-    ViewsFirst look buffer bytes before unsaid (λ rest one written told.
-    FailsSized look buffers rest error written after told said)
+FailsSized look number at [] bytes error before after unsaid said =
+    FailsThere look number at bytes error before after unsaid said
+FailsSized look number at (buffer ∷ buffers) bytes error before after unsaid said =
+    ViewsFirst look number at buffer bytes before unsaid (λ rest one written told.
+    (one.is_cut ≡ false) × FailsSized (look_left look one.left) (number + 1)
+    (at + (4 + length buffer)) buffers rest error written after told said)
 
 -- One buffer failed to be viewed, or one of several.
 abbrev pub FailsViews : Bool → Look → List ℕ → RunError → Option (List ℕ) → Option (List ℕ)
@@ -158,15 +267,15 @@ abbrev pub FailsViews : Bool → Look → List ℕ → RunError → Option (List
 FailsViews false look bytes error before after unsaid said =
     FailsOne look bytes error before after unsaid said
 FailsViews true look bytes error before after unsaid said =
-    (buffers : List (List ℕ)) × FailsSized look buffers bytes error before after unsaid said
+    (buffers : List (List ℕ)) × FailsSized look 0 0 buffers bytes error before after unsaid said
 
 -- One buffer was viewed, or several, each after its size.
 abbrev pub Views : Bool → Look → List ℕ → ℕ → Option (List ℕ) → Option (List ℕ)
     → Option (List ℕ) → Option (List ℕ) → Type 0
 Views false look bytes status before after unsaid said =
-    ViewsOne look bytes status before after unsaid said
+    ViewsAlone look bytes status before after unsaid said
 Views true look bytes status before after unsaid said =
-    (buffers : List (List ℕ)) × ViewsSized look buffers bytes 0 status before after unsaid said
+    (buffers : List (List ℕ)) × ViewsSized look 0 0 buffers bytes 0 status before after unsaid said
 
 abbrev pub look_by : Schema → Dumped → Limits → List ℕ → Look
 look_by schema shows limits name = record {

@@ -31,7 +31,7 @@ command_words = codes "check" ∷ codes "format" ∷ codes "view" ∷ codes "rat
 
 abbrev pub option_words : Command → List (List ℕ)
 option_words Check = codes "-I" ∷ codes "--help" ∷ codes "-h" ∷ []
-option_words Format = codes "--write" ∷ codes "--drop-comments" ∷ codes "--help" ∷ codes "-h" ∷ []
+option_words Format = codes "--write" ∷ codes "--check" ∷ codes "--help" ∷ codes "-h" ∷ []
 option_words View = codes "--root" ∷ codes "--size-prefixed" ∷ codes "--lines" ∷ codes "--bytes"
     ∷ codes "-I" ∷ codes "--help" ∷ codes "-h" ∷ []
 option_words RattleCommand =

@@ -1,6 +1,6 @@
 -- What is written of a buffer.
 use Rattle.std.specs.Prelude.{◌≡◌, ℕ, ◌&&◌, not, Bool, true, false, List, [], ◌++◌}
-use Rattle.std.specs.Prelude.{codes, Option, take, length, ◌<◌, ◌+◌, ◌⊎◌}
+use Rattle.std.specs.Prelude.{codes, Option, take, length, ◌<◌, ◌≤◌, ◌+◌, ◌⊎◌}
 use Rattle.std.specs.Int.{from_le_bytes, w32}
 use Rattle.std.specs.List.{list_any}
 use Rattle.std.specs.Io.KnownBytes.{Appends, Keeps}
@@ -9,11 +9,13 @@ use Rattle.planus_commands.specs.declared.streams.RunError.{RunError}
 use Rattle.planus_commands.specs.declared.streams.RunError.TheVariants.{OutOfMemory, Read, Write}
 use Rattle.planus_commands.specs.declared.streams.RunError.TheVariants.{BadSchema}
 use Rattle.planus_dump.specs.FaultLines.{is_fault_line}
-use Rattle.planus_dump.specs.Views.{Viewed, lines_text}
+use Rattle.planus_dump.specs.Dumped.{events_of}
+use Rattle.planus_dump.specs.Views.{Viewed, LeavesRoom, lines_text}
 use Rattle.planus_dump.specs.Writing.{WritesBeginning}
 use Rattle.planus_dump.specs.declared.schemas.Schema.{Schema}
 use Rattle.planus_dump.specs.declared.view_error.ViewError.{ViewError}
 use Rattle.planus_dump.specs.declared.view_error.ViewError.TheVariants as errors
+use Rattle.planus_dump.specs.declared.views.Seen.{Seen}
 use Rattle.planus_dump.specs.declared.views.End.{End}
 use Rattle.planus_dump.specs.declared.views.End.TheVariants.{Whole, TooDeep, TooManyLines}
 use Rattle.planus_dump.specs.declared.views.End.TheVariants.{TooManyBytes}
@@ -37,14 +39,22 @@ is_whole TooManyBytes = false
 abbrev pub is_clean : End → Bool → Bool
 is_clean end fault = is_whole end && not fault
 
--- The first lines of the buffer were written, and `clean` says whether nothing is wrong.
-pub record WritesView (schema : Schema) (bytes : List ℕ) (most size : ℕ) (clean : Bool)
+-- the limit was reached
+abbrev pub is_cut : End → Bool
+is_cut Whole = false
+is_cut TooDeep = false
+is_cut TooManyLines = true
+is_cut TooManyBytes = true
+
+-- The first lines of the buffer were written, and why they end. `seen` says whether one states an
+-- error, and how much is left of what is wanted.
+pub record WritesView (schema : Schema) (bytes : List ℕ) (most size : ℕ) (seen : Seen)
     (before after : Option (List ℕ)) : Type 0 where
   pub lines : List (List ℕ)
-  pub end : End
-  pub viewed : Viewed schema bytes most size lines end
-  pub clean_is : clean ≡ is_clean end (list_any is_fault_line lines)
-  pub written : Appends before after (view_text lines end)
+  pub viewed : Viewed schema bytes most size lines seen.end
+  pub fault : seen.has_fault ≡ list_any is_fault_line lines
+  pub left : LeavesRoom (events_of schema bytes) lines most size seen.lines_left seen.bytes_left
+  pub written : Appends before after (view_text lines seen.end)
 
 -- a beginning of the first lines of the buffer was written, and nothing else
 pub record BeginsView (schema : Schema) (bytes : List ℕ) (most size : ℕ)
@@ -73,6 +83,7 @@ run_error errors.Write = Write
 
 -- a buffer after its size, a number of four bytes, and what follows it
 pub record SplitsSized (bytes buffer rest : List ℕ) : Type 0 where
+  pub has_size : 4 ≤ length bytes
   pub size : from_le_bytes w32 (take 4 bytes) ≡ length buffer
   pub parts : bytes ≡ take 4 bytes ++ (buffer ++ rest)
   pub shorter : length rest < length bytes

@@ -8,6 +8,11 @@ ghost use Rattle.planus_commands.specs.Buffers.{root_of as root_lem, no_root_tex
 ghost use Rattle.planus_commands.specs.Buffers.{has_identifier as has_identifier_lem};
 ghost use Rattle.planus_commands.specs.Buffers.{other_identifier_text, ChecksIdentifier, limit_of};
 ghost use Rattle.planus_commands.specs.Buffers.{look_of, ViewsOne, ViewsSized, ViewsBytes, ViewsBy};
+ghost use Rattle.planus_commands.specs.Buffers.{one_of as one_of_lem, cut_one as cut_one_lem};
+ghost use Rattle.planus_commands.specs.Buffers.{ViewsAlone, ViewsNext, FailsNext, header_text};
+ghost use Rattle.planus_commands.specs.Buffers.{lead_view, lead_of, look_left};
+ghost use Rattle.planus_commands.specs.Buffers.{limit_reached as limit_reached_lem};
+ghost use Rattle.planus_commands.specs.Buffers.{limits_after as limits_after_lem};
 ghost use Rattle.planus_commands.specs.Buffers.{FailsIdentifier, FailsOne, FailsSized, FailsBytes};
 ghost use Rattle.planus_commands.specs.Buffers.{FailsBy};
 ghost use Rattle.planus_dump.specs.Writing.{WritesBeginning};
@@ -21,7 +26,8 @@ use crate::said::{CLEAN, FAILED, FAULTY};
 use crate::shown::put_shown;
 use crate::sources::{bytes_of, schema_at};
 use crate::streams::{RunError, say, write_out};
-use crate::viewing::{Limits, view_buffer};
+use crate::viewing::{Limits, end_text, is_clean, is_cut, view_buffer};
+use planus_dump::{End, Seen};
 use planus_inspect::dump_schema;
 use planus_layout::{Body, Declared, Schema};
 use std::alloc::{AllocError, Global};
@@ -146,14 +152,41 @@ struct View<'a> {
     name: &'a str,
 }
 
+/// What became of a buffer.
+#[derive(Clone, Copy)]
+struct One {
+    status: u8,
+    /// Whether a limit was reached.
+    is_cut: bool,
+    /// What is left of the limits.
+    left: Limits,
+}
+
+fn one_of(known: bool, seen: Seen) -> One
+    ensures { result ≡ one_of_lem known seen }
+{
+    One {
+        status: if known && is_clean(seen) {
+            CLEAN
+        } else {
+            FAULTY
+        },
+        is_cut: is_cut(seen.end),
+        left: Limits {
+            lines: seen.lines_left,
+            bytes: seen.bytes_left,
+        },
+    }
+}
+
 fn view_one<W: Write, X: Write>(
     alloc: Global,
     view: &View<'_>,
     bytes: &[u8],
     writer: &mut W,
     errors: &mut X,
-) -> Result<u8, RunError>
-    ensures views { IfOk result (λ status. ViewsOne (look_of view.now) bytes.now status
+) -> Result<One, RunError>
+    ensures views { IfOk result (λ one. ViewsOne (look_of view.now) bytes.now one
         (W.contents writer.old) (W.contents writer.new)
         (X.contents errors.old) (X.contents errors.new)) }
     ensures failed { IfErr result (λ error. FailsOne (look_of view.now) bytes.now error
@@ -161,8 +194,142 @@ fn view_one<W: Write, X: Write>(
         (X.contents errors.old) (X.contents errors.new)) }
 {
     let known = check_identifier(alloc, view.schema, view.name, bytes, errors)?;
-    let clean = view_buffer(alloc, view.shown, bytes, view.limits, writer)?;
-    Ok(if known && clean { CLEAN } else { FAULTY })
+    let seen = view_buffer(alloc, view.shown, bytes, view.limits, writer)?;
+    Ok(one_of(known, seen))
+}
+
+fn view_alone<W: Write, X: Write>(
+    alloc: Global,
+    view: &View<'_>,
+    bytes: &[u8],
+    writer: &mut W,
+    errors: &mut X,
+) -> Result<u8, RunError>
+    ensures views { IfOk result (λ status. ViewsAlone (look_of view.now) bytes.now status
+        (W.contents writer.old) (W.contents writer.new)
+        (X.contents errors.old) (X.contents errors.new)) }
+    ensures failed { IfErr result (λ error. FailsOne (look_of view.now) bytes.now error
+        (W.contents writer.old) (W.contents writer.new)
+        (X.contents errors.old) (X.contents errors.new)) }
+{
+    match view_one(alloc, view, bytes, writer, errors) {
+        Ok(one) => Ok(one.status),
+        Err(error) => Err(error),
+    }
+}
+
+/// Returns the line before a buffer, without its line feed.
+fn header(alloc: Global, number: usize, at: usize) -> Result<Vec<u8>, AllocError>
+    ensures { IfOk result (λ text. text.items ≡ header_text number at) }
+{
+    let mut text = Vec::from_slice(alloc, b"buffer ")?;
+    text.extend_from_slice(format!(in alloc; "{number}")?.as_bytes())?;
+    text.extend_from_slice(b" at byte ")?;
+    text.extend_from_slice(format!(in alloc; "{at}")?.as_bytes())?;
+    text.push(b':')?;
+    Ok(text)
+}
+
+/// Returns which limit has no room for a line.
+fn limit_reached(limits: Limits, line: &[u8]) -> Option<End>
+    ensures { result ≡ limit_reached_lem limits line.now }
+{
+    if limits.lines == 0 {
+        Some(End::TooManyLines)
+    } else if limits.bytes < line.len() {
+        Some(End::TooManyBytes)
+    } else {
+        None
+    }
+}
+
+/// Returns what is left of the limits after a line.
+fn limits_after(limits: Limits, line: &[u8]) -> Limits
+    ensures { result ≡ limits_after_lem limits line.now }
+{
+    Limits {
+        lines: limits.lines.saturating_sub(1),
+        bytes: limits.bytes.saturating_sub(line.len()),
+    }
+}
+
+/// What is written before a buffer.
+#[derive(Drop)]
+struct Lead {
+    text: Vec<u8>,
+    /// Whether a limit was reached.
+    is_cut: bool,
+    /// What is left of the limits.
+    left: Limits,
+}
+
+/// Returns the line before a buffer, or why no more follows if it has no room.
+fn lead_before(alloc: Global, limits: Limits, number: usize, at: usize) -> Result<Lead, AllocError>
+    ensures { IfOk result (λ lead. lead_view lead ≡ lead_of limits (header_text number at)) }
+{
+    let mut text = header(alloc, number, at)?;
+    if let Some(end) = limit_reached(limits, &text) {
+        let text = Vec::from_slice(alloc, end_text(end).as_bytes())?;
+        return Ok(Lead {
+            text,
+            is_cut: true,
+            left: limits,
+        });
+    }
+    let left = limits_after(limits, &text);
+    text.push(b'\n')?;
+    Ok(Lead {
+        text,
+        is_cut: false,
+        left,
+    })
+}
+
+/// Views one of several buffers, by what is left of the limits.
+fn view_next<W: Write, X: Write>(
+    alloc: Global,
+    view: &View<'_>,
+    number: usize,
+    at: usize,
+    bytes: &[u8],
+    writer: &mut W,
+    errors: &mut X,
+) -> Result<One, RunError>
+    ensures views { IfOk result (λ one. ViewsNext (look_of view.now) (header_text number at)
+        bytes.now one (W.contents writer.old) (W.contents writer.new)
+        (X.contents errors.old) (X.contents errors.new)) }
+    ensures failed { IfErr result (λ error. FailsNext (look_of view.now) (header_text number at)
+        bytes.now error (W.contents writer.old) (W.contents writer.new)
+        (X.contents errors.old) (X.contents errors.new)) }
+{
+    let lead = lead_before(alloc, view.limits, number, at)?;
+    write_out(writer, &lead.text)?;
+    if lead.is_cut {
+        return Ok(cut_one(lead.left));
+    }
+    let view = with_limits(view, lead.left);
+    view_one(alloc, &view, bytes, writer, errors)
+}
+
+fn cut_one(left: Limits) -> One
+    ensures { result ≡ cut_one_lem left }
+{
+    One {
+        status: FAULTY,
+        is_cut: true,
+        left,
+    }
+}
+
+fn with_limits<'a>(view: &View<'a>, limits: Limits) -> View<'a>
+    ensures { look_of result ≡ look_left (look_of view.now) limits }
+{
+    View {
+        schema: view.schema,
+        shown: view.shown,
+        limits,
+        name: view.name,
+    }
 }
 
 fn view_sized<W: Write, X: Write>(
@@ -173,23 +340,33 @@ fn view_sized<W: Write, X: Write>(
     errors: &mut X,
 ) -> Result<u8, RunError>
     ensures views { IfOk result (λ status. (buffers : List (List ℕ))
-        × ViewsSized (look_of view.now) buffers bytes.now 0 status
+        × ViewsSized (look_of view.now) 0 0 buffers bytes.now 0 status
         (W.contents writer.old) (W.contents writer.new)
         (X.contents errors.old) (X.contents errors.new)) }
     ensures failed { IfErr result (λ error. (buffers : List (List ℕ))
-        × FailsSized (look_of view.now) buffers bytes.now error
+        × FailsSized (look_of view.now) 0 0 buffers bytes.now error
         (W.contents writer.old) (W.contents writer.new)
         (X.contents errors.old) (X.contents errors.new)) }
 {
     let mut rest = bytes;
     let mut worst = CLEAN;
+    let mut number = 0;
+    let mut at = 0;
+    let mut left = view.limits;
     'buffers: while !rest.is_empty() {
         let Some((buffer, after)) = split_sized(rest) else {
             say(alloc, errors, "", view.name, " ends before a buffer does")?;
             return Ok(FAULTY);
         };
-        let status = view_one(alloc, view, buffer, writer, errors)?;
-        worst = worst.max(status);
+        let view = with_limits(view, left);
+        let one = view_next(alloc, &view, number + 1, at + 4, buffer, writer, errors)?;
+        worst = worst.max(one.status);
+        if one.is_cut {
+            return Ok(worst);
+        }
+        number += 1;
+        at += 4 + buffer.len();
+        left = one.left;
         rest = after;
     }
     Ok(worst)
@@ -202,7 +379,7 @@ pub struct Viewing {
     pub root: usize,
     /// Whether the file holds buffers, each after its size.
     pub size_prefixed: bool,
-    /// How much of each is shown.
+    /// How much of the file is shown.
     pub limits: Limits,
 }
 
@@ -234,7 +411,7 @@ pub fn view_bytes<W: Write, X: Write>(
     if how.size_prefixed {
         view_sized(alloc, &view, bytes, writer, errors)
     } else {
-        view_one(alloc, &view, bytes, writer, errors)
+        view_alone(alloc, &view, bytes, writer, errors)
     }
 }
 

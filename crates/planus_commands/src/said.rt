@@ -161,7 +161,7 @@ fn option_words(command: Command) -> &'static [&'static str]
 {
     match command {
         Command::Check => &["-I", "--help", "-h"],
-        Command::Format => &["--write", "--drop-comments", "--help", "-h"],
+        Command::Format => &["--write", "--check", "--help", "-h"],
         Command::View => {
             &[
                 "--root",

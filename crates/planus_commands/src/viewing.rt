@@ -3,6 +3,7 @@
 ghost use Rattle.std.specs.Prelude.{◌≡◌, IfOk, IfErr};
 ghost use Rattle.planus_commands.specs.Viewing.{end_text as end_lem};
 ghost use Rattle.planus_commands.specs.Viewing.{is_clean as is_clean_lem, WritesView};
+ghost use Rattle.planus_commands.specs.Viewing.{is_cut as is_cut_lem};
 ghost use Rattle.planus_commands.specs.Viewing.{FailsViewing};
 
 use crate::streams::{RunError, write_out};
@@ -34,7 +35,7 @@ impl From<ViewError> for RunError {
     }
 }
 
-fn end_text(end: End) -> &'static str
+pub(crate) fn end_text(end: End) -> &'static str
     ensures { result.now ≡ end_lem end }
 {
     match end {
@@ -45,14 +46,22 @@ fn end_text(end: End) -> &'static str
     }
 }
 
-fn is_clean(seen: Seen) -> bool
+/// Whether all is shown and no line states an error.
+pub(crate) fn is_clean(seen: Seen) -> bool
     ensures { result ≡ is_clean_lem seen.end seen.has_fault }
 {
     matches!(seen.end, End::Whole) && !seen.has_fault
 }
 
-/// Writes the first lines of a buffer as they are made, and why more are left out. Returns whether
-/// all is shown and no line states an error.
+/// Whether a limit was reached.
+pub(crate) fn is_cut(end: End) -> bool
+    ensures { result ≡ is_cut_lem end }
+{
+    matches!(end, End::TooManyLines | End::TooManyBytes)
+}
+
+/// Writes the first lines of a buffer as they are made, and why more are left out. Returns why, and
+/// whether a line states an error, and how much of the limits is left.
 ///
 /// Fails where memory is refused or writing fails, after a beginning of them, and with
 /// [`RunError::BadSchema`] for a schema that isn't good (a sound one's is).
@@ -62,13 +71,13 @@ pub fn view_buffer<W: Write>(
     bytes: &[u8],
     limits: Limits,
     writer: &mut W,
-) -> Result<bool, RunError>
-    ensures shown { IfOk result (λ clean. WritesView schema.now bytes.now limits.lines limits.bytes
-        clean (W.contents writer.old) (W.contents writer.new)) }
+) -> Result<Seen, RunError>
+    ensures shown { IfOk result (λ seen. WritesView schema.now bytes.now limits.lines limits.bytes
+        seen (W.contents writer.old) (W.contents writer.new)) }
     ensures failed { IfErr result (λ error. FailsViewing schema.now bytes.now limits.lines
         limits.bytes error (W.contents writer.old) (W.contents writer.new)) }
 {
     let seen = view(alloc, schema, bytes, limits.lines, limits.bytes, writer)?;
     write_out(writer, end_text(seen.end).as_bytes())?;
-    Ok(is_clean(seen))
+    Ok(seen)
 }

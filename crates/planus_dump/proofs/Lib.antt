@@ -13,6 +13,7 @@ mod Names
 mod NoFaults
 mod CleanDumps
 mod Ending
+mod Left
 mod Viewed
 pub mod Begun
 pub mod AsRead

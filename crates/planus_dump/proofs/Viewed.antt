@@ -10,7 +10,8 @@ use Rattle.planus_dump.specs.Dumped.{AreShown, events_of}
 use Rattle.planus_dump.specs.Events.{Event}
 use Rattle.planus_dump.specs.FaultLines.{is_fault_line}
 use Rattle.planus_dump.specs.Schemas.{is_good}
-use Rattle.planus_dump.specs.Views.{EndsBy, lines_text, WritesView, BeginsView, FailsView}
+use Rattle.std.specs.Option.{unwrap_or}
+use Rattle.planus_dump.specs.Views.{LeavesRoom, EndsBy, lines_text, WritesView, BeginsView, FailsView}
 use Rattle.planus_dump.specs.Writing.{WritesBeginning}
 use Rattle.planus_dump.specs.declared.line_sink.LineSink.{LineSink}
 use Rattle.planus_dump.specs.declared.line_writer.LineWriter.{LineWriter}
@@ -25,6 +26,7 @@ use Rattle.planus_dump.specs.inner.Feeding.{Outcome, Shows, Fed}
 use Rattle.planus_dump.specs.inner.Writes.{WritesOn, BeginsOn, Writes, WritesPart}
 use Rattle.planus_dump.proofs.Ending.{ends_by, are_lines, lines_after}
 use Rattle.planus_dump.proofs.Feeds.{AreLines, Answered, walked, some_line, some_lines_shown}
+use Rattle.planus_dump.proofs.Left.{leaves_room}
 use Rattle.planus_dump.proofs.Walked.{shown_after}
 use Rattle.planus_dump.proofs.Writes.{shown-append, begins_more, on_begun}
 
@@ -43,6 +45,7 @@ module _ {W : Type 0} (contents : W → Option (List ℕ)) where
   pub record Wrote (start : LineWriter W) (es : List Event) (most size : ℕ) (out : LineSink (LineWriter W)) : Type 0 where
     pub lines : List (List ℕ)
     pub ends : EndsBy (end_of out.stop) es lines most size
+    pub left : LeavesRoom es lines most size out.left (unwrap_or out.room 0)
     pub fault : out.lines.has_fault ≡ list_any is_fault_line lines
     pub written : WritesOn contents start (lines_text lines) out.lines
 
@@ -71,6 +74,7 @@ module _ {W : Type 0} (contents : W → Option (List ℕ)) where
       record {
         lines = did.lines;
         ends = subst (λ stop. EndsBy (end_of stop) es did.lines most size) (sym shows.stop) (ends_by es s.lines did.lines most size s.stop answered did.shown);
+        left = leaves_room es did.lines most size out.left out.room did.shown shows.left shows.room;
         fault = did.fault ∙ ap (λ b. b || list_any is_fault_line did.lines) new.fault;
         written = did.written;
       }
@@ -110,7 +114,7 @@ module _ {W : Type 0} (contents : W → Option (List ℕ)) where
       → Fed (Writes contents) (WritesPart contents) old (events_of schema bytes) r out → IsOk r → end ≡ end_of out.stop
       → Appends (contents out.lines.writer.now) (contents mid) out.lines.block.items
       → (out.lines.writer.ghost_name ≡ start.writer.ghost_name → last ≡ mid)
-      → WritesView schema bytes most size (record { end = end; has_fault = out.lines.has_fault }) (contents start.writer.now) (contents last)
+      → WritesView schema bytes most size (record { end = end; has_fault = out.lines.has_fault; lines_left = out.left; bytes_left = unwrap_or out.room 0 }) (contents start.writer.now) (contents last)
   whole schema bytes most size start old out (Err error) mid last end good new begun fed is ended rest there = cc
   whole schema bytes most size start old out (Ok u) mid last end good new begun fed is ended rest there =
       let did = wrote start old out (events_of schema bytes) most size new begun fed in
@@ -119,6 +123,7 @@ module _ {W : Type 0} (contents : W → Option (List ℕ)) where
         lines = did.lines;
         viewed = record { good = good; ends = subst (λ end. EndsBy end (events_of schema bytes) did.lines most size) (sym ended) did.ends };
         fault = did.fault;
+        left = did.left;
         written = subst (λ w. Appends (contents start.writer.now) (contents w) (lines_text did.lines)) (sym (there did.written.same))
             (subst (Appends (contents start.writer.now) (contents mid)) (sym (ap (λ l. l ++ lines_text did.lines) (sym new.block) ∙ split))
             (Appends-trans _ _ _ front out.lines.block.items added rest));
@@ -131,9 +136,9 @@ module _ {W : Type 0} (contents : W → Option (List ℕ)) where
       → Fed (Writes contents) (WritesPart contents) old (events_of schema bytes) r out → IsOk r → end ≡ end_of out.stop
       → Appends (contents out.lines.writer.now) (contents mid) out.lines.block.items → start.writer.now ≡ lent
       → (last : W) → (out.lines.writer.ghost_name ≡ start.writer.ghost_name → last ≡ mid)
-      → WritesView schema bytes most size (record { end = end; has_fault = out.lines.has_fault }) (contents lent) (contents last)
+      → WritesView schema bytes most size (record { end = end; has_fault = out.lines.has_fault; lines_left = out.left; bytes_left = unwrap_or out.room 0 }) (contents lent) (contents last)
   whole_lent schema bytes most size start old out r mid lent end good new begun fed is ended rest from last there =
-      subst (λ w. WritesView schema bytes most size (record { end = end; has_fault = out.lines.has_fault }) (contents w) (contents last)) from
+      subst (λ w. WritesView schema bytes most size (record { end = end; has_fault = out.lines.has_fault; lines_left = out.left; bytes_left = unwrap_or out.room 0 }) (contents w) (contents last)) from
       (whole schema bytes most size start old out r mid last end good new begun fed is ended rest there)
 
   pub part : (schema : Schema) (bytes : List ℕ) (most size : ℕ) (start : LineWriter W) (old out : LineSink (LineWriter W)) (r : Outcome) (mid last : W)

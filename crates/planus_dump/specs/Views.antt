@@ -54,12 +54,22 @@ pub record Viewed (schema : Schema) (bytes : List ℕ) (most size : ℕ)
 abbrev pub lines_text : List (List ℕ) → List ℕ
 lines_text lines = flat_map (λ line. line ++ 10 ∷ []) lines
 
--- The first lines of the buffer were written, and it is told whether one states an error.
+-- The lines are those of the first events, and leave so many lines and bytes of what is wanted.
+pub record LeavesRoom (es : List Event) (lines : List (List ℕ)) (most size more room : ℕ) : Type 0
+  where
+    pub rest : List Event
+    pub begin : Begin es lines rest
+    pub lines_left : length lines + more ≡ most
+    pub bytes_left : costs begin.front + room ≡ size
+
+-- The first lines of the buffer were written, and it is told whether one states an error, and how
+-- much is left of what is wanted.
 pub record WritesView (schema : Schema) (bytes : List ℕ) (most size : ℕ) (seen : Seen)
     (before after : Option (List ℕ)) : Type 0 where
   pub lines : List (List ℕ)
   pub viewed : Viewed schema bytes most size lines seen.end
   pub fault : seen.has_fault ≡ list_any is_fault_line lines
+  pub left : LeavesRoom (events_of schema bytes) lines most size seen.lines_left seen.bytes_left
   pub written : Appends before after (lines_text lines)
 
 -- a beginning of the first lines of the buffer was written, and nothing else

@@ -37,6 +37,10 @@ pub struct Seen {
     pub end: End,
     /// Whether one states an error.
     pub has_fault: bool,
+    /// How many lines might still come.
+    pub lines_left: usize,
+    /// How many of their bytes.
+    pub bytes_left: usize,
 }
 
 fn end_of(stop: Stop) -> End
@@ -93,7 +97,13 @@ pub fn view<W: Write>(
     }
     let mut out = LineSink::new(alloc, LineWriter::new(alloc, writer), most, Some(size));
     let walked = walk_from_root(&mut out, schema, bytes);
-    let LineSink { lines, stop, .. } = out;
+    let LineSink {
+        lines,
+        left,
+        room,
+        stop,
+        ..
+    } = out;
     let LineWriter {
         writer,
         block,
@@ -104,5 +114,7 @@ pub fn view<W: Write>(
     Ok(Seen {
         end: end_of(stop),
         has_fault,
+        lines_left: left,
+        bytes_left: room.unwrap_or(0),
     })
 }

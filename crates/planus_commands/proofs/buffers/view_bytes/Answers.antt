@@ -18,14 +18,14 @@ returns-then-how-clause-failed g c =
 
 pub returns-clause-views : goal.returns-clause-views
 returns-clause-views g c =
-    viewed c.args.schema.now c.args.how c.args.name.now c.args.bytes.now c.in_ok-shown.shown false c.view_one.result
-    (g.W.Write.contents c.args.writer.now) (g.W.Write.contents c.view_one.new.writer)
-    (g.X.Write.contents c.args.errors.now) (g.X.Write.contents c.view_one.new.errors)
-    c.in_ok-shown.ensures.shows c.if-how.false c.view_one.ensures.views
+    viewed c.args.schema.now c.args.how c.args.name.now c.args.bytes.now c.in_ok-shown.shown false c.view_alone.result
+    (g.W.Write.contents c.args.writer.now) (g.W.Write.contents c.view_alone.new.writer)
+    (g.X.Write.contents c.args.errors.now) (g.X.Write.contents c.view_alone.new.errors)
+    c.in_ok-shown.ensures.shows c.if-how.false c.view_alone.ensures.views
 
 pub returns-clause-failed : goal.returns-clause-failed
 returns-clause-failed g c =
-    failed c.args.schema.now c.args.how c.args.name.now c.args.bytes.now c.in_ok-shown.shown false c.view_one.result
-    (g.W.Write.contents c.args.writer.now) (g.W.Write.contents c.view_one.new.writer)
-    (g.X.Write.contents c.args.errors.now) (g.X.Write.contents c.view_one.new.errors)
-    c.in_ok-shown.ensures.shows c.if-how.false c.view_one.ensures.failed
+    failed c.args.schema.now c.args.how c.args.name.now c.args.bytes.now c.in_ok-shown.shown false c.view_alone.result
+    (g.W.Write.contents c.args.writer.now) (g.W.Write.contents c.view_alone.new.writer)
+    (g.X.Write.contents c.args.errors.now) (g.X.Write.contents c.view_alone.new.errors)
+    c.in_ok-shown.ensures.shows c.if-how.false c.view_alone.ensures.failed

@@ -1,11 +1,11 @@
-use Rattle.std.proofs.Common.{ap, sym, subst, ◌∙◌}
+use Rattle.std.proofs.Common.{sym, subst, ◌∙◌}
 use Rattle.std.proofs.KnownBytes.{Appends-trans}
 use Rattle.std.proofs.lemmas.Result.{err_from_is_err_and}
 use Rattle.std.specs.Io.KnownBytes.{Appends}
 use Rattle.planus_dump.specs.Views.{lines_text}
 use Rattle.planus_dump.specs.Writing.{WritesBeginning}
 use Rattle.planus_commands.specs.declared.streams.RunError.{RunError}
-use Rattle.planus_commands.specs.Viewing.{FailsViewing, end_text, is_clean}
+use Rattle.planus_commands.specs.Viewing.{FailsViewing, end_text}
 use Rattle.planus_commands.proofs.ViewedBuffer.{fails, ends}
 use Rattle.planus_commands.proofs.viewing.view_buffer.Goals as goal
 
@@ -15,9 +15,9 @@ returns-clause-shown g c =
     let between = contents c.view.new.writer in let after = contents c.write_out.new.writer in
     record {
       lines = view.lines;
-      end = end;
       viewed = view.viewed;
-      clean_is = c.is_clean.ensures ∙ ap (is_clean end) view.fault;
+      fault = view.fault;
+      left = view.left;
       written = Appends-trans (contents c.args.writer.now) between after (lines_text view.lines) (end_text end) view.written
           (subst (Appends between after) (c.as_bytes.ensures.value ∙ c.end_text.ensures) c.in_ok-write_out.ensures.bytes);
     }
