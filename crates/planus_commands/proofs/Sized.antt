@@ -10,7 +10,7 @@ use Rattle.planus_commands.specs.declared.streams.RunError.{RunError}
 use Rattle.planus_commands.specs.declared.buffers.Viewing.{Viewing}
 use Rattle.planus_commands.specs.Outcomes.{line_of}
 use Rattle.planus_commands.specs.Viewing.{EndsEarly}
-use Rattle.planus_commands.specs.Buffers.{Look, EndsSized, Views, ViewsBytes, FailsViews, FailsBytes, look_by}
+use Rattle.planus_commands.specs.Buffers.{Look, EndsSized, Views, ViewsAdvised, FailsAdvised, ViewsBytes, FailsViews, FailsBytes, look_by}
 
 pub ended : (look : Look) (bytes : List ℕ) (worst : ℕ) (before unsaid : Option (List ℕ)) → length bytes ≡ 0
     → EndsSized look bytes worst worst before before unsaid unsaid
@@ -23,24 +23,26 @@ pub ended_early : (look : Look) (bytes : List ℕ) (worst : ℕ) (before unsaid 
 ended_early look [] worst before unsaid said some early told = absurd (some refl)
 ended_early look (b ∷ bs) worst before unsaid said some early told = (refl, early, Keeps-refl before, told)
 
-pub viewed : (schema : Schema) (how : Viewing) (name bytes : List ℕ) (dumped : Dumped) (prefixed : Bool) (r : Result ℕ RunError)
-    (before after unsaid said : Option (List ℕ)) → Shows schema how.root dumped → how.size_prefixed ≡ prefixed
-    → IfOk r (λ status. Views prefixed (look_by schema dumped how.limits name) bytes status before after unsaid said)
-    → IfOk r (λ status. ViewsBytes schema how name bytes status before after unsaid said)
-viewed schema how name bytes dumped prefixed (Ok status) before after unsaid said shows is h = record {
-  dumped = dumped;
-  shows = shows;
-  views = subst (λ p. Views p (look_by schema dumped how.limits name) bytes status before after unsaid said) (sym is) h;
-}
-viewed schema how name bytes dumped prefixed (Err error) before after unsaid said shows is h = tt
+pub held : (look : Look) (bytes : List ℕ) (prefixed way : Bool) (r : Result ℕ RunError) (before after unsaid said : Option (List ℕ)) → prefixed ≡ way
+    → IfOk r (λ status. Views way look bytes status before after unsaid said) → IfOk r (λ status. Views prefixed look bytes status before after unsaid said)
+held look bytes prefixed way r before after unsaid said is h =
+    subst (λ p. IfOk r (λ status. Views p look bytes status before after unsaid said)) (sym is) h
 
-pub failed : (schema : Schema) (how : Viewing) (name bytes : List ℕ) (dumped : Dumped) (prefixed : Bool) (r : Result ℕ RunError)
-    (before after unsaid said : Option (List ℕ)) → Shows schema how.root dumped → how.size_prefixed ≡ prefixed
-    → IfErr r (λ error. FailsViews prefixed (look_by schema dumped how.limits name) bytes error before after unsaid said)
+pub held_failed : (look : Look) (bytes : List ℕ) (prefixed way : Bool) (r : Result ℕ RunError) (before after unsaid said : Option (List ℕ)) → prefixed ≡ way
+    → IfErr r (λ error. FailsViews way look bytes error before after unsaid said) → IfErr r (λ error. FailsViews prefixed look bytes error before after unsaid said)
+held_failed look bytes prefixed way r before after unsaid said is h =
+    subst (λ p. IfErr r (λ error. FailsViews p look bytes error before after unsaid said)) (sym is) h
+
+pub viewed : (schema : Schema) (how : Viewing) (name bytes : List ℕ) (dumped : Dumped) (r : Result ℕ RunError) (before after unsaid said : Option (List ℕ))
+    → Shows schema how.root dumped
+    → IfOk r (λ status. ViewsAdvised how.size_prefixed (look_by schema dumped how.limits name) bytes status before after unsaid said)
+    → IfOk r (λ status. ViewsBytes schema how name bytes status before after unsaid said)
+viewed schema how name bytes dumped (Ok status) before after unsaid said shows h = record { dumped = dumped; shows = shows; views = h }
+viewed schema how name bytes dumped (Err error) before after unsaid said shows h = tt
+
+pub failed : (schema : Schema) (how : Viewing) (name bytes : List ℕ) (dumped : Dumped) (r : Result ℕ RunError) (before after unsaid said : Option (List ℕ))
+    → Shows schema how.root dumped
+    → IfErr r (λ error. FailsAdvised how.size_prefixed (look_by schema dumped how.limits name) bytes error before after unsaid said)
     → IfErr r (λ error. FailsBytes schema how name bytes error before after unsaid said)
-failed schema how name bytes dumped prefixed (Ok status) before after unsaid said shows is h = tt
-failed schema how name bytes dumped prefixed (Err error) before after unsaid said shows is h = inr (record {
-  dumped = dumped;
-  shows = shows;
-  fails = subst (λ p. FailsViews p (look_by schema dumped how.limits name) bytes error before after unsaid said) (sym is) h;
-})
+failed schema how name bytes dumped (Ok status) before after unsaid said shows h = tt
+failed schema how name bytes dumped (Err error) before after unsaid said shows h = inr (record { dumped = dumped; shows = shows; fails = h })

@@ -8,6 +8,9 @@ use Rattle.std.specs.Str.{bytes_eq}
 use Rattle.std.specs.Io.KnownBytes.{Appends, Keeps}
 use Rattle.planus_dump.specs.declared.schemas.Schema.{Schema as Dumped}
 use Rattle.planus_inspect.specs.Shown.{Shows}
+use Rattle.std.specs.List.{list_any}
+use Rattle.planus_dump.specs.FaultLines.{is_fault_line}
+use Rattle.planus_dump.specs.Views.{Viewed}
 use Rattle.planus_dump.specs.declared.views.Seen.{Seen}
 use Rattle.planus_dump.specs.declared.views.End.{End}
 use Rattle.planus_dump.specs.declared.views.End.TheVariants.{TooManyLines, TooManyBytes}
@@ -277,6 +280,72 @@ Views false look bytes status before after unsaid said =
 Views true look bytes status before after unsaid said =
     (buffers : List (List ℕ)) × ViewsSized look 0 0 buffers bytes 0 status before after unsaid said
 
+-- whether the first line of a view of all bytes states no error
+pub record ReadsRoot (schema : Dumped) (bytes : List ℕ) (reads : Bool) : Type 0 where
+  pub lines : List (List ℕ)
+  pub end : End
+  pub viewed : Viewed schema bytes 1 18446744073709551615 lines end
+  pub is : reads ≡ not (list_any is_fault_line lines)
+
+-- whether the bytes begin with a size and a buffer of this size, of which the same holds
+abbrev pub ReadsFirst : Dumped → List ℕ → Bool → Type 0
+ReadsFirst schema bytes reads = (EndsEarly bytes × (reads ≡ false))
+    ⊎ ((buffer : List ℕ) × (rest : List ℕ) × SplitsSized bytes buffer rest
+    × ReadsRoot schema buffer reads)
+
+-- Said is that the other way may be meant: that can be read at its root, and this can't.
+abbrev pub advice_of : Bool → Bool → Bool → Option (List ℕ)
+advice_of false false true =
+    Some (codes " may hold buffers, each after its size; see --size-prefixed")
+advice_of true true false =
+    Some (codes " may be a buffer without its size; leave out --size-prefixed")
+advice_of prefixed whole first = None
+
+abbrev pub SaysAdvice : Option (List ℕ) → List ℕ → Option (List ℕ) → Option (List ℕ) → Type 0
+SaysAdvice None name unsaid said = Keeps unsaid said
+SaysAdvice (Some text) name unsaid said = Appends unsaid said (line_of [] name text)
+
+-- The advice was said, if there is one.
+pub record Advises (look : Look) (prefixed : Bool) (bytes : List ℕ)
+    (unsaid said : Option (List ℕ)) : Type 0 where
+  pub whole : Bool
+  pub first : Bool
+  pub whole_is : ReadsRoot look.schema bytes whole
+  pub first_is : ReadsFirst look.schema bytes first
+  pub told : SaysAdvice (advice_of prefixed whole first) look.name unsaid said
+
+-- a beginning of the advice was said
+pub record BeginsAdvice (look : Look) (prefixed : Bool) (bytes : List ℕ)
+    (unsaid said : Option (List ℕ)) : Type 0 where
+  pub whole : Bool
+  pub first : Bool
+  pub text : List ℕ
+  pub whole_is : ReadsRoot look.schema bytes whole
+  pub first_is : ReadsFirst look.schema bytes first
+  pub is : advice_of prefixed whole first ≡ Some text
+  pub told : WritesBeginning (line_of [] look.name text) unsaid said
+
+-- Memory was refused before anything was said, or a beginning of the advice was.
+abbrev pub FailsAdvising : Look → Bool → List ℕ → Option (List ℕ) → Option (List ℕ) → Type 0
+FailsAdvising look prefixed bytes unsaid said =
+    Keeps unsaid said ⊎ BeginsAdvice look prefixed bytes unsaid said
+
+-- The buffers were viewed, and then the advice was said.
+abbrev pub ViewsAdvised : Bool → Look → List ℕ → ℕ → Option (List ℕ) → Option (List ℕ)
+    → Option (List ℕ) → Option (List ℕ) → Type 0
+ViewsAdvised prefixed look bytes status before after unsaid said =
+    (told : Option (List ℕ)) × Views prefixed look bytes status before after unsaid told
+    × Advises look prefixed bytes told said
+
+-- Viewing failed, or saying the advice after it.
+abbrev pub FailsAdvised : Bool → Look → List ℕ → RunError → Option (List ℕ) → Option (List ℕ)
+    → Option (List ℕ) → Option (List ℕ) → Type 0
+FailsAdvised prefixed look bytes error before after unsaid said =
+    FailsViews prefixed look bytes error before after unsaid said
+    ⊎ ((status : ℕ) × (told : Option (List ℕ))
+    × Views prefixed look bytes status before after unsaid told
+    × FailsAdvising look prefixed bytes told said)
+
 abbrev pub look_by : Schema → Dumped → Limits → List ℕ → Look
 look_by schema shows limits name = record {
   identifier = option_map (λ v. v.items) schema.statements.identifier;
@@ -294,7 +363,7 @@ pub record ViewsBytes (schema : Schema) (how : Viewing) (name bytes : List ℕ) 
     (before after unsaid said : Option (List ℕ)) : Type 0 where
   pub dumped : Dumped
   pub shows : Shows schema how.root dumped
-  pub views : Views how.size_prefixed (look_by schema dumped how.limits name) bytes status
+  pub views : ViewsAdvised how.size_prefixed (look_by schema dumped how.limits name) bytes status
       before after unsaid said
 
 -- The buffers of a file failed to be viewed by a schema.
@@ -302,7 +371,7 @@ pub record FailsFile (schema : Schema) (how : Viewing) (name bytes : List ℕ) (
     (before after unsaid said : Option (List ℕ)) : Type 0 where
   pub dumped : Dumped
   pub shows : Shows schema how.root dumped
-  pub fails : FailsViews how.size_prefixed (look_by schema dumped how.limits name) bytes error
+  pub fails : FailsAdvised how.size_prefixed (look_by schema dumped how.limits name) bytes error
       before after unsaid said
 
 -- Memory was refused before anything was written, or the buffers failed to be viewed.

@@ -10,6 +10,9 @@ ghost use Rattle.planus_commands.specs.Buffers.{other_identifier_text, ChecksIde
 ghost use Rattle.planus_commands.specs.Buffers.{look_of, ViewsOne, ViewsSized, ViewsBytes, ViewsBy};
 ghost use Rattle.planus_commands.specs.Buffers.{one_of as one_of_lem, cut_one as cut_one_lem};
 ghost use Rattle.planus_commands.specs.Buffers.{ViewsAlone, ViewsNext, FailsNext, header_text};
+ghost use Rattle.planus_commands.specs.Buffers.{ReadsRoot, ReadsFirst, Advises, FailsAdvising};
+ghost use Rattle.planus_commands.specs.Buffers.{Views, FailsViews, ViewsAdvised, FailsAdvised};
+ghost use Rattle.planus_commands.specs.Buffers.{advice_of as advice_of_lem};
 ghost use Rattle.planus_commands.specs.Buffers.{lead_view, lead_of, look_left};
 ghost use Rattle.planus_commands.specs.Buffers.{limit_reached as limit_reached_lem};
 ghost use Rattle.planus_commands.specs.Buffers.{limits_after as limits_after_lem};
@@ -27,7 +30,7 @@ use crate::shown::put_shown;
 use crate::sources::{bytes_of, schema_at};
 use crate::streams::{RunError, say, write_out};
 use crate::viewing::{Limits, end_text, is_clean, is_cut, view_buffer};
-use planus_dump::{End, Seen};
+use planus_dump::{End, Seen, view};
 use planus_inspect::dump_schema;
 use planus_layout::{Body, Declared, Schema};
 use std::alloc::{AllocError, Global};
@@ -372,6 +375,100 @@ fn view_sized<W: Write, X: Write>(
     Ok(worst)
 }
 
+/// Views a buffer, or several, each after its size.
+fn view_held<W: Write, X: Write>(
+    alloc: Global,
+    view: &View<'_>,
+    prefixed: bool,
+    bytes: &[u8],
+    writer: &mut W,
+    errors: &mut X,
+) -> Result<u8, RunError>
+    ensures views { IfOk result (λ status. Views prefixed (look_of view.now) bytes.now status
+        (W.contents writer.old) (W.contents writer.new)
+        (X.contents errors.old) (X.contents errors.new)) }
+    ensures failed { IfErr result (λ error. FailsViews prefixed (look_of view.now) bytes.now error
+        (W.contents writer.old) (W.contents writer.new)
+        (X.contents errors.old) (X.contents errors.new)) }
+{
+    if prefixed {
+        view_sized(alloc, view, bytes, writer, errors)
+    } else {
+        view_alone(alloc, view, bytes, writer, errors)
+    }
+}
+
+/// Returns whether a table can be read at the root.
+fn reads_root(alloc: Global, schema: &planus_dump::Schema, bytes: &[u8]) -> Result<bool, RunError>
+    ensures { IfOk result (λ reads. ReadsRoot schema.now bytes.now reads) }
+{
+    let mut first = Vec::new(alloc);
+    let seen = view(alloc, schema, bytes, 1, usize::MAX, &mut first)?;
+    Ok(!seen.has_fault)
+}
+
+/// Returns whether bytes begin with a size and a buffer of this size at whose root a table can be
+/// read.
+fn reads_first(alloc: Global, schema: &planus_dump::Schema, bytes: &[u8]) -> Result<bool, RunError>
+    ensures { IfOk result (λ reads. ReadsFirst schema.now bytes.now reads) }
+{
+    match split_sized(bytes) {
+        Some((buffer, _)) => reads_root(alloc, schema, buffer),
+        None => Ok(false),
+    }
+}
+
+fn advice_of(prefixed: bool, whole: bool, first: bool) -> Option<&'static str>
+    ensures { option_map (λ w. w.now) result ≡ advice_of_lem prefixed whole first }
+{
+    match (prefixed, whole, first) {
+        (false, false, true) => Some(" may hold buffers, each after its size; see --size-prefixed"),
+        (true, true, false) => Some(" may be a buffer without its size; leave out --size-prefixed"),
+        _ => None,
+    }
+}
+
+/// Says that a file may hold a buffer where several are viewed, or several where one is.
+fn advise<X: Write>(
+    alloc: Global,
+    view: &View<'_>,
+    prefixed: bool,
+    bytes: &[u8],
+    errors: &mut X,
+) -> Result<(), RunError>
+    ensures said { OnOk result (Advises (look_of view.now) prefixed bytes.now
+        (X.contents errors.old) (X.contents errors.new)) }
+    ensures failed { OnErr result (FailsAdvising (look_of view.now) prefixed bytes.now
+        (X.contents errors.old) (X.contents errors.new)) }
+{
+    let whole = reads_root(alloc, view.shown, bytes)?;
+    let first = reads_first(alloc, view.shown, bytes)?;
+    match advice_of(prefixed, whole, first) {
+        Some(after) => say(alloc, errors, "", view.name, after),
+        None => Ok(()),
+    }
+}
+
+fn view_advised<W: Write, X: Write>(
+    alloc: Global,
+    view: &View<'_>,
+    prefixed: bool,
+    bytes: &[u8],
+    writer: &mut W,
+    errors: &mut X,
+) -> Result<u8, RunError>
+    ensures views { IfOk result (λ status. ViewsAdvised prefixed (look_of view.now) bytes.now status
+        (W.contents writer.old) (W.contents writer.new)
+        (X.contents errors.old) (X.contents errors.new)) }
+    ensures failed { IfErr result (λ error. FailsAdvised prefixed (look_of view.now) bytes.now error
+        (W.contents writer.old) (W.contents writer.new)
+        (X.contents errors.old) (X.contents errors.new)) }
+{
+    let status = view_held(alloc, view, prefixed, bytes, writer, errors)?;
+    advise(alloc, view, prefixed, bytes, errors)?;
+    Ok(status)
+}
+
 /// How a buffer is viewed.
 #[derive(Clone, Copy)]
 pub struct Viewing {
@@ -408,11 +505,7 @@ pub fn view_bytes<W: Write, X: Write>(
         limits: how.limits,
         name,
     };
-    if how.size_prefixed {
-        view_sized(alloc, &view, bytes, writer, errors)
-    } else {
-        view_alone(alloc, &view, bytes, writer, errors)
-    }
+    view_advised(alloc, &view, how.size_prefixed, bytes, writer, errors)
 }
 
 /// Writes what the bytes of a file hold by a schema, as the words of the call say. Returns the exit
