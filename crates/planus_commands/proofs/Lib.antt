@@ -10,3 +10,5 @@ pub mod Seen
 mod ViewedBuffer
 mod Failing
 mod Led
+pub mod Listed
+mod Rows

@@ -10,6 +10,9 @@ use Rattle.planus_layout.specs.declared.number.Number.{Number}
 use Rattle.planus_commands.specs.declared.arguments.Command.{Command}
 use Rattle.planus_commands.specs.declared.arguments.Command.TheVariants.{Check, Format, View}
 use Rattle.planus_commands.specs.declared.arguments.Command.TheVariants.{Rattle as RattleCommand}
+use Rattle.planus_commands.specs.declared.arguments.Command.TheVariants.{Completions}
+use Rattle.planus_commands.specs.declared.arguments.Shell.{Shell}
+use Rattle.planus_commands.specs.declared.arguments.Shell.TheVariants.{Bash, Zsh, Fish}
 use Rattle.planus_commands.specs.declared.arguments.Choice.{Choice}
 use Rattle.planus_commands.specs.declared.arguments.Choice.TheVariants.{Folder, Write}
 use Rattle.planus_commands.specs.declared.arguments.Choice.TheVariants.{Root, SizePrefixed, Lines}
@@ -103,6 +106,7 @@ option_of command w = if is_help w then Some HelpChoice else option_in command
         else if bytes_eq w (codes "--check") then Some CheckChoice else None
     option_in View = view_option w
     option_in RattleCommand = rattle_option w
+    option_in Completions = None
 
 -- an option, and its value in the same word
 pub record JoinedV : Type 0 where
@@ -120,6 +124,7 @@ joined_by choice start w = if starts_with nat_eq w start
 abbrev pub joined_in : Command → List ℕ → Option JoinedV
 joined_in Check w = joined_by Folder (codes "-I") w
 joined_in Format w = None
+joined_in Completions w = None
 joined_in View w = option_or (joined_by Folder (codes "-I") w)
     (option_or (joined_by Root (codes "--root=") w)
     (option_or (joined_by Lines (codes "--lines=") w) (joined_by Bytes (codes "--bytes=") w)))
@@ -231,6 +236,8 @@ pub data Asked : Type 0 where
   several_schemas : Asked
   no_output : Asked
   write_and_check : Asked
+  completions : Shell → Asked
+  no_shell : Asked
 
 abbrev pub asked : Request → Asked
 asked code.Help = help
@@ -249,6 +256,8 @@ asked (code.NoNumber choice w) = no_number choice w.now
 asked code.SeveralSchemas = several_schemas
 asked code.NoOutput = no_output
 asked code.WriteAndCheck = write_and_check
+asked (code.Completions shell) = completions shell
+asked code.NoShell = no_shell
 
 abbrev pub is_empty : List (List ℕ) → Bool
 is_empty [] = true
@@ -274,11 +283,27 @@ rattle_request ws = if not (length ws.files == 1) then several_schemas
 abbrev pub format_request : WordsV → Asked
 format_request ws = if ws.write && ws.check then write_and_check else run Format ws
 
+abbrev pub shell_of : List ℕ → Option Shell
+shell_of w = if bytes_eq w (codes "bash") then Some Bash
+    else if bytes_eq w (codes "zsh") then Some Zsh
+    else if bytes_eq w (codes "fish") then Some Fish else None
+
+abbrev pub script_or : Option Shell → Asked
+script_or None = no_shell
+script_or (Some shell) = completions shell
+
+-- `completions` needs one shell
+abbrev pub completions_request : List (List ℕ) → Asked
+completions_request [] = no_shell
+completions_request (w ∷ []) = script_or (shell_of w)
+completions_request (w ∷ v ∷ ws) = no_shell
+
 abbrev pub run_request : Command → WordsV → Asked
 run_request Check ws = run Check ws
 run_request Format ws = format_request ws
 run_request View ws = view_request ws
 run_request RattleCommand ws = rattle_request ws
+run_request Completions ws = completions_request ws.files
 
 abbrev pub request_by : Command → WordsV → Asked
 request_by command ws = unknown_or ws.unknown
@@ -300,7 +325,8 @@ abbrev pub command_of : List ℕ → Option Command
 command_of w = if bytes_eq w (codes "check") then Some Check
     else if bytes_eq w (codes "format") then Some Format
     else if bytes_eq w (codes "view") then Some View
-    else if bytes_eq w (codes "rattle") then Some RattleCommand else None
+    else if bytes_eq w (codes "rattle") then Some RattleCommand
+    else if bytes_eq w (codes "completions") then Some Completions else None
 
 abbrev pub request_after : List ℕ → List (List ℕ) → Option Command → Asked
 request_after w rest None = unknown_command w

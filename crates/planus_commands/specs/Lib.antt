@@ -1,4 +1,5 @@
 pub mod Arguments
+pub mod Completions
 pub mod Said
 pub mod Shown
 pub mod Reports

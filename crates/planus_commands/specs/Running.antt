@@ -15,6 +15,7 @@ use Rattle.planus_commands.specs.Sources.{ChecksFile, HasNoSchema, MeansAll}
 use Rattle.planus_commands.specs.declared.arguments.Command.{Command}
 use Rattle.planus_commands.specs.declared.arguments.Command.TheVariants.{Check, Format, View}
 use Rattle.planus_commands.specs.declared.arguments.Command.TheVariants.{Rattle as RattleCommand}
+use Rattle.planus_commands.specs.declared.arguments.Command.TheVariants.{Completions}
 
 -- A status, what was written before and after, and what was reported.
 abbrev pub Does : Type 1
@@ -80,6 +81,7 @@ RunsCommand disk Check words status before after unsaid said =
     RunsFiles (RunsFile disk false words) words.files 0 status before after unsaid said
 RunsCommand disk Format words status before after unsaid said =
     RunsFiles (RunsFile disk true words) words.files 0 status before after unsaid said
+RunsCommand disk Completions words status before after unsaid said = status ≡ 2
 
 -- what a call does with the files that it names
 abbrev pub Runs : Disk → Asked → Does

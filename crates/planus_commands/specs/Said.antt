@@ -6,6 +6,8 @@ use Rattle.std.specs.Io.KnownBytes.{Appends, Keeps}
 use Rattle.planus_commands.specs.declared.arguments.Command.{Command}
 use Rattle.planus_commands.specs.declared.arguments.Command.TheVariants.{Check, Format, View}
 use Rattle.planus_commands.specs.declared.arguments.Command.TheVariants.{Rattle as RattleCommand}
+use Rattle.planus_commands.specs.declared.arguments.Command.TheVariants.{Completions}
+use Rattle.planus_commands.specs.Completions.{option_words, script_of}
 use Rattle.planus_commands.specs.declared.arguments.Choice.{Choice}
 use Rattle.planus_commands.specs.declared.arguments.Choice.TheVariants.{Root, Lines, Bytes, Output}
 use Rattle.planus_commands.specs.declared.said.Said.{Said}
@@ -16,6 +18,7 @@ use Rattle.planus_commands.specs.Arguments.{no_command, unknown_command, unknown
 use Rattle.planus_commands.specs.Arguments.{no_value, no_schema, no_buffer, no_number}
 use Rattle.planus_commands.specs.Arguments.{empty_value, empty_file}
 use Rattle.planus_commands.specs.Arguments.{several_schemas, no_output, write_and_check}
+use Rattle.planus_commands.specs.Arguments.{completions, no_shell}
 
 pub record SaidV : Type 0 where
   pub wrong : Bool
@@ -26,16 +29,9 @@ said_view said = record { wrong = said.wrong; text = said.text.items }
 
 -- the words that a call may begin with
 abbrev pub command_words : List (List ℕ)
-command_words = codes "check" ∷ codes "format" ∷ codes "view" ∷ codes "rattle" ∷ codes "help"
+command_words = codes "check" ∷ codes "format" ∷ codes "view" ∷ codes "rattle"
+    ∷ codes "completions" ∷ codes "help"
     ∷ codes "--help" ∷ codes "-h" ∷ codes "--version" ∷ codes "-V" ∷ []
-
-abbrev pub option_words : Command → List (List ℕ)
-option_words Check = codes "-I" ∷ codes "--help" ∷ codes "-h" ∷ []
-option_words Format = codes "--write" ∷ codes "--check" ∷ codes "--help" ∷ codes "-h" ∷ []
-option_words View = codes "--root" ∷ codes "--size-prefixed" ∷ codes "--lines" ∷ codes "--bytes"
-    ∷ codes "-I" ∷ codes "--help" ∷ codes "-h" ∷ []
-option_words RattleCommand =
-    codes "-o" ∷ codes "--check" ∷ codes "-I" ∷ codes "--help" ∷ codes "-h" ∷ []
 
 abbrev pub is_equals : ℕ → Bool
 is_equals b = b == 61
@@ -53,21 +49,23 @@ abbrev pub version_text : List ℕ
 version_text = codes "planus 0.1.0\n"
 
 abbrev pub help_text : List ℕ
-help_text = codes "planus reads schemas of flatbuffers, shows buffers by them, and prints their code.\n\nusage: planus check [-I FOLDER].. SCHEMA..\n       planus format [--write | --check] SCHEMA..\n       planus view [OPTION].. SCHEMA BUFFER\n       planus rattle [--check] [-I FOLDER].. SCHEMA -o FOLDER\n       planus help [COMMAND], planus [COMMAND] --help, planus --version\n\nSCHEMA and BUFFER are files, or - for standard input; after --, each word is one. The\nvalue of an option may be in the same word: -IFOLDER, -oFOLDER, --root=NAME. -h is\n--help, and -V is --version.\n"
+help_text = codes "planus reads schemas of flatbuffers, shows buffers by them, and prints their code.\n\nusage: planus check [-I FOLDER].. SCHEMA..\n       planus format [--write | --check] SCHEMA..\n       planus view [OPTION].. SCHEMA BUFFER\n       planus rattle [--check] [-I FOLDER].. SCHEMA -o FOLDER\n       planus completions bash|zsh|fish\n       planus help [COMMAND], planus [COMMAND] --help, planus --version\n\nSCHEMA and BUFFER are files, or - for standard input; after --, each word is one. The\nvalue of an option may be in the same word: -IFOLDER, -oFOLDER, --root=NAME. -h is\n--help, and -V is --version.\n"
 
 -- the usage line of a command, with which its help begins, or of the program; what is said of a
 -- wrong call ends with it
 unfoldable pub usage_of : Option Command → List ℕ
-usage_of None = codes "usage: planus COMMAND ..; the commands are check, format, view, rattle and help\n"
+usage_of None = codes "usage: planus COMMAND ..; the commands are check, format, view, rattle, completions and help\n"
 usage_of (Some Check) = codes "usage: planus check [-I FOLDER].. SCHEMA..\n"
 usage_of (Some Format) = codes "usage: planus format [--write | --check] SCHEMA..\n"
 usage_of (Some View) = codes "usage: planus view [OPTION].. SCHEMA BUFFER\n"
 usage_of (Some RattleCommand) = codes "usage: planus rattle [--check] [-I FOLDER].. SCHEMA -o FOLDER\n"
+usage_of (Some Completions) = codes "usage: planus completions bash|zsh|fish\n"
 
 abbrev pub details_of : Command → List ℕ
 details_of Check = codes "\nSays on standard error what is wrong with each schema and the files that it includes,\nor nothing. Included files are sought beside the file and in each FOLDER.\nEnds with 0 where nothing is wrong, with 1 where a schema has a fault, and with 2\nwhere the call is wrong or a file can't be read.\n"
 details_of Format = codes "\nPrints the canonical text of each schema, with its comments.\n\n  --write  replaces each file by its text\n  --check  prints nothing, and says which files don't have that text\n\nEnds with 0 where nothing is wrong, with 1 where a schema has a fault or --check names\na file, and with 2 where the call is wrong or a file can't be read or written.\n"
 details_of View = codes "\nPrints what a buffer holds, a line a value, as far as the lines and bytes go.\n\n  --root NAME      the root is this table, and not that of the schema\n  --size-prefixed  BUFFER is any number of buffers, each after its size\n  --lines N        at most N lines, and not 1000\n  --bytes N        at most N bytes, and not 1048576\n  -I FOLDER        included files are sought in this folder too\n\nEnds with 0 where all is shown, with 1 where something is wrong with the buffer or\nmore follows, and with 2 where the call is wrong or a file can't be read.\n"
+details_of Completions = codes "\nPrints the script by which this shell completes calls of planus: commands, their\noptions, and files. It says how it is used.\n"
 details_of RattleCommand = codes "\nPrints the code of a schema as a crate: its files in FOLDER, whose last word is the\ncrate's name. A file that has its text already is left alone.\n\n  -o FOLDER        the folder of the crate, which is made if it isn't there\n  --check          writes nothing, and says which files aren't what is printed\n  -I FOLDER        included files are sought in this folder too\n\nEnds with 0 where all is printed, with 1 where the schema has a fault or something\nthat isn't supported, or --check names a file, and with 2 where the call is wrong or\na file can't be read or written.\n"
 
 abbrev pub help_of : Command → List ℕ
@@ -79,6 +77,13 @@ no_value_text Lines = codes "planus: no number follows --lines\n"
 no_value_text Bytes = codes "planus: no number follows --bytes\n"
 no_value_text Output = codes "planus: no folder follows -o\n"
 no_value_text choice = codes "planus: no folder follows -I\n"
+
+abbrev pub no_shell_text : List ℕ
+no_shell_text = codes "planus: completions has one shell: bash, zsh or fish\n"
+
+abbrev pub no_schema_text : Command → List ℕ
+no_schema_text Completions = no_shell_text
+no_schema_text command = codes "planus: no schema is named; - is standard input\n"
 
 abbrev pub empty_value_text : Choice → List ℕ
 empty_value_text Root = codes "planus: the name of --root is empty\n"
@@ -114,8 +119,9 @@ said_of (unknown_option command w) = on_errors (codes "planus: unknown option `"
     ++ (codes "`; " ++ (call_hint (nearest (option_words command) (before_equals w))
     ++ (codes "\n" ++ usage_of (Some command))))))
 said_of (no_value command choice) = on_errors (no_value_text choice ++ usage_of (Some command))
-said_of (no_schema command) = on_errors (codes "planus: no schema is named; - is standard input\n"
-    ++ usage_of (Some command))
+said_of (no_schema command) = on_errors (no_schema_text command ++ usage_of (Some command))
+said_of (completions shell) = on_output (script_of shell)
+said_of no_shell = on_errors (no_shell_text ++ usage_of (Some Completions))
 said_of no_buffer = on_errors (codes "planus: view has a schema and a buffer\n" ++ usage_of (Some View))
 said_of (empty_value command choice) = on_errors (empty_value_text choice ++ usage_of (Some command))
 said_of (empty_file command) = on_errors (codes "planus: the name of a file is empty\n"

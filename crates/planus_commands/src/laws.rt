@@ -1,9 +1,14 @@
 //! Laws. The functions do nothing: each states a law by its contract.
 
-ghost use Rattle.std.specs.Prelude.{◌<◌, ℕ, List, MatchOption};
-ghost use Rattle.std.specs.List.{All};
+ghost use Rattle.std.specs.Prelude.{◌≡◌, ◌<◌, ◌||◌, ℕ, List, MatchOption, codes, is_some};
+ghost use Rattle.std.specs.List.{All, list_any};
+ghost use Rattle.std.specs.Str.{bytes_eq};
+ghost use Rattle.planus_commands.specs.Arguments.{command_of, option_of};
+ghost use Rattle.planus_commands.specs.Completions.{names, option_words};
 ghost use Rattle.planus_commands.specs.Near.{nearest, AreFar, IsFirstNearest};
 ghost use Rattle.planus_commands.specs.Shown.{shown, IsSeenText};
+
+use crate::arguments::Command;
 
 /// Whatever the bytes, what is shown of them is UTF-8 without control characters but tabs, and
 /// without marks that turn the direction of text.
@@ -16,4 +21,17 @@ pub fn shown_is_seen()
 pub fn nearest_is_first()
     ensures { (word : List ℕ) (names : List (List ℕ)) → MatchOption (nearest names word)
         (AreFar word names) (IsFirstNearest word names) }
+{}
+
+/// The options that completions and proposals have of a command are exactly those that it takes, but
+/// for values in the same word.
+pub fn options_are_listed()
+    ensures { (command : Command) (w : List ℕ)
+        → list_any (bytes_eq w) (option_words command) ≡ is_some (option_of command w) }
+{}
+
+/// The commands that completions have are exactly those that there are, and `help`.
+pub fn commands_are_listed()
+    ensures { (w : List ℕ) → list_any (bytes_eq w) names
+        ≡ (is_some (command_of w) || bytes_eq w (codes "help")) }
 {}

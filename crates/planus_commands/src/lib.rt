@@ -5,6 +5,7 @@
 mod arguments;
 mod buffers;
 mod checking;
+mod completions;
 mod distance;
 mod file_error;
 mod files;
@@ -29,7 +30,7 @@ mod streams;
 mod texts;
 mod viewing;
 
-pub use arguments::{Choice, Command, Request, Words, number_of, request_of};
+pub use arguments::{Choice, Command, Request, Shell, Words, number_of, request_of};
 pub use buffers::{Viewing, view_by, view_bytes};
 pub use checking::File;
 pub use file_error::FileError;

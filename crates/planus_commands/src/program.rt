@@ -82,6 +82,8 @@ fn run_request<F: Files, W: Write, X: Write>(
         Command::Rattle => print_code(files, alloc, words, errors),
         Command::Check => run_files(files, alloc, false, words, writer, errors),
         Command::Format => run_files(files, alloc, true, words, writer, errors),
+        // Said before.
+        Command::Completions => Ok(FAILED),
     }
 }
 

@@ -8,17 +8,19 @@ ghost use Rattle.planus_commands.specs.Arguments.{unknown_command as unknown_com
 ghost use Rattle.planus_commands.specs.Arguments.{unknown_option as unknown_option_asked};
 ghost use Rattle.planus_commands.specs.Near.{nearest};
 ghost use Rattle.planus_commands.specs.Said.{command_words as command_words_lem, call_hint};
-ghost use Rattle.planus_commands.specs.Said.{option_words as option_words_lem};
+ghost use Rattle.planus_commands.specs.Completions.{option_words as option_words_lem};
 ghost use Rattle.planus_commands.specs.Said.{before_equals as before_equals_lem};
 ghost use Rattle.planus_commands.specs.Said.{help_of as help_of_lem, help_text, no_value_text};
-ghost use Rattle.planus_commands.specs.Said.{empty_value_text, no_number_text};
+ghost use Rattle.planus_commands.specs.Completions.{script_of};
+ghost use Rattle.planus_commands.specs.Said.{empty_value_text, no_number_text, no_schema_text};
 ghost use Rattle.planus_commands.specs.Said.{usage_of as usage_of_lem, details_of as details_of_lem};
 ghost use Rattle.planus_commands.specs.Said.{said_text as said_text_lem};
 ghost use Rattle.planus_commands.specs.Said.{said_of as said_of_lem, said_view, Says};
 ghost use Rattle.planus_commands.specs.Shown.{shown};
 ghost use Rattle.std.specs.Io.KnownBytes.{Appends, Keeps};
 
-use crate::arguments::{Choice, Command, Request};
+use crate::arguments::{Choice, Command, Request, Shell};
+use crate::completions::script;
 use crate::near::nearest_word;
 use crate::shown::put_shown;
 use crate::streams::{RunError, say as say_line, write_out};
@@ -34,6 +36,7 @@ usage: planus check [-I FOLDER].. SCHEMA..
        planus format [--write | --check] SCHEMA..
        planus view [OPTION].. SCHEMA BUFFER
        planus rattle [--check] [-I FOLDER].. SCHEMA -o FOLDER
+       planus completions bash|zsh|fish
        planus help [COMMAND], planus [COMMAND] --help, planus --version
 
 SCHEMA and BUFFER are files, or - for standard input; after --, each word is one. The
@@ -42,7 +45,7 @@ value of an option may be in the same word: -IFOLDER, -oFOLDER, --root=NAME. -h 
 ";
 
 const PROGRAM_USAGE: &str =
-    "usage: planus COMMAND ..; the commands are check, format, view, rattle and help\n";
+    "usage: planus COMMAND ..; the commands are check, format, view, rattle, completions and help\n";
 
 const USAGE_OF_CHECK: &str = "usage: planus check [-I FOLDER].. SCHEMA..\n";
 
@@ -94,6 +97,15 @@ Ends with 0 where all is printed, with 1 where the schema has a fault or somethi
 that isn't supported, or --check names a file, and with 2 where the call is wrong or
 a file can't be read or written.
 ";
+
+const USAGE_OF_COMPLETIONS: &str = "usage: planus completions bash|zsh|fish\n";
+
+const DETAILS_OF_COMPLETIONS: &str = "
+Prints the script by which this shell completes calls of planus: commands, their
+options, and files. It says how it is used.
+";
+
+const NO_SHELL: &str = "planus: completions has one shell: bash, zsh or fish\n";
 
 const NO_COMMAND: &str = "planus: no command is given\n";
 
@@ -148,6 +160,7 @@ fn command_words() -> &'static [&'static str]
         "format",
         "view",
         "rattle",
+        "completions",
         "help",
         "--help",
         "-h",
@@ -156,7 +169,7 @@ fn command_words() -> &'static [&'static str]
     ]
 }
 
-fn option_words(command: Command) -> &'static [&'static str]
+pub(crate) fn option_words(command: Command) -> &'static [&'static str]
     ensures { map (λ w. w.now) result.now ≡ option_words_lem command }
 {
     match command {
@@ -164,16 +177,17 @@ fn option_words(command: Command) -> &'static [&'static str]
         Command::Format => &["--write", "--check", "--help", "-h"],
         Command::View => {
             &[
+                "-I",
                 "--root",
                 "--size-prefixed",
                 "--lines",
                 "--bytes",
-                "-I",
                 "--help",
                 "-h",
             ]
         }
-        Command::Rattle => &["-o", "--check", "-I", "--help", "-h"],
+        Command::Rattle => &["-I", "-o", "--check", "--help", "-h"],
+        Command::Completions => &["--help", "-h"],
     }
 }
 
@@ -219,6 +233,7 @@ fn usage_of(command: Option<Command>) -> &'static str
         Some(Command::Format) => USAGE_OF_FORMAT,
         Some(Command::View) => USAGE_OF_VIEW,
         Some(Command::Rattle) => USAGE_OF_RATTLE,
+        Some(Command::Completions) => USAGE_OF_COMPLETIONS,
     }
 }
 
@@ -230,6 +245,7 @@ fn details_of(command: Command) -> &'static str
         Command::Format => DETAILS_OF_FORMAT,
         Command::View => DETAILS_OF_VIEW,
         Command::Rattle => DETAILS_OF_RATTLE,
+        Command::Completions => DETAILS_OF_COMPLETIONS,
     }
 }
 
@@ -315,6 +331,22 @@ fn about(
     Ok(Some(Said { wrong: true, text }))
 }
 
+fn no_schema(command: Command) -> &'static str
+    ensures { result.now ≡ no_schema_text command }
+{
+    match command {
+        Command::Completions => NO_SHELL,
+        _ => NO_SCHEMA,
+    }
+}
+
+fn script_said(alloc: Global, shell: Shell) -> Result<Option<Said>, AllocError>
+    ensures { IfOk result (λ said. option_map said_view said ≡ said_text_lem false (script_of shell)) }
+{
+    let text = script(alloc, shell)?;
+    Ok(Some(Said { wrong: false, text }))
+}
+
 fn unknown_command(alloc: Global, word: &str) -> Result<Option<Said>, AllocError>
     ensures { IfOk result (λ said. option_map said_view said
         ≡ said_of_lem (unknown_command_asked word.now)) }
@@ -345,7 +377,7 @@ pub fn said_of(alloc: Global, request: &Request<'_>) -> Result<Option<Said>, All
         Request::UnknownCommand(word) => unknown_command(alloc, *word),
         Request::UnknownOption(command, word) => unknown_option(alloc, *command, *word),
         Request::NoValue(command, choice) => wrong(alloc, no_value(*choice), Some(*command)),
-        Request::NoSchema(command) => wrong(alloc, NO_SCHEMA, Some(*command)),
+        Request::NoSchema(command) => wrong(alloc, no_schema(*command), Some(*command)),
         Request::NoBuffer => wrong(alloc, NO_BUFFER, Some(Command::View)),
         Request::EmptyValue(command, choice) => wrong(alloc, empty_value(*choice), Some(*command)),
         Request::EmptyFile(command) => wrong(alloc, EMPTY_FILE, Some(*command)),
@@ -362,6 +394,8 @@ pub fn said_of(alloc: Global, request: &Request<'_>) -> Result<Option<Said>, All
         Request::SeveralSchemas => wrong(alloc, SEVERAL_SCHEMAS, Some(Command::Rattle)),
         Request::NoOutput => wrong(alloc, NO_OUTPUT, Some(Command::Rattle)),
         Request::WriteAndCheck => wrong(alloc, WRITE_AND_CHECK, Some(Command::Format)),
+        Request::Completions(shell) => script_said(alloc, *shell),
+        Request::NoShell => wrong(alloc, NO_SHELL, Some(Command::Completions)),
     }
 }
 
