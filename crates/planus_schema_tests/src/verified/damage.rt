@@ -1,12 +1,14 @@
 //! A ship by `flatc`, damaged: it is verified exactly where the checked views read all of it without
-//! an error, and then reads as they do.
+//! an error, and then reads as they do. The function that is printed for ships passes it there too.
 
 use super::faults::is_whole;
 use super::same::is_same_ship;
 use crate::digits::bytes_of;
 use crate::printed::FLATC_ANNA;
-use harbour::{read_as_root, verify_as_root};
-use planus_views::Limits;
+use harbour::{Ship, read_as_root, verify_as_root};
+use planus::table_reader::Table;
+use planus::{SliceWithStartOffset, TableRead};
+use planus_views::{Limits, Verify};
 use std::alloc::Global;
 
 // How many buffers pass, and in how many the two differ.
@@ -14,6 +16,15 @@ use std::alloc::Global;
 struct Counts {
     passed: usize,
     differ: usize,
+}
+
+// Whether the function for ships passes the root, without a walk over the schema.
+fn passes(bytes: &[u8]) -> bool {
+    let limits = Limits::default();
+    match Table::from_buffer(SliceWithStartOffset::new(bytes, 0), 0) {
+        Ok(table) => Ship::pass(table, limits.depth, limits.tables).is_some(),
+        Err(_) => false,
+    }
 }
 
 impl Counts {
@@ -29,7 +40,9 @@ impl Counts {
         let is_same = match verify_as_root(bytes, Limits::default()) {
             Ok(verified) => {
                 self.passed = self.passed.wrapping_add(1);
-                matches!(checked, Ok(ship) if is_whole(alloc, ship) && is_same_ship(&verified, &ship))
+                passes(bytes)
+                    && matches!(checked, Ok(ship) if is_whole(alloc, ship)
+                        && is_same_ship(&verified, &ship))
             }
             Err(_) => !matches!(checked, Ok(ship) if is_whole(alloc, ship)),
         };
