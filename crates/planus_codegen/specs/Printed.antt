@@ -27,10 +27,11 @@ pub record IsNamingOf (ds : List Declared) (names : Names) (n : Naming) : Type 0
   pub modules : n.modules.now ≡ names.modules.items
   pub members : n.members.now ≡ names.members.items
 
--- With names that are fit, the files have the code of each table.
+-- With names that are fit, the files have the code of each table and of its verified view, and
+-- the schema as a value.
 pub record IsPrinted (ds : List Declared) (files : List PrintedFile) : Type 0 where
   pub names : Names
   pub naming : Naming
   pub fit : AreFit ds names
   pub named : IsNamingOf ds names naming
-  pub tied : AreTied naming files 0 ds
+  pub tied : AreTied naming files

@@ -410,7 +410,8 @@ fn files_of(context: &Context<'_>) -> Result<Vec<PrintedFile>, AllocError> {
 
 /// Returns the files of a crate of this name with the code of a schema.
 ///
-/// They are read again before: each table has its accessors and its lines.
+/// They are read again before: each table has its accessors and its lines, its verified view has
+/// its accessors, and there is the schema as a value.
 /// [`Refusal::Unsupported`] where something in it has no form in code, [`Refusal::Untied`] where
 /// the printed code isn't the schema's.
 pub fn print_crate(alloc: Global, schema: &Schema, name: &str) -> Result<Vec<PrintedFile>, Refusal>

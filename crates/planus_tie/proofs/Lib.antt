@@ -1,2 +1,3 @@
+pub mod Lined
 pub mod Parts
 pub mod Tied

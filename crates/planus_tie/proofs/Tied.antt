@@ -1,11 +1,20 @@
--- A table that passes its test.
-use Rattle.std.proofs.Common.{◌≡◌, ℕ, Bool, IsTrue, List, sym, ap, ◌∙◌}
+-- Texts that pass their tests.
+use Rattle.std.proofs.Common.{◌≡◌, ℕ, Bool, IsTrue, List, sym, ap, subst, ◌∙◌}
 use Rattle.std.specs.Prelude.{Result, Ok, Err, IfOk}
+use Rattle.std.specs.Prelude.{Option}
+use Rattle.planus_layout.specs.declared.schema.Body.{Body}
+use Rattle.planus_layout.specs.declared.schema.Body.TheVariants as body
+use Rattle.planus_layout.specs.declared.schema.Declared.{Declared}
 use Rattle.planus_layout.specs.declared.schema.Table.{Table}
 use Rattle.planus_plan.specs.Plans.{IsPlan}
 use Rattle.planus_plan.specs.declared.plan.Plan.{Plan}
 use Rattle.planus_tie.specs.Bare.{bare}
+use Rattle.planus_plan.specs.declared.plan.Line.{Line}
+use Rattle.planus_tie.specs.Files.{text_at, view_path_of, IsViewTextTied, IsBodyViewTied}
+use Rattle.planus_tie.specs.declared.files.PrintedFile.{PrintedFile}
+use Rattle.planus_tie.specs.Shapes.{IsSchemaTied, AreLines, is_schema_text}
 use Rattle.planus_tie.specs.Ties.{IsTableTied, is_plan_tied}
+use Rattle.planus_tie.specs.Views.{IsViewTied, is_view_tied}
 use Rattle.planus_tie.specs.declared.groups.Entry.{Entry}
 use Rattle.planus_tie.specs.declared.naming.Naming.{Naming}
 
@@ -17,3 +26,26 @@ tied_by n i one text without es plan (Ok b) p w h = λ t. record {
   planned = p;
   tied = ap (is_plan_tied n es plan) (sym w) ∙ sym h ∙ t;
 }
+
+pub viewed_by : {E : Type 0} (n : Naming) (ranks : List ℕ) (totals : List Bool) (i : ℕ) (one : Table) (text without : List ℕ) (plan : Plan) (r : Result Bool E) → IsPlan n.declared.now i one.fields.items plan → without ≡ bare text → IfOk r (λ b. b ≡ is_view_tied n ranks totals plan without) → IfOk r (λ b. IsTrue b → IsViewTied n ranks totals i one text)
+viewed_by n ranks totals i one text without plan (Err e) p w h = tt
+viewed_by n ranks totals i one text without plan (Ok b) p w h = λ t. record {
+  plan = plan;
+  planned = p;
+  tied = ap (is_view_tied n ranks totals plan) (sym w) ∙ sym h ∙ t;
+}
+
+pub schema_by : {E : Type 0} (ds : List Declared) (ranks text without : List ℕ) (given lines : List Line) (r : Result Bool E) → given ≡ lines → AreLines ds 0 ds lines → without ≡ bare text → IfOk r (λ b. b ≡ is_schema_text ds ranks given without) → IfOk r (λ b. IsTrue b → IsSchemaTied ds ranks text)
+schema_by ds ranks text without given lines (Err e) g a w h = tt
+schema_by ds ranks text without given lines (Ok b) g a w h = λ t. record {
+  lines = lines;
+  are = a;
+  tied = ap (λ ls. is_schema_text ds ranks ls (bare text)) (sym g)
+      ∙ ap (is_schema_text ds ranks given) (sym w) ∙ sym h ∙ t;
+}
+
+pub body_viewed : {E : Type 0} (n : Naming) (ranks : List ℕ) (totals : List Bool) (files : List PrintedFile) (i : ℕ) (one : Table) (b : Body) (path : List ℕ) (found : Option (List ℕ)) (r : Result Bool E) → b ≡ body.Table one → path ≡ view_path_of n i → found ≡ text_at path files → IfOk r (λ v. IsTrue v → IsViewTextTied n ranks totals i one found) → IfOk r (λ v. IsTrue v → IsBodyViewTied n ranks totals files i b)
+body_viewed n ranks totals files i one b path found r is p f h =
+    let whole : found ≡ text_at (view_path_of n i) files = f ∙ ap (λ q. text_at q files) p in
+    let there : IfOk r (λ v. IsTrue v → IsBodyViewTied n ranks totals files i (body.Table one)) = subst (λ o. IfOk r (λ v. IsTrue v → IsViewTextTied n ranks totals i one o)) whole h in
+    subst (λ x. IfOk r (λ v. IsTrue v → IsBodyViewTied n ranks totals files i x)) (sym is) there

@@ -1,13 +1,17 @@
--- The files of tables.
-use Rattle.std.specs.Prelude.{ℕ, ◌+◌, ⊤, List, [], ◌∷◌, ◌++◌, fold, codes, Option, Some}
+-- The files of a printed crate.
+use Rattle.std.specs.Prelude.{ℕ, ◌+◌, Bool, IsTrue, ⊤, List, [], ◌∷◌, ◌++◌, fold, codes, Option, Some}
 use Rattle.std.specs.Prelude.{None, if◌then◌else◌}
+use Rattle.std.specs.List.{list_any}
 use Rattle.std.specs.Str.{bytes_eq}
 use Rattle.std.specs.String.{string_bytes}
 use Rattle.planus_layout.specs.declared.schema.Body.{Body}
 use Rattle.planus_layout.specs.declared.schema.Body.TheVariants as body
 use Rattle.planus_layout.specs.declared.schema.Declared.{Declared}
 use Rattle.planus_layout.specs.declared.schema.Table.{Table}
+use Rattle.planus_tie.specs.Ranks.{is_table, ranks_of, totals_of}
+use Rattle.planus_tie.specs.Shapes.{IsSchemaTied}
 use Rattle.planus_tie.specs.Ties.{IsTableTied}
+use Rattle.planus_tie.specs.Views.{IsViewTied}
 use Rattle.planus_tie.specs.Wanted.{module_of}
 use Rattle.planus_tie.specs.declared.files.PrintedFile.{PrintedFile}
 use Rattle.planus_tie.specs.declared.naming.Naming.{Naming}
@@ -33,6 +37,45 @@ IsBodyTied n files i (body.Table one) = IsTextTied n i one (text_at (path_of n i
 IsBodyTied n files i b = ⊤
 
 -- of each declaration from an index on
-abbrev pub AreTied : Naming → List PrintedFile → ℕ → List Declared → Type 0
-AreTied n files i [] = ⊤
-AreTied n files i (d ∷ ds) = IsBodyTied n files i d.body × AreTied n files (i + 1) ds
+abbrev pub AreTablesTied : Naming → List PrintedFile → ℕ → List Declared → Type 0
+AreTablesTied n files i [] = ⊤
+AreTablesTied n files i (d ∷ ds) = IsBodyTied n files i d.body × AreTablesTied n files (i + 1) ds
+
+abbrev pub view_path_of : Naming → ℕ → List ℕ
+view_path_of n i = codes "src/verified/" ++ (module_of n i ++ codes ".rt")
+
+abbrev pub IsViewTextTied : Naming → List ℕ → List Bool → ℕ → Table → Option (List ℕ) → Type 0
+IsViewTextTied n ranks totals i one None = ⊥
+IsViewTextTied n ranks totals i one (Some text) = IsViewTied n ranks totals i one text
+
+-- a table's view is there, and is the table's
+abbrev pub IsBodyViewTied : Naming → List ℕ → List Bool → List PrintedFile → ℕ → Body → Type 0
+IsBodyViewTied n ranks totals files i (body.Table one) =
+    IsViewTextTied n ranks totals i one (text_at (view_path_of n i) files)
+IsBodyViewTied n ranks totals files i b = ⊤
+
+-- of each declaration from an index on
+abbrev pub AreViewsTied : Naming → List ℕ → List Bool → List PrintedFile → ℕ → List Declared
+    → Type 0
+AreViewsTied n ranks totals files i [] = ⊤
+AreViewsTied n ranks totals files i (d ∷ ds) = IsBodyViewTied n ranks totals files i d.body
+    × AreViewsTied n ranks totals files (i + 1) ds
+
+abbrev pub IsSchemaTextTied : List Declared → List ℕ → Option (List ℕ) → Type 0
+IsSchemaTextTied ds ranks None = ⊥
+IsSchemaTextTied ds ranks (Some text) = IsSchemaTied ds ranks text
+
+abbrev pub has_tables : List Declared → Bool
+has_tables ds = list_any (λ d. is_table d.body) ds
+
+-- where there are tables, the schema's value is there
+abbrev pub HasSchema : List Declared → List ℕ → List PrintedFile → Type 0
+HasSchema ds ranks files = IsTrue (has_tables ds)
+    → IsSchemaTextTied ds ranks (text_at (codes "src/verified.rt") files)
+
+-- Each table has its file and that of its view, and there is the schema's value.
+pub record AreTied (n : Naming) (files : List PrintedFile) : Type 0 where
+  pub tables : AreTablesTied n files 0 n.declared.now
+  pub views : AreViewsTied n (ranks_of n.declared.now) (totals_of n.declared.now) files 0
+      n.declared.now
+  pub schema : HasSchema n.declared.now (ranks_of n.declared.now) files

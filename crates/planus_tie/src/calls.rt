@@ -12,7 +12,7 @@ use planus_layout::TableField;
 use planus_plan::Line;
 use std::alloc::{AllocError, Global};
 
-fn push_function(out: &mut Vec<u8>, field: &TableField) -> Result<(), AllocError>
+pub(crate) fn push_function(out: &mut Vec<u8>, field: &TableField) -> Result<(), AllocError>
     ensures { OnOk result (out.new.items ≡ out.old.items ++ function_of field.now) }
 {
     push_str(out, kind_word(field.kind))?;

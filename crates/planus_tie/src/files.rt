@@ -3,12 +3,18 @@
 ghost use Rattle.std.specs.Prelude.{◌≡◌, ◌++◌, IfOk, IsTrue, codes, None};
 ghost use Rattle.std.specs.Option.{option_copied};
 ghost use Rattle.planus_tie.specs.Files.{path_of as path_of_lem, text_at as text_at_lem};
-ghost use Rattle.planus_tie.specs.Files.{newer as newer_lem, IsBodyTied, AreTied};
+ghost use Rattle.planus_tie.specs.Files.{newer as newer_lem, IsBodyTied, AreTablesTied};
+ghost use Rattle.planus_tie.specs.Files.{view_path_of as view_path_of_lem, IsBodyViewTied};
+ghost use Rattle.planus_tie.specs.Files.{AreViewsTied, has_tables as has_tables_lem, HasSchema};
+ghost use Rattle.planus_tie.specs.Files.{AreTied, IsViewTextTied};
 
 use crate::naming::Naming;
 use crate::pieces::push_str;
+use crate::ranks::{is_table, ranks_of, totals_of};
+use crate::schema::is_schema_tied;
 use crate::tie::is_table_tied;
-use planus_layout::Body;
+use crate::views::is_view_tied;
+use planus_layout::{Body, Declared, Table};
 use std::alloc::{AllocError, Global};
 
 /// A file: its path in the crate's folder, and its text.
@@ -68,13 +74,13 @@ fn is_body_tied(
 }
 
 /// Returns whether the file of each table is the table's.
-pub fn are_tied(
+fn are_tables_tied(
     alloc: Global,
     naming: &Naming<'_>,
     files: &[PrintedFile],
 ) -> Result<bool, AllocError>
     ensures { IfOk result (λ b. IsTrue b
-        → AreTied naming.now files.now 0 naming.now.declared.now) }
+        → AreTablesTied naming.now files.now 0 naming.now.declared.now) }
 {
     let mut index = 0;
     'declared: for one in naming.declared {
@@ -84,4 +90,121 @@ pub fn are_tied(
         index += 1;
     }
     Ok(true)
+}
+
+fn view_path_of(alloc: Global, naming: &Naming<'_>, index: usize) -> Result<Vec<u8>, AllocError>
+    ensures { IfOk result (λ path. path.items ≡ view_path_of_lem naming.now index) }
+{
+    let mut out = Vec::new(alloc);
+    push_str(&mut out, "src/verified/")?;
+    out.extend_from_slice(naming.module_of(index))?;
+    push_str(&mut out, ".rt")?;
+    Ok(out)
+}
+
+fn is_view_text_tied(
+    alloc: Global,
+    naming: &Naming<'_>,
+    ranks: &[usize],
+    totals: &[bool],
+    index: usize,
+    one: &Table,
+    text: Option<&[u8]>,
+) -> Result<bool, AllocError>
+    ensures { IfOk result (λ b. IsTrue b → IsViewTextTied naming.now ranks.now totals.now index
+        one.now (option_copied text.entry)) }
+{
+    match text {
+        Some(text) => is_view_tied(alloc, naming, ranks, totals, index, one, text),
+        None => Ok(false),
+    }
+}
+
+fn is_body_view_tied(
+    alloc: Global,
+    naming: &Naming<'_>,
+    ranks: &[usize],
+    totals: &[bool],
+    files: &[PrintedFile],
+    index: usize,
+    body: &Body,
+) -> Result<bool, AllocError>
+    ensures { IfOk result (λ b. IsTrue b → IsBodyViewTied naming.now ranks.now totals.now
+        files.now index body.now) }
+{
+    let Body::Table(one) = body else {
+        return Ok(true);
+    };
+    let path = view_path_of(alloc, naming, index)?;
+    let text = text_at(files, &path);
+    is_view_text_tied(alloc, naming, ranks, totals, index, one, text)
+}
+
+/// Returns whether the file of each table's view is the table's.
+fn are_views_tied(
+    alloc: Global,
+    naming: &Naming<'_>,
+    ranks: &[usize],
+    totals: &[bool],
+    files: &[PrintedFile],
+) -> Result<bool, AllocError>
+    ensures { IfOk result (λ b. IsTrue b → AreViewsTied naming.now ranks.now totals.now
+        files.now 0 naming.now.declared.now) }
+{
+    let mut index = 0;
+    'declared: for one in naming.declared {
+        if !is_body_view_tied(alloc, naming, ranks, totals, files, index, &one.body)? {
+            return Ok(false);
+        }
+        index += 1;
+    }
+    Ok(true)
+}
+
+fn has_tables(declared: &[Declared]) -> bool
+    ensures { result ≡ has_tables_lem declared.now }
+{
+    'declared: for one in declared {
+        if is_table(&one.body) {
+            return true;
+        }
+    }
+    false
+}
+
+fn has_schema(
+    alloc: Global,
+    declared: &[Declared],
+    ranks: &[usize],
+    files: &[PrintedFile],
+) -> Result<bool, AllocError>
+    ensures { IfOk result (λ b. IsTrue b → HasSchema declared.now ranks.now files.now) }
+{
+    if !has_tables(declared) {
+        return Ok(true);
+    }
+    match text_at(files, b"src/verified.rt") {
+        Some(text) => is_schema_tied(alloc, declared, ranks, text),
+        None => Ok(false),
+    }
+}
+
+/// Returns whether the files of each table and of its view are the table's, and the schema's value
+/// is the schema's.
+pub fn are_tied(
+    alloc: Global,
+    naming: &Naming<'_>,
+    files: &[PrintedFile],
+) -> Result<bool, AllocError>
+    ensures { IfOk result (λ b. IsTrue b → AreTied naming.now files.now) }
+{
+    let ranks = ranks_of(alloc, naming.declared)?;
+    let totals = totals_of(alloc, naming.declared)?;
+    if !are_tables_tied(alloc, naming, files)? {
+        return Ok(false);
+    }
+    if !are_views_tied(alloc, naming, &ranks, &totals, files)? {
+        return Ok(false);
+    }
+    has_schema(alloc, naming.declared, &ranks, files)
 }

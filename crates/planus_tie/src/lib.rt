@@ -1,5 +1,5 @@
-//! The printed text of a table, read again: its accessors and the lines of what is created are
-//! those that its schema wants.
+//! Printed text, read again: the accessors of tables and of their verified views, the lines of what
+//! is created and the schema's value are those that a schema wants.
 #![tactic(auto)]
 
 mod bare;
@@ -11,10 +11,14 @@ mod groups;
 mod kinds;
 mod naming;
 mod pieces;
+mod ranks;
 mod reading;
+mod schema;
+mod shapes;
 mod shares;
 mod spelling;
 mod tie;
+mod views;
 
 pub use defaults::default_number;
 pub use files::{PrintedFile, are_tied};

@@ -21,7 +21,7 @@ use planus_layout::Table;
 use planus_plan::{Line, Plan};
 use std::alloc::{AllocError, Global};
 
-fn if_begins<'a>(text: Option<&'a [u8]>, wanted: &[u8]) -> Option<&'a [u8]>
+pub(crate) fn if_begins<'a>(text: Option<&'a [u8]>, wanted: &[u8]) -> Option<&'a [u8]>
     ensures { option_copied result ≡ if_begins_lem (option_copied text.entry) wanted.now }
 {
     if begins(text, wanted) { text } else { None }

@@ -1,0 +1,183 @@
+//! The lists of the schema's value.
+
+ghost use Rattle.std.specs.Prelude.{◌≡◌, ◌++◌, ◌+◌, IfOk, OnOk, not, count_by, map, length};
+ghost use Rattle.std.specs.List.Sorted.{IsPermutation, IsNonDecreasingBy};
+ghost use Rattle.planus_tie.specs.Ranks.{rank_in as rank_in_lem};
+ghost use Rattle.planus_tie.specs.Shapes.{AreBySlot, AreLines, PushesLines};
+ghost use Rattle.planus_tie.specs.Shapes.{live_count as live_count_lem, ranges_in, ranges_from};
+ghost use Rattle.planus_tie.specs.Shapes.{fields_in as fields_in_lem, tagged as tagged_lem};
+ghost use Rattle.planus_tie.specs.Shapes.{tagged_in, tagged_from};
+
+use crate::ranks::rank_in;
+use planus_layout::{Body, Declared, Table, UnionMember};
+use planus_plan::{Line, Plan};
+use std::alloc::{AllocError, Global};
+
+/// The fields of a table in the list of all.
+#[derive(Clone, Copy)]
+pub(crate) struct Range {
+    pub(crate) first: usize,
+    pub(crate) count: usize,
+}
+
+/// A union's member: the union's index, its tag, and its table's index.
+#[derive(Clone, Copy)]
+pub(crate) struct Tagged {
+    pub(crate) union: usize,
+    pub(crate) tag: u8,
+    pub(crate) table: usize,
+}
+
+fn put_by_slot(lines: &mut Vec<Line<'_>>) -> Result<(), AllocError>
+    ensures once { OnOk result (IsPermutation lines.old.items lines.new.items) }
+    ensures rises { OnOk result (IsNonDecreasingBy (λ l. l.field.now.slot) lines.new.items) }
+{
+    lines.sort_by_key(|line| line.field.slot)?;
+    Ok(())
+}
+
+fn by_slot<'a>(
+    alloc: Global,
+    declared: &[Declared],
+    index: usize,
+    one: &'a Table,
+) -> Result<Vec<Line<'a>>, AllocError>
+    ensures { IfOk result (λ lines. AreBySlot declared.now index one.now lines.items) }
+{
+    let plan = Plan::of(alloc, declared, index, one)?;
+    let mut lines = Vec::from_slice(alloc, &plan.lines)?;
+    put_by_slot(&mut lines)?;
+    Ok(lines)
+}
+
+fn push_lines<'a>(
+    out: &mut Vec<Line<'a>>,
+    declared: &[Declared],
+    index: usize,
+    body: &'a Body,
+) -> Result<(), AllocError>
+    ensures { OnOk result (PushesLines declared.now index body.now out.old.items out.new.items) }
+{
+    let Body::Table(one) = body else {
+        return Ok(());
+    };
+    let lines = by_slot(*out.allocator(), declared, index, one)?;
+    out.extend_from_slice(&lines)
+}
+
+/// Returns the fields of all tables in turn, each table's by their slots.
+pub(crate) fn lines_of(alloc: Global, declared: &[Declared]) -> Result<Vec<Line<'_>>, AllocError>
+    ensures { IfOk result (λ lines. AreLines declared.now 0 declared.now lines.items) }
+{
+    let mut lines = Vec::new(alloc);
+    let mut index = 0;
+    'declared: for one in declared {
+        push_lines(&mut lines, declared, index, &one.body)?;
+        index += 1;
+    }
+    Ok(lines)
+}
+
+fn live_count(one: &Table) -> usize
+    ensures { result ≡ live_count_lem one.now }
+{
+    one.fields.iter().filter(|field| !field.deprecated).count()
+}
+
+fn fields_in(body: &Body) -> usize
+    ensures { result ≡ fields_in_lem body.now }
+{
+    match body {
+        Body::Table(one) => live_count(one),
+        _ => 0,
+    }
+}
+
+fn push_range(out: &mut Vec<Range>, first: usize, body: &Body) -> Result<(), AllocError>
+    ensures { OnOk result (out.new.items ≡ out.old.items ++ ranges_in first body.now) }
+{
+    if let Body::Table(one) = body {
+        out.push(Range {
+            first,
+            count: live_count(one),
+        })?;
+    }
+    Ok(())
+}
+
+// No memory holds more fields than are counted.
+fn after_fields(first: usize, body: &Body) -> Result<usize, AllocError>
+    ensures { IfOk result (λ next. next ≡ first + fields_in_lem body.now) }
+{
+    first.checked_add(fields_in(body)).ok_or(AllocError)
+}
+
+/// Returns of each table where its fields are in the list of all.
+pub(crate) fn ranges_of(alloc: Global, declared: &[Declared]) -> Result<Vec<Range>, AllocError>
+    ensures { IfOk result (λ ranges. ranges.items ≡ ranges_from 0 declared.now) }
+{
+    let mut ranges = Vec::new(alloc);
+    let mut first = 0;
+    'declared: for one in declared {
+        push_range(&mut ranges, first, &one.body)?;
+        first = after_fields(first, &one.body)?;
+    }
+    Ok(ranges)
+}
+
+fn tagged_member(ranks: &[usize], index: usize, member: &UnionMember) -> Tagged
+    ensures { result ≡ tagged_lem ranks.now index member.now }
+{
+    Tagged {
+        union: rank_in(ranks, index),
+        tag: member.tag,
+        table: rank_in(ranks, member.table),
+    }
+}
+
+fn push_members(
+    out: &mut Vec<Tagged>,
+    ranks: &[usize],
+    index: usize,
+    members: &[UnionMember],
+) -> Result<(), AllocError>
+    ensures { OnOk result (out.new.items
+        ≡ out.old.items ++ map (tagged_lem ranks.now index) members.now) }
+{
+    'members: for member in members {
+        out.push(tagged_member(ranks, index, member))?;
+    }
+    Ok(())
+}
+
+fn push_tagged(
+    out: &mut Vec<Tagged>,
+    ranks: &[usize],
+    index: usize,
+    body: &Body,
+) -> Result<(), AllocError>
+    ensures { OnOk result (out.new.items
+        ≡ out.old.items ++ tagged_in ranks.now index body.now) }
+{
+    match body {
+        Body::Union(one) => push_members(out, ranks, index, &one.members),
+        _ => Ok(()),
+    }
+}
+
+/// Returns the members of all unions in turn.
+pub(crate) fn tagged_of(
+    alloc: Global,
+    ranks: &[usize],
+    declared: &[Declared],
+) -> Result<Vec<Tagged>, AllocError>
+    ensures { IfOk result (λ all. all.items ≡ tagged_from ranks.now 0 declared.now) }
+{
+    let mut all = Vec::new(alloc);
+    let mut index = 0;
+    'declared: for one in declared {
+        push_tagged(&mut all, ranks, index, &one.body)?;
+        index += 1;
+    }
+    Ok(all)
+}
