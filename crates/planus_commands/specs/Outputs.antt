@@ -14,7 +14,7 @@ use Rattle.planus_commands.specs.Outcomes.{reason_of}
 -- what reads from a pipe is gone
 abbrev pub is_broken : ErrorKind → Bool
 is_broken BrokenPipe = true
-is_broken other = false
+is_broken _ = false
 
 -- a call that writes failed since what reads is gone
 abbrev pub breaks : {T : Type 0} → Result T Error → Bool
