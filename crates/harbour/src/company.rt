@@ -2,11 +2,12 @@
 
 ghost use Rattle.std.specs.Prelude.{◌∷◌, [], codes};
 ghost use Rattle.planus.specs.Printed.{IsTextField, IsBytesField, text_kind, bytes_kind, optional};
+ghost use Rattle.planus.specs.Printed.{gives_as};
 
 use planus::table_reader::Table;
 use planus::{
-    Builder, Built, ByteList, Create, List, Offset, Result, TableKind, TableView, TableWriter,
-    Text, bytes_field, create_table, fields, text_field,
+    Builder, Built, ByteList, Create, List, Offset, Result, SliceWithStartOffset, Stride,
+    TableKind, TableView, TableWriter, Text, bytes_field, create_table, fields, text_field,
 };
 
 /// The kind of `Company`, and of an offset to one.
@@ -60,6 +61,22 @@ impl<'a> TableView<'a> for CompanyRef<'a> {
 
     fn of_table(read: Table<'a>) -> CompanyRef<'a> {
         CompanyRef(read)
+    }
+}
+
+impl<'a> Stride for CompanyRef<'a> {
+    type Stands = u32;
+}
+
+impl<'a> planus::ReadError for CompanyRef<'a> {
+    type Error = planus::Error;
+}
+
+impl<'a> planus::VectorReadInner<'a> for CompanyRef<'a> {
+    ghost gives = { gives_as (λ view. view.0) (codes "[CompanyRef]") };
+
+    fn from_buffer(buffer: SliceWithStartOffset<'a>, offset: usize) -> Result<CompanyRef<'a>> {
+        planus::read_item(buffer, offset)
     }
 }
 

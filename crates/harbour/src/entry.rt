@@ -1,10 +1,10 @@
 //! Tables `Entry`.
 
-ghost use Rattle.std.specs.Prelude.{◌∷◌, [], codes, MatchOption, ⊤};
+ghost use Rattle.std.specs.Prelude.{◌≡◌, ◌∷◌, [], codes, MatchOption, ⊤, None};
 ghost use Rattle.planus.specs.Printed.{u64_shape, IsIn, AllIn, IsTextRequired, IsTableRequired};
 ghost use Rattle.planus.specs.Printed.{IsTableVector, text_kind, table_kind, IsPlainFieldOr};
 ghost use Rattle.planus.specs.Printed.{IsUnionField, ReadsVariants, tables, optional, required};
-ghost use Rattle.planus.specs.Printed.{number_or, union};
+ghost use Rattle.planus.specs.Printed.{number_or, union, gives_as};
 ghost use Rattle.harbour.specs.Cause.{cause_variants};
 ghost use Rattle.harbour.specs.declared.cause.Cause.{Cause};
 ghost use Rattle.harbour.specs.declared.entry.Entry.{Entry};
@@ -15,9 +15,9 @@ use crate::cause::{Cause, CauseRef};
 use crate::origin::{Origin, OriginRef};
 use planus::table_reader::Table;
 use planus::{
-    Builder, Built, Create, List, Offset, OrDefault, Result, TableKind, TableRef, TableView,
-    TableWriter, Text, UnionOffset, Vector, create_table, fields, plain_field_or, table_required,
-    table_vector, text_required, union_field,
+    Builder, Built, Create, List, Offset, OrDefault, Result, SliceWithStartOffset, Stride,
+    TableKind, TableView, TableWriter, Text, UnionOffset, Vector, create_table, fields,
+    plain_field_or, table_required, table_vector, text_required, union_field,
 };
 
 /// An entry of a log.
@@ -31,6 +31,22 @@ pub struct EntryFields<'a> {
     pub origin: Offset<Origin>,
     pub cause: Option<UnionOffset<Cause>>,
     pub parents: Option<&'a [Offset<Entry>]>,
+}
+
+impl Entry {
+    /// Returns the fields with these, which are required, and the others by default.
+    pub fn fields<'a>(text: &'a str, origin: Offset<Origin>) -> EntryFields<'a>
+        ensures given { (result.text ≡ text.entry) × (result.origin ≡ origin) }
+        ensures rest { let x = result in (x.at ≡ 0) × (x.cause ≡ None) × (x.parents ≡ None) }
+    {
+        EntryFields {
+            at: 0,
+            text,
+            origin,
+            cause: None,
+            parents: None,
+        }
+    }
 }
 
 impl<'a> Create<EntryFields<'a>> for Entry {
@@ -93,7 +109,7 @@ impl<'a> EntryRef<'a> {
     }
 
     /// Returns `parents`.
-    pub fn parents(&self) -> Result<Option<Vector<'a, Result<TableRef<'a, Entry>>>>>
+    pub fn parents(&self) -> Result<Option<Vector<'a, Result<EntryRef<'a>>>>>
         ensures { IsTableVector Entry self.now.0 5 (codes "Entry") (codes "parents") result }
     {
         table_vector(&self.0, 5, "Entry", "parents")
@@ -107,6 +123,22 @@ impl<'a> TableView<'a> for EntryRef<'a> {
 
     fn of_table(read: Table<'a>) -> EntryRef<'a> {
         EntryRef(read)
+    }
+}
+
+impl<'a> Stride for EntryRef<'a> {
+    type Stands = u32;
+}
+
+impl<'a> planus::ReadError for EntryRef<'a> {
+    type Error = planus::Error;
+}
+
+impl<'a> planus::VectorReadInner<'a> for EntryRef<'a> {
+    ghost gives = { gives_as (λ view. view.0) (codes "[EntryRef]") };
+
+    fn from_buffer(buffer: SliceWithStartOffset<'a>, offset: usize) -> Result<EntryRef<'a>> {
+        planus::read_item(buffer, offset)
     }
 }
 

@@ -1,6 +1,7 @@
 //! Tables `Manifest`.
 
-ghost use Rattle.std.specs.Prelude.{◌∷◌, [], codes, negsuc, true, false, MatchOption, ⊤};
+ghost use Rattle.std.specs.Prelude.{◌≡◌, ◌∷◌, [], codes, negsuc, true, false, MatchOption, ⊤};
+ghost use Rattle.std.specs.Prelude.{None};
 ghost use Rattle.std.specs.Int.{w8, w16, w32, w64};
 ghost use Rattle.planus.specs.Printed.{of_bits, binary32, binary64, u8_shape, u16_shape};
 ghost use Rattle.planus.specs.Printed.{u32_shape, u64_shape, i8_shape, i16_shape, i32_shape};
@@ -14,7 +15,7 @@ ghost use Rattle.planus.specs.Printed.{table_kind, IsPlainField, IsPlainFieldOr,
 ghost use Rattle.planus.specs.Printed.{IsUnionRequired, IsUnionVector, ReadsVariants, plains};
 ghost use Rattle.planus.specs.Printed.{judged, texts, tables, optional, required, plain_if};
 ghost use Rattle.planus.specs.Printed.{plain_or, number_or, signed_or, union, union_required};
-ghost use Rattle.planus.specs.Printed.{unions};
+ghost use Rattle.planus.specs.Printed.{unions, gives_as};
 ghost use Rattle.harbour.specs.Gauge.{gauge_shape};
 ghost use Rattle.harbour.specs.Kind.{kind_shape};
 ghost use Rattle.harbour.specs.declared.kind.Kind.TheVariants as kind_value;
@@ -38,18 +39,18 @@ use crate::kind::Kind;
 use crate::level::Level;
 use crate::needs::Needs;
 use crate::owner::{Owner, OwnerRef};
-use crate::person::Person;
+use crate::person::{Person, PersonRef};
 use crate::pos::Pos;
 use crate::ship::{Ship, ShipRef};
 use crate::signal::Signal;
 use planus::table_reader::Table;
 use planus::{
     Builder, Built, ByteList, Create, FieldAt, FieldGroup, Lines8, List, Offset, OrDefault, Result,
-    TableKind, TableRef, TableView, TableWriter, Text, UnionOffset, UnionVector, Vector,
-    bytes_field, bytes_required, create_table, fields, plain_field, plain_field_or, plain_required,
-    plain_vector, plain_vector_required, table_field, table_required, table_vector,
-    table_vector_required, text_field, text_required, text_vector, text_vector_required,
-    union_field, union_required, union_vector,
+    SliceWithStartOffset, Stride, TableKind, TableView, TableWriter, Text, UnionOffset,
+    UnionVector, Vector, bytes_field, bytes_required, create_table, fields, plain_field,
+    plain_field_or, plain_required, plain_vector, plain_vector_required, table_field,
+    table_required, table_vector, table_vector_required, text_field, text_required, text_vector,
+    text_vector_required, union_field, union_required, union_vector,
 };
 
 /// What a ship carries, in a field of each kind.
@@ -109,6 +110,81 @@ pub struct ManifestFields<'a> {
     pub owner: Option<UnionOffset<Owner>>,
     pub payer: UnionOffset<Owner>,
     pub owners: &'a [UnionOffset<Owner>],
+}
+
+impl Manifest {
+    /// Returns the fields with these, which are required, and the others by default.
+    pub fn fields<'a>(
+        gauge: Gauge,
+        title: &'a str,
+        stamp: ByteList<'a>,
+        counts: &'a [u32],
+        holders: &'a [&'a str],
+        ship: Offset<Ship>,
+        parts: &'a [Offset<Manifest>],
+        payer: UnionOffset<Owner>,
+    ) -> ManifestFields<'a>
+        ensures given { (result.gauge ≡ gauge) × (result.title ≡ title.entry) ×
+            (result.stamp ≡ stamp.entry) × (result.counts ≡ counts.entry) ×
+            (result.holders ≡ holders.entry) × (result.ship ≡ ship) × (result.parts ≡ parts.entry)
+            × (result.payer ≡ payer) }
+        ensures rest { let x = result in (x.number ≡ 1) × (x.issued ≡ (negsuc 0)) ×
+            (x.weight ≡ (of_bits binary64 4602678819172646912)) × (x.worth ≡ (of_bits binary32 0))
+            × (x.boxes ≡ 12) × (x.debt ≡ (negsuc 6)) × (x.pages ≡ 3) × (x.shift ≡ (negsuc 1)) ×
+            (x.tier ≡ 1) × (x.lean ≡ (negsuc 0)) × (x.sealed ≡ true) × (x.opened ≡ false) ×
+            (x.kind ≡ kind_value.Car) × (x.level ≡ level_value.High) ×
+            (x.needs ≡ (record { bits = 2 })) × (x.signal ≡ signal_value.Alfa) × (x.rank ≡ None) ×
+            (x.margin ≡ None) × (x.dues ≡ None) × (x.paid ≡ None) × (x.grade ≡ None) ×
+            (x.berth ≡ None) × (x.note ≡ None) × (x.scan ≡ None) × (x.weights ≡ None) ×
+            (x.offsets ≡ None) × (x.marks ≡ None) × (x.kinds ≡ None) × (x.track ≡ None) ×
+            (x.labels ≡ None) × (x.next ≡ None) × (x.persons ≡ None) × (x.owner ≡ None) ×
+            (x.owners.now ≡ []) }
+    {
+        ManifestFields {
+            number: 1,
+            issued: -1,
+            weight: DEFAULT_WEIGHT,
+            worth: DEFAULT_WORTH,
+            boxes: 12,
+            debt: -7,
+            pages: 3,
+            shift: -2,
+            tier: 1,
+            lean: -1,
+            sealed: true,
+            opened: false,
+            kind: Kind::Car,
+            level: Level::High,
+            needs: DEFAULT_NEEDS,
+            signal: Signal::Alfa,
+            rank: None,
+            margin: None,
+            dues: None,
+            paid: None,
+            grade: None,
+            berth: None,
+            gauge,
+            title,
+            note: None,
+            scan: None,
+            stamp,
+            weights: None,
+            counts,
+            offsets: None,
+            marks: None,
+            kinds: None,
+            track: None,
+            labels: None,
+            holders,
+            ship,
+            next: None,
+            persons: None,
+            parts,
+            owner: None,
+            payer,
+            owners: &[],
+        }
+    }
 }
 
 type Manifest1FieldLines = Lines8<
@@ -619,14 +695,14 @@ impl<'a> ManifestRef<'a> {
     }
 
     /// Returns `persons`.
-    pub fn persons(&self) -> Result<Option<Vector<'a, Result<TableRef<'a, Person>>>>>
+    pub fn persons(&self) -> Result<Option<Vector<'a, Result<PersonRef<'a>>>>>
         ensures { IsTableVector Person self.now.0 37 (codes "Manifest") (codes "persons") result }
     {
         table_vector(&self.0, 37, "Manifest", "persons")
     }
 
     /// Returns `parts`.
-    pub fn parts(&self) -> Result<Vector<'a, Result<TableRef<'a, Manifest>>>>
+    pub fn parts(&self) -> Result<Vector<'a, Result<ManifestRef<'a>>>>
         ensures { IsTableVectorRequired Manifest self.now.0 38 (codes "Manifest") (codes "parts")
             result }
     {
@@ -664,6 +740,22 @@ impl<'a> TableView<'a> for ManifestRef<'a> {
 
     fn of_table(read: Table<'a>) -> ManifestRef<'a> {
         ManifestRef(read)
+    }
+}
+
+impl<'a> Stride for ManifestRef<'a> {
+    type Stands = u32;
+}
+
+impl<'a> planus::ReadError for ManifestRef<'a> {
+    type Error = planus::Error;
+}
+
+impl<'a> planus::VectorReadInner<'a> for ManifestRef<'a> {
+    ghost gives = { gives_as (λ view. view.0) (codes "[ManifestRef]") };
+
+    fn from_buffer(buffer: SliceWithStartOffset<'a>, offset: usize) -> Result<ManifestRef<'a>> {
+        planus::read_item(buffer, offset)
     }
 }
 

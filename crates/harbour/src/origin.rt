@@ -2,12 +2,12 @@
 
 ghost use Rattle.std.specs.Prelude.{◌∷◌, [], codes};
 ghost use Rattle.planus.specs.Printed.{u16_shape, IsTextField, text_kind, IsPlainFieldOr};
-ghost use Rattle.planus.specs.Printed.{optional, number_or};
+ghost use Rattle.planus.specs.Printed.{optional, number_or, gives_as};
 
 use planus::table_reader::Table;
 use planus::{
-    Builder, Built, Create, Offset, OrDefault, Result, TableKind, TableView, TableWriter, Text,
-    create_table, fields, plain_field_or, text_field,
+    Builder, Built, Create, Offset, OrDefault, Result, SliceWithStartOffset, Stride, TableKind,
+    TableView, TableWriter, Text, create_table, fields, plain_field_or, text_field,
 };
 
 /// Where a log is kept.
@@ -61,6 +61,22 @@ impl<'a> TableView<'a> for OriginRef<'a> {
 
     fn of_table(read: Table<'a>) -> OriginRef<'a> {
         OriginRef(read)
+    }
+}
+
+impl<'a> Stride for OriginRef<'a> {
+    type Stands = u32;
+}
+
+impl<'a> planus::ReadError for OriginRef<'a> {
+    type Error = planus::Error;
+}
+
+impl<'a> planus::VectorReadInner<'a> for OriginRef<'a> {
+    ghost gives = { gives_as (λ view. view.0) (codes "[OriginRef]") };
+
+    fn from_buffer(buffer: SliceWithStartOffset<'a>, offset: usize) -> Result<OriginRef<'a>> {
+        planus::read_item(buffer, offset)
     }
 }
 

@@ -1,13 +1,13 @@
 //! Tables `Person`.
 
-ghost use Rattle.std.specs.Prelude.{◌∷◌, [], codes};
+ghost use Rattle.std.specs.Prelude.{◌≡◌, ◌∷◌, [], codes};
 ghost use Rattle.planus.specs.Printed.{u8_shape, IsTextRequired, text_kind, IsPlainFieldOr};
-ghost use Rattle.planus.specs.Printed.{required, number_or};
+ghost use Rattle.planus.specs.Printed.{required, number_or, gives_as};
 
 use planus::table_reader::Table;
 use planus::{
-    Builder, Built, Create, Offset, OrDefault, Result, TableKind, TableView, TableWriter, Text,
-    create_table, fields, plain_field_or, text_required,
+    Builder, Built, Create, Offset, OrDefault, Result, SliceWithStartOffset, Stride, TableKind,
+    TableView, TableWriter, Text, create_table, fields, plain_field_or, text_required,
 };
 
 /// The kind of `Person`, and of an offset to one.
@@ -18,6 +18,16 @@ pub struct Person;
 pub struct PersonFields<'a> {
     pub name: &'a str,
     pub age: u8,
+}
+
+impl Person {
+    /// Returns the fields with these, which are required, and the others by default.
+    pub fn fields<'a>(name: &'a str) -> PersonFields<'a>
+        ensures given { (result.name ≡ name.entry) }
+        ensures rest { let x = result in (x.age ≡ 18) }
+    {
+        PersonFields { name, age: 18 }
+    }
 }
 
 impl<'a> Create<PersonFields<'a>> for Person {
@@ -61,6 +71,22 @@ impl<'a> TableView<'a> for PersonRef<'a> {
 
     fn of_table(read: Table<'a>) -> PersonRef<'a> {
         PersonRef(read)
+    }
+}
+
+impl<'a> Stride for PersonRef<'a> {
+    type Stands = u32;
+}
+
+impl<'a> planus::ReadError for PersonRef<'a> {
+    type Error = planus::Error;
+}
+
+impl<'a> planus::VectorReadInner<'a> for PersonRef<'a> {
+    ghost gives = { gives_as (λ view. view.0) (codes "[PersonRef]") };
+
+    fn from_buffer(buffer: SliceWithStartOffset<'a>, offset: usize) -> Result<PersonRef<'a>> {
+        planus::read_item(buffer, offset)
     }
 }
 

@@ -1,12 +1,12 @@
 //! Tables `Port`.
 
-ghost use Rattle.std.specs.Prelude.{◌∷◌, [], codes};
+ghost use Rattle.std.specs.Prelude.{◌≡◌, ◌∷◌, [], codes, None};
 ghost use Rattle.planus.specs.Printed.{u16_shape, IsIn, AllIn, AllUnionsIn, IsPlainVectorRequired};
 ghost use Rattle.planus.specs.Printed.{IsBytesRequired, IsTextVectorRequired};
 ghost use Rattle.planus.specs.Printed.{IsTableVectorRequired, bytes_kind, IsPlainField};
 ghost use Rattle.planus.specs.Printed.{IsPlainFieldOr, IsUnionRequired, IsUnionVectorRequired};
 ghost use Rattle.planus.specs.Printed.{ReadsVariants, plains, texts, tables, required, plain_if};
-ghost use Rattle.planus.specs.Printed.{plain_or, union_required, unions_required};
+ghost use Rattle.planus.specs.Printed.{plain_or, union_required, unions_required, gives_as};
 ghost use Rattle.harbour.specs.Gauge.{gauge_shape};
 ghost use Rattle.harbour.specs.Owner.{owner_variants};
 ghost use Rattle.harbour.specs.declared.owner.OwnerRef.{OwnerRef};
@@ -16,14 +16,14 @@ ghost use Rattle.harbour.specs.declared.signal.Signal.TheVariants as signal_valu
 
 use crate::gauge::Gauge;
 use crate::owner::{Owner, OwnerRef};
-use crate::ship::Ship;
+use crate::ship::{Ship, ShipRef};
 use crate::signal::Signal;
 use planus::table_reader::Table;
 use planus::{
-    Builder, Built, ByteList, Create, List, Offset, OrDefault, Result, TableKind, TableRef,
-    TableView, TableWriter, Text, UnionOffset, UnionVector, Vector, bytes_required, create_table,
-    fields, plain_field, plain_field_or, plain_vector_required, table_vector_required,
-    text_vector_required, union_required, union_vector_required,
+    Builder, Built, ByteList, Create, List, Offset, OrDefault, Result, SliceWithStartOffset,
+    Stride, TableKind, TableView, TableWriter, Text, UnionOffset, UnionVector, Vector,
+    bytes_required, create_table, fields, plain_field, plain_field_or, plain_vector_required,
+    table_vector_required, text_vector_required, union_required, union_vector_required,
 };
 
 /// Where ships lie.
@@ -41,6 +41,34 @@ pub struct PortFields<'a> {
     pub gauge: Option<Gauge>,
     /// What it hoists.
     pub hoisted: Signal,
+}
+
+impl Port {
+    /// Returns the fields with these, which are required, and the others by default.
+    pub fn fields<'a>(
+        owner: UnionOffset<Owner>,
+        ships: &'a [Offset<Ship>],
+        berths: &'a [&'a str],
+        shares: &'a [UnionOffset<Owner>],
+        soundings: &'a [u16],
+        chart: ByteList<'a>,
+    ) -> PortFields<'a>
+        ensures given { (result.owner ≡ owner) × (result.ships ≡ ships.entry) ×
+            (result.berths ≡ berths.entry) × (result.shares ≡ shares.entry) ×
+            (result.soundings ≡ soundings.entry) × (result.chart ≡ chart.entry) }
+        ensures rest { let x = result in (x.gauge ≡ None) × (x.hoisted ≡ signal_value.Quebec) }
+    {
+        PortFields {
+            owner,
+            ships,
+            berths,
+            shares,
+            soundings,
+            chart,
+            gauge: None,
+            hoisted: Signal::Quebec,
+        }
+    }
 }
 
 impl<'a> Create<PortFields<'a>> for Port {
@@ -87,7 +115,7 @@ impl<'a> PortRef<'a> {
     }
 
     /// Returns `ships`.
-    pub fn ships(&self) -> Result<Vector<'a, Result<TableRef<'a, Ship>>>>
+    pub fn ships(&self) -> Result<Vector<'a, Result<ShipRef<'a>>>>
         ensures { IsTableVectorRequired Ship self.now.0 2 (codes "Port") (codes "ships") result }
     {
         table_vector_required(&self.0, 2, "Port", "ships")
@@ -144,6 +172,22 @@ impl<'a> TableView<'a> for PortRef<'a> {
 
     fn of_table(read: Table<'a>) -> PortRef<'a> {
         PortRef(read)
+    }
+}
+
+impl<'a> Stride for PortRef<'a> {
+    type Stands = u32;
+}
+
+impl<'a> planus::ReadError for PortRef<'a> {
+    type Error = planus::Error;
+}
+
+impl<'a> planus::VectorReadInner<'a> for PortRef<'a> {
+    ghost gives = { gives_as (λ view. view.0) (codes "[PortRef]") };
+
+    fn from_buffer(buffer: SliceWithStartOffset<'a>, offset: usize) -> Result<PortRef<'a>> {
+        planus::read_item(buffer, offset)
     }
 }
 

@@ -14,7 +14,6 @@ ghost use Rattle.harbour.specs.declared.verified.ship.ShipView.{ShipView};
 use crate::FILE_IDENTIFIER;
 use crate::ship::{Ship, ShipRef};
 use crate::verified::ship::ShipView;
-use planus::errors::ErrorKind;
 use planus::{BuildError, Builder, Offset, read_root, read_sized_root};
 
 /// Reads the root of a buffer.
@@ -25,8 +24,8 @@ pub fn read_as_root(bytes: &[u8]) -> planus::Result<ShipRef<'_>>
 }
 
 /// Reads the root of the first of these size-prefixed buffers, and returns what follows it too.
-pub fn read_size_prefixed_as_root(bytes: &[u8]) -> Result<(ShipRef<'_>, &[u8]), ErrorKind>
-    ensures { IsSizedRoot (λ view. view.0) bytes.now result }
+pub fn read_size_prefixed_as_root(bytes: &[u8]) -> planus::Result<(ShipRef<'_>, &[u8])>
+    ensures { IsSizedRoot (codes "[ShipRef]") (λ view. view.0) bytes.now result }
 {
     read_sized_root(bytes)
 }

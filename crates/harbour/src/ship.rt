@@ -1,6 +1,7 @@
 //! Tables `Ship`.
 
-ghost use Rattle.std.specs.Prelude.{◌∷◌, [], codes, pos, negsuc, true, false, MatchOption, ⊤};
+ghost use Rattle.std.specs.Prelude.{◌≡◌, ◌∷◌, [], codes, pos, negsuc, true, false, MatchOption, ⊤};
+ghost use Rattle.std.specs.Prelude.{None};
 ghost use Rattle.std.specs.Int.{w16, w64};
 ghost use Rattle.planus.specs.Printed.{of_bits, binary32, u16_shape, u32_shape, i8_shape};
 ghost use Rattle.planus.specs.Printed.{i16_shape, i32_shape, i64_shape, bool_shape, f32_shape};
@@ -11,6 +12,7 @@ ghost use Rattle.planus.specs.Printed.{text_kind, bytes_kind, table_kind, IsPlai
 ghost use Rattle.planus.specs.Printed.{IsPlainFieldOr, IsUnionField, IsUnionVector, ReadsVariants};
 ghost use Rattle.planus.specs.Printed.{plains, judged, texts, tables, optional, required};
 ghost use Rattle.planus.specs.Printed.{plain_if, plain_or, number_or, signed_or, union, unions};
+ghost use Rattle.planus.specs.Printed.{gives_as};
 ghost use Rattle.harbour.specs.Fix.{fix_shape};
 ghost use Rattle.harbour.specs.Kind.{kind_shape};
 ghost use Rattle.harbour.specs.declared.kind.Kind.TheVariants as kind_value;
@@ -32,10 +34,10 @@ use crate::owner::{Owner, OwnerRef};
 use crate::pos::Pos;
 use planus::table_reader::Table;
 use planus::{
-    Builder, Built, ByteList, Create, List, Offset, OrDefault, Result, TableKind, TableRef,
-    TableView, TableWriter, Text, UnionOffset, UnionVector, Vector, bytes_field, create_table,
-    fields, plain_field, plain_field_or, plain_required, plain_vector, table_field, table_vector,
-    text_required, text_vector, union_field, union_vector,
+    Builder, Built, ByteList, Create, List, Offset, OrDefault, Result, SliceWithStartOffset,
+    Stride, TableKind, TableView, TableWriter, Text, UnionOffset, UnionVector, Vector, bytes_field,
+    create_table, fields, plain_field, plain_field_or, plain_required, plain_vector, table_field,
+    table_vector, text_required, text_vector, union_field, union_vector,
 };
 
 /// A ship in a harbour.
@@ -77,6 +79,50 @@ pub struct ShipFields<'a> {
     pub fix: Fix,
     pub which: Option<Kind>,
     pub flags: Option<&'a [bool]>,
+}
+
+impl Ship {
+    /// Returns the fields with these, which are required, and the others by default.
+    pub fn fields<'a>(name: &'a str, fix: Fix) -> ShipFields<'a>
+        ensures given { (result.name ≡ name.entry) × (result.fix ≡ fix) }
+        ensures rest { let x = result in (x.hull ≡ 100) × (x.cargo ≡ None) ×
+            (x.kind ≡ kind_value.Bike) × (x.level ≡ level_value.Mid) ×
+            (x.needs ≡ (record { bits = 1 })) × (x.home ≡ None) × (x.track ≡ None) ×
+            (x.heat ≡ (of_bits binary32 1069547520)) × (x.depth ≡ (negsuc 4)) × (x.open ≡ true) ×
+            (x.shut ≡ false) × (x.maybe ≡ None) × (x.photo ≡ None) × (x.names ≡ None) ×
+            (x.mate ≡ None) × (x.consorts ≡ None) × (x.kinds ≡ None) × (x.owner ≡ None) ×
+            (x.shares.now ≡ []) × (x.tall ≡ (pos 0)) × (x.temps ≡ None) × (x.deltas ≡ None) ×
+            (x.which ≡ None) × (x.flags ≡ None) }
+    {
+        ShipFields {
+            name,
+            hull: 100,
+            cargo: None,
+            kind: Kind::Bike,
+            level: Level::Mid,
+            needs: DEFAULT_NEEDS,
+            home: None,
+            track: None,
+            heat: DEFAULT_HEAT,
+            depth: -5,
+            open: true,
+            shut: false,
+            maybe: None,
+            photo: None,
+            names: None,
+            mate: None,
+            consorts: None,
+            kinds: None,
+            owner: None,
+            shares: &[],
+            tall: 0,
+            temps: None,
+            deltas: None,
+            fix,
+            which: None,
+            flags: None,
+        }
+    }
 }
 
 impl<'a> Create<ShipFields<'a>> for Ship {
@@ -272,7 +318,7 @@ impl<'a> ShipRef<'a> {
     }
 
     /// Returns `consorts`.
-    pub fn consorts(&self) -> Result<Option<Vector<'a, Result<TableRef<'a, Ship>>>>>
+    pub fn consorts(&self) -> Result<Option<Vector<'a, Result<ShipRef<'a>>>>>
         ensures { IsTableVector Ship self.now.0 16 (codes "Ship") (codes "consorts") result }
     {
         table_vector(&self.0, 16, "Ship", "consorts")
@@ -351,6 +397,22 @@ impl<'a> TableView<'a> for ShipRef<'a> {
 
     fn of_table(read: Table<'a>) -> ShipRef<'a> {
         ShipRef(read)
+    }
+}
+
+impl<'a> Stride for ShipRef<'a> {
+    type Stands = u32;
+}
+
+impl<'a> planus::ReadError for ShipRef<'a> {
+    type Error = planus::Error;
+}
+
+impl<'a> planus::VectorReadInner<'a> for ShipRef<'a> {
+    ghost gives = { gives_as (λ view. view.0) (codes "[ShipRef]") };
+
+    fn from_buffer(buffer: SliceWithStartOffset<'a>, offset: usize) -> Result<ShipRef<'a>> {
+        planus::read_item(buffer, offset)
     }
 }
 

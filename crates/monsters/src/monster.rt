@@ -1,23 +1,24 @@
 //! Tables `Monster`.
 
-ghost use Rattle.std.specs.Prelude.{◌∷◌, [], codes, pos, MatchOption, ⊤};
+ghost use Rattle.std.specs.Prelude.{◌≡◌, ◌∷◌, [], codes, pos, MatchOption, ⊤, None};
 ghost use Rattle.std.specs.Int.{w16};
 ghost use Rattle.planus.specs.Printed.{i16_shape, IsIn, AllIn, AllUnionsIn, IsTextRequired};
 ghost use Rattle.planus.specs.Printed.{IsBytesField, IsTableVector, text_kind, bytes_kind};
 ghost use Rattle.planus.specs.Printed.{IsPlainFieldOr, IsUnionField, IsUnionVector, ReadsVariants};
 ghost use Rattle.planus.specs.Printed.{tables, optional, required, signed_or, union, unions};
+ghost use Rattle.planus.specs.Printed.{gives_as};
 ghost use Rattle.monsters.specs.Equipment.{equipment_variants};
 ghost use Rattle.monsters.specs.declared.equipment.Equipment.{Equipment};
 ghost use Rattle.monsters.specs.declared.equipment.EquipmentRef.{EquipmentRef};
 ghost use Rattle.monsters.specs.declared.weapon.Weapon.{Weapon};
 
 use crate::equipment::{Equipment, EquipmentRef};
-use crate::weapon::Weapon;
+use crate::weapon::{Weapon, WeaponRef};
 use planus::table_reader::Table;
 use planus::{
-    Builder, Built, ByteList, Create, List, Offset, OrDefault, Result, TableKind, TableRef,
-    TableView, TableWriter, Text, UnionOffset, UnionVector, Vector, bytes_field, create_table,
-    fields, plain_field_or, table_vector, text_required, union_field, union_vector,
+    Builder, Built, ByteList, Create, List, Offset, OrDefault, Result, SliceWithStartOffset,
+    Stride, TableKind, TableView, TableWriter, Text, UnionOffset, UnionVector, Vector, bytes_field,
+    create_table, fields, plain_field_or, table_vector, text_required, union_field, union_vector,
 };
 
 /// The kind of `Monster`, and of an offset to one.
@@ -32,6 +33,24 @@ pub struct MonsterFields<'a> {
     pub weapons: Option<&'a [Offset<Weapon>]>,
     pub equipped: Option<UnionOffset<Equipment>>,
     pub loot: &'a [UnionOffset<Equipment>],
+}
+
+impl Monster {
+    /// Returns the fields with these, which are required, and the others by default.
+    pub fn fields<'a>(name: &'a str) -> MonsterFields<'a>
+        ensures given { (result.name ≡ name.entry) }
+        ensures rest { let x = result in (x.hp ≡ (pos 100)) × (x.inventory ≡ None) ×
+            (x.weapons ≡ None) × (x.equipped ≡ None) × (x.loot.now ≡ []) }
+    {
+        MonsterFields {
+            hp: 100,
+            name,
+            inventory: None,
+            weapons: None,
+            equipped: None,
+            loot: &[],
+        }
+    }
 }
 
 impl<'a> Create<MonsterFields<'a>> for Monster {
@@ -88,7 +107,7 @@ impl<'a> MonsterRef<'a> {
     }
 
     /// Returns `weapons`.
-    pub fn weapons(&self) -> Result<Option<Vector<'a, Result<TableRef<'a, Weapon>>>>>
+    pub fn weapons(&self) -> Result<Option<Vector<'a, Result<WeaponRef<'a>>>>>
         ensures { IsTableVector Weapon self.now.0 3 (codes "Monster") (codes "weapons") result }
     {
         table_vector(&self.0, 3, "Monster", "weapons")
@@ -117,6 +136,22 @@ impl<'a> TableView<'a> for MonsterRef<'a> {
 
     fn of_table(read: Table<'a>) -> MonsterRef<'a> {
         MonsterRef(read)
+    }
+}
+
+impl<'a> Stride for MonsterRef<'a> {
+    type Stands = u32;
+}
+
+impl<'a> planus::ReadError for MonsterRef<'a> {
+    type Error = planus::Error;
+}
+
+impl<'a> planus::VectorReadInner<'a> for MonsterRef<'a> {
+    ghost gives = { gives_as (λ view. view.0) (codes "[MonsterRef]") };
+
+    fn from_buffer(buffer: SliceWithStartOffset<'a>, offset: usize) -> Result<MonsterRef<'a>> {
+        planus::read_item(buffer, offset)
     }
 }
 

@@ -9,7 +9,6 @@ ghost use Rattle.monsters.specs.declared.verified.monster.MonsterView.{MonsterVi
 
 use crate::monster::MonsterRef;
 use crate::verified::monster::MonsterView;
-use planus::errors::ErrorKind;
 use planus::{read_root, read_sized_root};
 
 /// Reads the root of a buffer.
@@ -20,8 +19,8 @@ pub fn read_as_root(bytes: &[u8]) -> planus::Result<MonsterRef<'_>>
 }
 
 /// Reads the root of the first of these size-prefixed buffers, and returns what follows it too.
-pub fn read_size_prefixed_as_root(bytes: &[u8]) -> Result<(MonsterRef<'_>, &[u8]), ErrorKind>
-    ensures { IsSizedRoot (λ view. view.0) bytes.now result }
+pub fn read_size_prefixed_as_root(bytes: &[u8]) -> planus::Result<(MonsterRef<'_>, &[u8])>
+    ensures { IsSizedRoot (codes "[MonsterRef]") (λ view. view.0) bytes.now result }
 {
     read_sized_root(bytes)
 }

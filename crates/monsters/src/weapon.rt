@@ -3,12 +3,12 @@
 ghost use Rattle.std.specs.Prelude.{◌∷◌, [], codes, pos};
 ghost use Rattle.std.specs.Int.{w16};
 ghost use Rattle.planus.specs.Printed.{i16_shape, IsTextField, text_kind, IsPlainFieldOr};
-ghost use Rattle.planus.specs.Printed.{optional, signed_or};
+ghost use Rattle.planus.specs.Printed.{optional, signed_or, gives_as};
 
 use planus::table_reader::Table;
 use planus::{
-    Builder, Built, Create, Offset, OrDefault, Result, TableKind, TableView, TableWriter, Text,
-    create_table, fields, plain_field_or, text_field,
+    Builder, Built, Create, Offset, OrDefault, Result, SliceWithStartOffset, Stride, TableKind,
+    TableView, TableWriter, Text, create_table, fields, plain_field_or, text_field,
 };
 
 /// What a monster carries.
@@ -63,6 +63,22 @@ impl<'a> TableView<'a> for WeaponRef<'a> {
 
     fn of_table(read: Table<'a>) -> WeaponRef<'a> {
         WeaponRef(read)
+    }
+}
+
+impl<'a> Stride for WeaponRef<'a> {
+    type Stands = u32;
+}
+
+impl<'a> planus::ReadError for WeaponRef<'a> {
+    type Error = planus::Error;
+}
+
+impl<'a> planus::VectorReadInner<'a> for WeaponRef<'a> {
+    ghost gives = { gives_as (λ view. view.0) (codes "[WeaponRef]") };
+
+    fn from_buffer(buffer: SliceWithStartOffset<'a>, offset: usize) -> Result<WeaponRef<'a>> {
+        planus::read_item(buffer, offset)
     }
 }
 

@@ -151,3 +151,28 @@ module _ {T R V : Type 0} {kind : PlainGhosts R} (K : Type 0) (name : List ℕ) 
         answer = is.answer;
         read_back = λ B distances distance are at there. elim (is.read_back B distances distance are at there) [ ];
       }
+
+module _ {V R : Type 0} {kind : PlainGhosts R} (K : Type 0) (name : List ℕ) (table_of : V → Table)
+    (vector : VectorOf (SliceView (Result V Error) R kind)) (index : ℕ) where
+  item_is_of : (B : List ℕ) (distance : ℕ) (distances : List ℕ)
+      → ItemsAreTables kind K B distances vector → slice_get distances index ≡ Some distance
+      → TableIsThere B distance → (read : Result V Error)
+      → IsItemRead (reads_as table_of) name vector index read
+      → IsOkAnd read (IsViewOf table_of B distance)
+  item_is_of B distance distances are at there (Ok view) h = λ contents stands.
+      are.item index distance contents at stands name item_method (view_of vector).start
+      (Ok (record { table = table_of view; _marker = record {} })) h
+  item_is_of B distance distances are at there (Err e) h =
+      are.item index distance there.0 at there.1 name item_method (view_of vector).start (Err e) h
+
+  pub table_view_read : (r : Option (Result V Error))
+      → Gets (reads_as table_of) name vector index r → IsTableItem K name table_of vector index r
+  table_view_read r h =
+      let answer = item_answered (reads_as table_of) name vector index r h in
+      record {
+        answer = answer;
+        read_back = λ B distances distance are at there.
+            item_there (reads_as table_of) name vector index r distances distance
+            (IsViewOf table_of B distance) answer are.count at
+            (λ read h. item_is_of B distance distances are at there read h);
+      }

@@ -1,11 +1,13 @@
 -- The root after a size reads back.
-use Rattle.std.proofs.Common.{◌≡◌, ℕ, List, ◌++◌, drop, Option, Result, Ok, Err, subst, ap, ◌∙◌}
+use Rattle.std.proofs.Common.{◌≡◌, ℕ, List, codes, ◌++◌, drop, Option, Result, Ok, Err, subst, sym, ap, ◌∙◌}
 use Rattle.std.proofs.Common.{inl, inr}
 use Rattle.std.specs.Prelude.{IsOkAnd}
 use Rattle.std.specs.Borrow.{Bor}
 use Rattle.planus_read.specs.declared.errors.ErrorKind.{ErrorKind}
+use Rattle.planus_read.specs.declared.located.Error.{Error}
 use Rattle.planus_read.specs.declared.table_reader.Table.{Table}
 use Rattle.planus_read.specs.Clauses.{FirstBroken}
+use Rattle.planus_read.specs.Located.{Located}
 use Rattle.planus_read.specs.SizePrefixed.{Prefixed, PrefixedThere, IsPrefixed, prefixed_clauses}
 use Rattle.planus_read.specs.Stands.{ReferenceStands}
 use Rattle.planus_read.proofs.SizePrefixed.{buffers_are_read}
@@ -15,6 +17,12 @@ use Rattle.planus.specs.ReadBack.{TableStands, TableHolds}
 use Rattle.planus.specs.SizedRoots.{IsSizedRoot, ReadsSized}
 use Rattle.planus.specs.Views.{reads_as}
 use Rattle.planus.proofs.Accessors.{view_led}
+
+pub located_as : {A : Type 0} (P : Result A ErrorKind → Type 0) (read : Result A ErrorKind)
+    (name method : List ℕ) (offset : ℕ) → P read → (r : Result A Error)
+    → Located (λ answer. answer ≡ read) name method offset r → Located P name method offset r
+located_as P read name method offset h (Ok x) is = subst P (sym is) h
+located_as P read name method offset h (Err e) is = (subst P (sym is.0) h, is.1)
 
 module _ {V : Type 0} (table_of : V → Table) (B : List ℕ) where
   module _ (buffer rest : List ℕ) (contents : List (ℕ × Option Content)) (distance : ℕ)
@@ -48,10 +56,21 @@ module _ {V : Type 0} (table_of : V → Table) (B : List ℕ) where
         absurd (cc (wrong))
     back (Err e) (inr (prefixed, there, reads)) = read prefixed there (Err e) reads
 
-  pub sized_root : (r : Result (V × Bor (List ℕ)) ErrorKind) → ReadsSized table_of B r
-      → IsSizedRoot table_of B r
-  sized_root r h = record {
+  located : (name : List ℕ) (buffer rest : List ℕ) (contents : List (ℕ × Option Content))
+      (distance : ℕ) → B ≡ buffer ++ rest → IsPrefixed buffer → TableStands buffer contents distance
+      → ReferenceStands buffer 4 distance → (r : Result (V × Bor (List ℕ)) Error)
+      → Located (ReadsSized table_of B) name (codes "read_as_root") 0 r
+      → IsOkAnd r (λ found. TableHolds buffer contents (table_of found.0) × (found.1.now ≡ rest))
+  located name buffer rest contents distance is sized stands referred (Ok found) h =
+      back buffer rest contents distance is sized stands referred (Ok found) h
+  located name buffer rest contents distance is sized stands referred (Err e) h =
+      back buffer rest contents distance is sized stands referred (Err e.error_kind) h.0
+
+  pub sized_root : (name : List ℕ) (r : Result (V × Bor (List ℕ)) Error)
+      → Located (ReadsSized table_of B) name (codes "read_as_root") 0 r
+      → IsSizedRoot name table_of B r
+  sized_root name r h = record {
     answer = h;
     read_back = λ buffer rest contents distance is sized stands referred.
-        back buffer rest contents distance is sized stands referred r h;
+        located name buffer rest contents distance is sized stands referred r h;
   }

@@ -17,7 +17,7 @@ use Rattle.planus_view.specs.declared.vector_of.VectorOf.{VectorOf}
 use Rattle.planus.specs.Accessors.{TableIsThere, IsViewOf}
 use Rattle.planus.specs.ReadKinds.{reads_text, reads_view}
 use Rattle.planus.specs.ReadVectors.{ItemsAreTexts, ItemsAreTables}
-use Rattle.planus.specs.Views.{reads_as}
+use Rattle.planus.specs.Views.{gives_as, reads_as}
 use Rattle.planus.specs.declared.tables.table_ref.TableRef.{TableRef}
 
 module _ {T R A : Type 0} {kind : PlainGhosts R} (reads : Reads A) (name : List ℕ) where
@@ -55,3 +55,15 @@ pub record IsTableItem {T R V : Type 0} {kind : PlainGhosts R} (K : Type 0) (nam
       (B distances : List ℕ) (distance : ℕ) → ItemsAreTables kind K B distances vector
       → slice_get distances index ≡ Some distance → TableIsThere B distance
       → IsSomeAnd r (λ item. IsOkAnd item (IsViewOf table_of B distance))
+
+-- What `get` returns of a vector of views is the view of the table at the index.
+abbrev pub TableViewsReadBack : {V R : Type 0} → PlainGhosts R → Type 0 → (V → Table) → Type 0
+TableViewsReadBack {V} {R} kind K table_of =
+    (name : List ℕ) (vector : VectorOf (SliceView (Result V Error) R kind)) (index : ℕ)
+    (r : Option (Result V Error))
+    → GetsItem (λ v. count_of v)
+    (λ v i item. Converted
+    (gives_as table_of name (view_of v).bytes (view_of v).start (i * kind.SIZE))
+    (λ (e f : Error). f ≡ e) item)
+    vector index r
+    → IsTableItem K name table_of vector index r

@@ -30,3 +30,4 @@ pub use Rattle.planus.specs.FieldLines.FieldLine.{optional, required, plain_if, 
 pub use Rattle.planus.specs.FieldLines.FieldLine.{number_or, signed_or, union, union_required}
 pub use Rattle.planus.specs.FieldLines.FieldLine.{unions, unions_required}
 pub use Rattle.planus.specs.SizedRoots.{IsSizedRoot}
+pub use Rattle.planus.specs.Views.{gives_as}

@@ -5,12 +5,14 @@ ghost use Rattle.planus.specs.ReadBack.{FinishesKeepTables, SizedFinishesKeepTab
 ghost use Rattle.planus.specs.ReadBack.{FinishedTablesStand, SizedFinishedTablesStand};
 ghost use Rattle.planus.specs.ReadBack.{RootsReadBack};
 ghost use Rattle.planus.specs.ReadBack.{ItemsReadBack, ReferencesReadBack};
+ghost use Rattle.planus.specs.ItemAccessors.{TableViewsReadBack};
 ghost use Rattle.planus.specs.ReadPlain.{PlainResultsReadBack};
 ghost use Rattle.planus.specs.Once.{EqualContentsHaveOneDistance, EqualEntriesGetOneDistance};
 ghost use Rattle.planus.specs.Replays.{AnAnswerIsThere, AnswersAreOne};
 ghost use Rattle.planus.specs.SameTrees.{TreesAreTheSame};
 ghost use Rattle.planus.specs.Streams.{SizedFinishesAreRead, SizedStreamsAreRead};
 
+use crate::tables::TableView;
 use planus_read::Plain;
 pub use planus_read::laws as read_laws;
 pub use planus_unions::laws as unions_laws;
@@ -54,6 +56,12 @@ pub fn views_read_back<K>()
 /// An item of a fixed layout whose read may fail is returned by `get` as the value at its index.
 pub fn plain_values_read_back<T: Plain>()
     ensures { PlainResultsReadBack T.Plain }
+{}
+
+/// An item of a vector of a user's views of tables, which are read by [`crate::read_item`], is
+/// returned by `get` as the view of the table at its index.
+pub fn table_views_read_back<'a, V: TableView<'a>>()
+    ensures { TableViewsReadBack ⟦<u32 as Plain>⟧ V.Kind V.table }
 {}
 
 /// A list of steps has one result, out of memory aside, so none depends on the mask of the hashes.

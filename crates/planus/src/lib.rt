@@ -124,6 +124,7 @@ pub use tables::plain_item;
 pub use tables::plain_required;
 pub use tables::plain_vector;
 pub use tables::plain_vector_required;
+pub use tables::read_item;
 pub use tables::read_root;
 pub use tables::read_view;
 pub use tables::table_field;

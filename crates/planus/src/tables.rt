@@ -42,7 +42,7 @@ pub use plain_fields::{
 pub use prepare_fields::PrepareFields;
 pub use required::Required;
 pub use table_fields::{
-    read_root, read_view, table_field, table_item, table_required, table_vector,
+    read_item, read_root, read_view, table_field, table_item, table_required, table_vector,
     table_vector_required,
 };
 pub use table_kind::TableKind;

@@ -41,7 +41,7 @@ in_clauses =
     ++ (codes "IsPlainFieldOr IsRoot IsUnionField IsUnionRequired IsUnionVector "
     ++ (codes "IsUnionVectorRequired ReadsVariants UnionVariant table_variant plains judged "
     ++ (codes "texts tables optional required plain_if plain_or number_or signed_or union "
-    ++ codes "union_required unions unions_required IsSizedRoot")))))))))))))
+    ++ codes "union_required unions unions_required IsSizedRoot gives_as")))))))))))))
     ∷ (codes "view_table checked_texts checked_tables checked_unions Returns ReturnsAs "
     ++ (codes "checked_option Checked unknown option_map IsNestedField IsNestedRequired RootWalks "
     ++ codes "IsMember member_tag member_bytes member_start member_offset"))
@@ -52,7 +52,7 @@ unfoldable pub in_code : List ℕ
 in_code =
     codes "BuildError Builder Built ByteList Create Exact FieldAt FieldGroup Lines8 "
     ++ (codes "List Offset OrDefault Plain PlainField PlainTotal Result "
-    ++ (codes "SliceWithStartOffset Stride TableKind TableReadUnion TableRef TableView "
+    ++ (codes "SliceWithStartOffset Stride TableKind TableReadUnion TableView "
     ++ (codes "TableWriter Text UnionOffset UnionVector Vector VectorReadUnion bytes_field "
     ++ (codes "bytes_required create_table fields plain_field plain_field_or "
     ++ (codes "plain_required plain_vector plain_vector_required put_fields read_fields "

@@ -30,7 +30,7 @@ pub(crate) const WORDS: [(&str, &str); 6] = [
          bytes_kind table_kind IsPlainField IsPlainFieldOr IsRoot IsUnionField IsUnionRequired \
          IsUnionVector IsUnionVectorRequired ReadsVariants UnionVariant table_variant plains \
          judged texts tables optional required plain_if plain_or number_or signed_or union \
-         union_required unions unions_required IsSizedRoot",
+         union_required unions unions_required IsSizedRoot gives_as",
     ),
     (
         "planus_views.specs.Printed",

@@ -5,6 +5,7 @@
 mod arranged;
 mod at;
 mod chains;
+mod constructors;
 mod context;
 mod crate_file;
 mod defaults;

@@ -16,8 +16,8 @@ pub fn read_as_root(^bytes: &[u8]^) -> planus::Result<$TRef<'_>>
 
 const READ_SIZED: &str = "
 /// Reads the root of the first of these size-prefixed buffers, and returns what follows it too.
-pub fn read_size_prefixed_as_root(^bytes: &[u8]^) -> Result<($TRef<'_>, &[u8]), ErrorKind>
-    ensures { IsSizedRoot (λ view. view.0) bytes.now result }
+pub fn read_size_prefixed_as_root(^bytes: &[u8]^) -> planus::Result<($TRef<'_>, &[u8])>
+    ensures {~IsSizedRoot~(codes \"[$TRef]\")~(λ view. view.0)~bytes.now~result }
 {
     read_sized_root(bytes)
 }
@@ -27,7 +27,7 @@ const VERIFY: &str = "
 /// Verifies the root of a buffer with all that it leads to, within limits, and returns its view, whose
 /// accessors don't fail.
 pub fn verify_as_root(^bytes: &[u8],^limits: planus_views::Limits^) -> \
-     Result<$TView<'_>, planus_views::Fault>
+     %Result<$TView<'_>, planus_views::Fault>
     ensures root { (name : List ℕ) →~IfOk~result~(λ view.~IsRoot~$T~name~\
      (λ (view : $TView). view_table view.0)~bytes.now~(Ok view)) }
     ensures passed { IfOk~result~(λ view. (left : ℕ) ×~RootWalks~verified_schema~$a~limits.depth~\
@@ -41,7 +41,7 @@ pub fn verify_as_root(^bytes: &[u8],^limits: planus_views::Limits^) -> \
 
 const FINISH: &str = "
 /// Finishes a buffer with this root and the file identifier, as [`Builder::finish`].
-pub fn finish_root(^builder: &mut Builder,^root: Offset<$T>^) -> Result<&[u8], BuildError>
+pub fn finish_root(^builder: &mut Builder,^root: Offset<$T>^) -> %Result<&[u8], BuildError>
     requires { IsIn builder.old root }
     ensures bytes {~IfOk~result~(λ bytes.~FinishGives~(IsPrepared root)~\
      (Some ($I))~builder.old~bytes.now) }
@@ -55,7 +55,7 @@ pub fn finish_root(^builder: &mut Builder,^root: Offset<$T>^) -> Result<&[u8], B
 const FINISH_SIZED: &str = "
 /// The same after the size of what follows, as [`Builder::finish_size_prefixed`].
 pub fn finish_root_size_prefixed(^builder: &mut Builder,^root: Offset<$T>^) \
-     -> Result<&[u8], BuildError>
+     -> %Result<&[u8], BuildError>
     requires { IsIn builder.old root }
     ensures bytes {~IfOk~result~(λ bytes.~SizedFinishGives~(IsPrepared root)~\
      (Some ($I))~builder.old~bytes.now) }

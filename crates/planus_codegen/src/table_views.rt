@@ -27,6 +27,26 @@ impl<'a> TableView<'a> for $TRef<'a> {
 
 ";
 
+/// As an item of a vector.
+const ITEM: &str = "\
+impl<'a> Stride for $TRef<'a> {
+    type Stands = u32;
+}
+
+impl<'a> planus::ReadError for $TRef<'a> {
+    type Error = planus::Error;
+}
+
+impl<'a> planus::VectorReadInner<'a> for $TRef<'a> {
+    ghost gives = { gives_as (λ view. view.0) (codes \"[$TRef]\") };
+
+    fn from_buffer(buffer: SliceWithStartOffset<'a>, offset: usize) -> Result<$TRef<'a>> {
+        planus::read_item(buffer, offset)
+    }
+}
+
+";
+
 /// The clause of the function that reads a vector.
 pub(crate) fn vector_clause(field: &TableField) -> &'static str {
     let bytes = is_bytes(field.kind);
@@ -122,5 +142,6 @@ impl<'a> Printer<'a> {
         }
         self.put(if first { "" } else { "}\n\n" }, at);
         self.put(TABLE_VIEW, at);
+        self.put(ITEM, at);
     }
 }

@@ -76,7 +76,7 @@ fn derives_default(plan: &Plan<'_>) -> bool {
 }
 
 /// The value of a field by default.
-fn default_of(field: &TableField) -> &'static str {
+pub(crate) fn default_of(field: &TableField) -> &'static str {
     match field.kind.base {
         _ if has_default(field) => "$n: $D",
         Base::Union(_) if field.kind.vector => "$n: &[]",
@@ -85,7 +85,7 @@ fn default_of(field: &TableField) -> &'static str {
 }
 
 /// What is known of that value.
-fn default_is(field: &TableField) -> &'static str {
+pub(crate) fn default_is(field: &TableField) -> &'static str {
     match field.kind.base {
         _ if has_default(field) => "~(x.$n ≡ $K)",
         Base::Union(_) if field.kind.vector => "~(x.$n.now ≡ [])",
@@ -276,6 +276,7 @@ pub(crate) fn print_table<'a>(
     if plan.has_defaults() && !derives_default(plan) {
         printer.put_default_fields(plan);
     }
+    printer.put_constructor(plan);
     for entry in &entries {
         if entry.group > 0 {
             printer.put_group(at.member(entry.group), entry.lines(&plan.order));

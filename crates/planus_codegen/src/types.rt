@@ -40,7 +40,7 @@ pub(crate) fn read(kind: FieldType, total: bool) -> &'static str {
     match (kind.base, kind.vector) {
         (Base::Text, true) => "Vector<'a, Result<&'a str>>",
         (Base::Text, false) => "&'a str",
-        (Base::Table(_), true) => "Vector<'a, Result<TableRef<'a, $t>>>",
+        (Base::Table(_), true) => "Vector<'a, Result<$tRef<'a>>>",
         (Base::Union(_), true) => "UnionVector<'a, $tRef<'a>>",
         (Base::Table(_) | Base::Union(_), false) => "$tRef<'a>",
         (_, true) if is_bytes(kind) => "&'a [u8]",

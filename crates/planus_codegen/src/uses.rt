@@ -15,7 +15,7 @@ pub(crate) const ERRORS: &str = "ErrorKind UnknownEnumTagKind";
 pub(crate) const NAMES: &str =
     "BuildError Builder Built ByteList Create Exact FieldAt FieldGroup Lines8 List Offset \
      OrDefault Plain PlainField PlainTotal Result SliceWithStartOffset Stride TableKind \
-     TableReadUnion TableRef TableView TableWriter Text UnionOffset UnionVector Vector \
+     TableReadUnion TableView TableWriter Text UnionOffset UnionVector Vector \
      VectorReadUnion bytes_field bytes_required create_table fields plain_field plain_field_or \
      plain_required plain_vector plain_vector_required put_fields read_fields read_root \
      read_sized_root read_variant read_view table_field table_required table_vector \

@@ -4,7 +4,7 @@ use monsters::{
     Create, Equipment, EquipmentRef, Monster, MonsterFields, MonsterRef, Weapon, WeaponFields,
     WeaponRef, read_as_root,
 };
-use planus::{BuildError, Builder, table_item};
+use planus::{BuildError, Builder};
 use std::alloc::Global;
 
 // 80 hit points, and an axe with a damage of 24 in hand.
@@ -23,7 +23,7 @@ fn is_axe(weapon: &WeaponRef<'_>) -> bool {
 
 fn is_orc(orc: &MonsterRef<'_>) -> bool {
     let axe = match orc.weapons() {
-        Ok(Some(weapons)) => table_item(weapons.get(0)),
+        Ok(Some(weapons)) => weapons.get(0),
         _ => None,
     };
     matches!(orc.hp(), Ok(80))

@@ -11,7 +11,7 @@ use harbour::{
     PersonRef, Pos, Ship, ShipFields, ShipRef, finish_root, finish_root_size_prefixed,
     has_identifier, read_as_root, read_size_prefixed_as_root,
 };
-use planus::{BuildError, Builder, ByteList, table_item, union_item};
+use planus::{BuildError, Builder, ByteList, union_item};
 use std::alloc::Global;
 
 /// By flatc 2.0.8 of `harbour.fbs`: a ship with the values of `writes_anna`, its tables too.
@@ -54,34 +54,7 @@ fn plain_ship(name: &'static str, kind: Kind) -> ShipFields<'static>
     ensures owner { result.owner ≡ None }
     ensures shares { result.shares.now ≡ [] }
 {
-    ShipFields {
-        name,
-        hull: 100,
-        cargo: None,
-        kind: Kind::Bike,
-        level: Level::Mid,
-        needs: Needs::WATER,
-        home: None,
-        track: None,
-        heat: 1.5,
-        depth: -5,
-        open: true,
-        shut: false,
-        maybe: None,
-        photo: None,
-        names: None,
-        mate: None,
-        consorts: None,
-        kinds: None,
-        owner: None,
-        shares: &[],
-        tall: 0,
-        temps: None,
-        deltas: None,
-        fix: Fix { kind, ..FIX },
-        which: None,
-        flags: None,
-    }
+    Ship::fields(name, Fix { kind, ..FIX })
 }
 
 fn has_numbers(ship: &ShipRef<'_>) -> bool {
@@ -130,7 +103,7 @@ fn is_plain(ship: &ShipRef<'_>, name: &str, kind: Kind) -> bool {
 
 fn has_ships(ship: &ShipRef<'_>) -> bool {
     let consort = match ship.consorts() {
-        Ok(Some(ships)) => table_item(ships.get(0)),
+        Ok(Some(ships)) => ships.get(0),
         _ => None,
     };
     matches!(ship.mate(), Ok(Some(mate)) if is_plain(&mate, "Bo", Kind::Car))
@@ -153,6 +126,11 @@ fn has_all(ship: &ShipRef<'_>) -> bool {
 
 fn is_anna(bytes: &[u8]) -> bool {
     matches!(read_as_root(bytes), Ok(ship) if has_all(&ship)) && has_identifier(bytes)
+}
+
+fn is_in_sized_root(error: &planus::Error<'_>) -> bool {
+    let place = &error.source_location;
+    place.type_ == "[ShipRef]" && place.method == "read_as_root" && place.byte_offset == 0
 }
 
 /// Whether a buffer after its size is Anna's, and nothing follows it.
@@ -244,4 +222,10 @@ fn written_and_read(rt: HostRuntime) {
 #[test]
 fn read_of_flatc(rt: HostRuntime) {
     assert!(rt; matches!(bytes_of(rt.alloc(), FLATC_ANNA), Some(bytes) if is_anna(&bytes)));
+}
+
+#[test]
+fn error_after_a_size_has_a_place(rt: HostRuntime) {
+    let short = read_size_prefixed_as_root(&[9, 0, 0, 0, 4, 0, 0, 0]);
+    assert!(rt; matches!(short, Err(error) if is_in_sized_root(&error)));
 }

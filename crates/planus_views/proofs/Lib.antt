@@ -6,3 +6,5 @@ pub mod UnionAnswers
 pub mod Judged
 pub mod UnionVectorFacts
 pub mod ByteFields
+pub mod WrittenValues
+pub mod WrittenTables

@@ -6,4 +6,5 @@ pub mod Members
 pub mod Items
 pub mod Nested
 pub mod Printed
+pub mod Written
 pub use Rattle.planus_verify.specs as verify

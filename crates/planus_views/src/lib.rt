@@ -2,6 +2,7 @@
 //! without errors.
 #![tactic(auto)]
 
+pub mod laws;
 mod members;
 mod of_kind;
 mod of_union;

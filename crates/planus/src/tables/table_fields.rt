@@ -9,15 +9,15 @@ ghost use Rattle.planus.specs.Roots.{IsRoot};
 ghost use Rattle.planus.specs.declared.tables.table_ref.TableRef.{TableRef};
 ghost use Rattle.planus_view.specs.declared.vector.SliceView.{SliceView};
 ghost use Rattle.planus_view.specs.declared.vector_of.VectorOf.{VectorOf};
-ghost use Rattle.planus.specs.Views.{reads_as, IsSameView};
+ghost use Rattle.planus.specs.Views.{gives_as, reads_as, IsSameView};
 
 use crate::tables::table_kind::TableKind;
 use crate::tables::table_ref::TableRef;
 use crate::tables::table_view::TableView;
 use planus_read::errors::ErrorKind;
-use planus_read::located::Error;
+use planus_read::located::{Error, locate};
 use planus_read::table_reader::Table;
-use planus_read::{Plain, ReadAsRoot, SliceWithStartOffset};
+use planus_read::{Plain, ReadAsRoot, SliceWithStartOffset, Stride};
 use planus_view::Vector;
 
 /// Returns the view of the table in a slot, or `None` if absent: a [`TableRef`], or a user's own
@@ -52,28 +52,29 @@ pub fn table_required<'a, 'n, V: TableView<'a>>(
     }
 }
 
-/// Returns the vector of tables in a slot, or `None` if absent.
-pub fn table_vector<'a, 'n, K: TableKind + 'a>(
+/// Returns the vector of tables in a slot, or `None` if absent: of [`TableRef`]s, or of a user's own
+/// views.
+pub fn table_vector<'a, 'n, V: TableView<'a> + Stride<Stands = u32> + 'a>(
     table: &Table<'a>,
     slot: usize,
     type_: &'n str,
     method: &'n str,
-) -> Result<Option<Vector<'a, planus_read::Result<TableRef<'a, K>>>>, Error<'n>>
-    ensures { IsTableVector K table.now slot type_.now method.now result }
+) -> Result<Option<Vector<'a, planus_read::Result<V>>>, Error<'n>>
+    ensures { IsTableVector V.Kind table.now slot type_.now method.now result }
 {
-    table.access::<Vector<'a, planus_read::Result<TableRef<'a, K>>>>(slot, type_, method)
+    table.access::<Vector<'a, planus_read::Result<V>>>(slot, type_, method)
 }
 
 /// Returns the vector, or `MissingRequired` if absent.
-pub fn table_vector_required<'a, 'n, K: TableKind + 'a>(
+pub fn table_vector_required<'a, 'n, V: TableView<'a> + Stride<Stands = u32> + 'a>(
     table: &Table<'a>,
     slot: usize,
     type_: &'n str,
     method: &'n str,
-) -> Result<Vector<'a, planus_read::Result<TableRef<'a, K>>>, Error<'n>>
-    ensures { IsTableVectorRequired K table.now slot type_.now method.now result }
+) -> Result<Vector<'a, planus_read::Result<V>>, Error<'n>>
+    ensures { IsTableVectorRequired V.Kind table.now slot type_.now method.now result }
 {
-    table.access_required::<Vector<'a, planus_read::Result<TableRef<'a, K>>>>(slot, type_, method)
+    table.access_required::<Vector<'a, planus_read::Result<V>>>(slot, type_, method)
 }
 
 fn viewed<'a, 'n, V: TableView<'a>>(
@@ -120,4 +121,22 @@ pub fn read_view<'a, V: TableView<'a>>(
         Ok(found) => Ok(V::of_table(found)),
         Err(kind) => Err(kind),
     }
+}
+
+/// Returns the view of the table to which the reference at an offset leads, as an item of a vector
+/// of tables: its error names the kind and `get`, and is where the vector's first item begins.
+pub fn read_item<'a, 'n, V: TableView<'a>>(
+    buffer: SliceWithStartOffset<'a>,
+    offset: usize,
+) -> Result<V, Error<'n>>
+    ensures { gives_as V.table V.Kind.name (slice_bytes buffer.entry) (slice_start buffer.entry)
+        offset result }
+{
+    let (name, method): (&'n str, &'n str) = (<V::Kind as TableKind>::name(), "get");
+    locate(
+        read_view(buffer, offset),
+        name,
+        method,
+        buffer.offset_from_start(),
+    )
 }

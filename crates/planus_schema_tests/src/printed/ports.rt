@@ -11,7 +11,7 @@ use harbour::{
     OriginRef, Owner, OwnerRef, Port, PortFields, PortRef, Ship, Signal, has_identifier,
 };
 use planus::{
-    BuildError, Builder, ByteList, Offset, plain_item, read_root, table_item, text_item, union_item,
+    BuildError, Builder, ByteList, Offset, plain_item, read_root, text_item, union_item,
 };
 
 type Written<T> = std::result::Result<T, BuildError>;
@@ -25,16 +25,16 @@ fn has_values(port: &PortRef<'_>) -> bool {
 }
 
 fn has_ships(port: &PortRef<'_>) -> bool {
-    match port.ships() {
-        Ok(ships) => {
-            ships.len() == 1
-                && matches!(
-                    table_item(ships.get(0)),
-                    Some(Ok(ship)) if is_plain(&ship, "Bo", Kind::Car)
-                )
+    let ships = match port.ships() {
+        Ok(ships) => ships,
+        Err(_) => return false,
+    };
+    for ship in &ships {
+        if !matches!(ship, Ok(ship) if is_plain(&ship, "Bo", Kind::Car)) {
+            return false;
         }
-        Err(_) => false,
     }
+    ships.len() == 1
 }
 
 fn has_owners(port: &PortRef<'_>) -> bool {
@@ -100,7 +100,7 @@ fn is_start(entry: &EntryRef<'_>) -> bool {
 
 fn refers_to_others(entry: &EntryRef<'_>) -> bool {
     let parent = match entry.parents() {
-        Ok(Some(parents)) if parents.len() == 1 => table_item(parents.get(0)),
+        Ok(Some(parents)) if parents.len() == 1 => parents.get(0),
         _ => None,
     };
     matches!(entry.origin(), Ok(origin) if is_host(&origin))

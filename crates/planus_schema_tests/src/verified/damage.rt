@@ -127,7 +127,7 @@ fn ships_with_two_bytes_changed(rt: HostRuntime) {
     let mut counts = Counts::none();
     if let Some(mut bytes) = bytes_of(rt.alloc(), FLATC_ANNA) {
         let mut seed = 1;
-        for _ in 0..10_000 {
+        for _ in 0..100_000 {
             seed = count_two(rt.alloc(), &mut bytes, seed, &mut counts);
         }
     }

@@ -2,7 +2,7 @@
 
 use harbour::{CompanyRef, OwnerRef, PersonRef, ShipRef};
 use planus::errors::ErrorKind;
-use planus::{table_item, text_item, union_item};
+use planus::{text_item, union_item};
 use std::alloc::Global;
 
 /// More than a buffer of these tests leads to.
@@ -128,7 +128,7 @@ fn adds_consorts<'a>(ship: &ShipRef<'a>, ships: &mut Vec<ShipRef<'a>>) -> bool {
         Err(_) => return false,
     };
     for i in 0..consorts.len() {
-        match table_item(consorts.get(i)) {
+        match consorts.get(i) {
             Some(Ok(consort)) => {
                 if ships.push(consort).is_err() {
                     return false;

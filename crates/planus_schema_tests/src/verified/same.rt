@@ -4,7 +4,7 @@ use harbour::{
     CompanyRef, CompanyView, Kind, OwnerRef, OwnerView, PersonRef, PersonView, ShipRef, ShipView,
 };
 use planus::errors::ErrorKind;
-use planus::{table_item, union_item};
+use planus::union_item;
 
 // An enum's number that its schema doesn't have is an error of both.
 fn is_same_kind(verified: Result<Kind, ErrorKind>, checked: planus::Result<Kind>) -> bool {
@@ -129,7 +129,7 @@ fn has_same_consorts(verified: &ShipView<'_>, checked: &ShipRef<'_>) -> bool {
             let mut same = left.len() == right.len();
             for i in 0..left.len() {
                 same = same
-                    && match (left.get(i), table_item(right.get(i))) {
+                    && match (left.get(i), right.get(i)) {
                         (Some(left), Some(Ok(right))) => has_same_fields(&left, &right),
                         _ => false,
                     };

@@ -5,5 +5,5 @@ use Rattle.planus.proofs.tables.table_fields.table_vector.Goals as goal
 
 pub returns : goal.returns
 returns g c =
-    field_read (tables_kind g.row.K.Denot) (tables_law _ _ g.row.K.Denot refl) c.args.table.now c.args.slot c.args.type_.now c.args.method.now
+    field_read (tables_kind g.row.V-Kind.Denot) (tables_law _ _ g.row.V-Kind.Denot refl) c.args.table.now c.args.slot c.args.type_.now c.args.method.now
     c.access.result c.access.ensures
