@@ -5,7 +5,7 @@ use Rattle.std.proofs.Common.{Bool, true, false, Option, Some, None, Err, inl, i
 use Rattle.std.proofs.lemmas.List.{drop-drop}
 use Rattle.std.specs.Prelude.{⊤, ◌⊎◌}
 use Rattle.planus_read.specs.Bytes.{position_of}
-use Rattle.planus_read.specs.Clauses.{AllHold}
+use Rattle.planus_read.specs.Clauses.{AllHold, FirstBroken}
 use Rattle.planus_read.specs.Reading.{Leads, target, slots_of, table_clauses, TableThere, vtable_at}
 use Rattle.planus_read.specs.Reading.{vtable_size_at}
 use Rattle.planus_read.specs.Stands.{at, Stands, FieldStands, ReferenceStands, TableStands as Encoded}
@@ -13,6 +13,7 @@ use Rattle.planus_read.specs.TableReading.{SlotReads}
 use Rattle.planus_read.specs.Tables.{Slot}
 use Rattle.planus_read.specs.Values.{Field, field_at, table, vtable_size}
 use Rattle.planus_read.proofs.Reading.{leads_inside, table_holds}
+use Rattle.planus_read.proofs.ReadingLaws.{lawful_table}
 use Rattle.planus_read.proofs.SliceLaws.{references_lead, leads_in_slices, stands_in_slices}
 use Rattle.planus_read.proofs.TableReading.{table_there, any_slot_reads, slot_reads_whole}
 use Rattle.planus_write.specs.Contents.{Content}
@@ -20,9 +21,10 @@ use Rattle.planus.specs.ReadBack.{TableStands, FieldHoldsIf, content_at}
 use Rattle.planus.proofs.ReadBack.{holds_at}
 use Rattle.planus_read.specs.declared.errors.ErrorKind.{ErrorKind}
 use Rattle.planus_verify.specs.Schemas.{Shapes, fields_of}
-use Rattle.planus_verify.specs.Steps.{Step, Faults, present_steps, value_steps, kind_steps}
+use Rattle.planus_verify.specs.Steps.{Step, Enters, Faults, present_steps, value_steps, kind_steps}
 use Rattle.planus_verify.specs.Steps.{field_steps, fields_steps, place_faults, reference_steps}
-use Rattle.planus_verify.specs.Verified.{OfTable, StepsHold, Verified}
+use Rattle.planus_verify.specs.Verified.{OfTable, StepsHold, Verified, tables_in}
+use Rattle.planus_verify.specs.Walks.{InOrder, Walks, RootWalks}
 use Rattle.planus_verify.specs.declared.fault.Fault.{Fault}
 use Rattle.planus_verify.specs.declared.fault.Fault.TheVariants as fault
 use Rattle.planus_verify.specs.declared.schema.FieldKind.{FieldKind}
@@ -31,7 +33,9 @@ use Rattle.planus_verify.specs.declared.schema.FieldShape.{FieldShape}
 use Rattle.planus_verify.specs.declared.schema.ValueKind.{ValueKind}
 use Rattle.planus_verify.specs.declared.schema.Variant.{Variant}
 use Rattle.planus_views.specs.Written.{OfWritten, FitsIf, FieldFits, FieldsFit, IsWritten}
-use Rattle.planus_views.specs.Written.{WrittenIsVerified}
+use Rattle.planus_verify.proofs.Outcomes.{walks_limit}
+use Rattle.planus_views.specs.Fields.{TableHolds}
+use Rattle.planus_views.specs.Written.{WrittenIsVerified, WrittenPasses}
 use Rattle.planus_views.proofs.WrittenValues.{both_hold, held, TablesHold}
 
 -- A table is read at the reference at f of the slice, with these fields.
@@ -46,7 +50,7 @@ read_at : (B : List ℕ) (k : ℕ) (entries : List (ℕ × Field)) → Stands B 
     → (start f : ℕ) → Leads B (start + f) k → IsReadAt B k entries start f
 read_at B k entries stands start f leads = record {
   clauses = is.0;
-  begin = ap (λ (n : ℕ). start + n) (sym is.1.0) ∙ sym whole;
+  begin = ap (λ (n : ℕ). start + n) (sym is.1) ∙ sym whole;
   slots = slots;
 }
   where
@@ -77,8 +81,8 @@ read_at B k entries stands start f leads = record {
 
     slots_are : drop 4 (take (vtable_size entries) (drop stands_here.vtable S)) ≡ slots_of S (target S f)
     slots_are =
-        ap (λ (n : ℕ). drop 4 (take n (drop stands_here.vtable S))) is.1.1.1
-        ∙ ap (λ (n : ℕ). drop 4 (take (vtable_size_at S (target S f)) (drop n S))) is.1.1.0
+        ap (λ (n : ℕ). drop 4 (take n (drop stands_here.vtable S))) is.3
+        ∙ ap (λ (n : ℕ). drop 4 (take (vtable_size_at S (target S f)) (drop n S))) is.2
 
     slots : (i : ℕ) → SlotReads B k (Slot (slots_of S (target S f)) i) (field_at entries i)
     slots i =
@@ -167,3 +171,44 @@ written_is_verified schema B n t distance is start f refers =
     let all = written_holds schema B n fault.Root t distance start f is
     (references_lead B (start + f) distance refers) in
     (all.0, all.1.0)
+
+module _ (schema : Shapes) (B : List ℕ) (n t distance : ℕ)
+    (written : IsWritten schema B n t distance) (refers : ReferenceStands B 0 distance)
+    (depth tables : ℕ) where
+  abbrev o : ℕ
+  o = target B 0
+
+  -- with the table at this start
+  abbrev IsLimit : ℕ → Fault → ℕ → Type 0
+  IsLimit start found left =
+      ((found ≡ fault.TooDeep) × (depth < n))
+      ⊎ ((found ≡ fault.TooMany) × (left < tables_in schema n t (drop o B) (slots_of B o) start))
+
+  verified : TableHolds schema n t 0 B 0
+  verified = written_is_verified schema B n t distance written 0 0 refers
+
+  unbroken : (e : ErrorKind) → FirstBroken (table_clauses B 0) e → ⊥
+  unbroken e broken =
+      let law = lawful_table B 0 in
+      let there = law.decides.0 verified.0 in
+      law.nothing e broken there.0 there.1
+
+  entered : (left : ℕ) (found : Fault)
+      → InOrder (Walks schema depth) (Enters t (drop o B) (slots_of B o) (0 + o) ∷ []) left (Err found)
+      → IsLimit (0 + o) found left
+  entered left found (inl (next, walks, is)) = absurd (cc (is))
+  entered left found (inr (other, walks, is)) =
+      let same : other ≡ found = cc (is) in
+      subst (λ (one : Fault). IsLimit (0 + o) one left) same
+      (walks_limit schema depth n t (drop o B) (slots_of B o) (0 + o) left other walks verified.1)
+
+  passes : (found : Fault) → RootWalks schema t depth tables B (Err found) → IsLimit o found tables
+  passes found (inl (next, tested, rest)) =
+      let same : 0 + o ≡ o = omega arith in
+      subst (λ (start : ℕ). IsLimit start found tables) same
+      (subst (λ (left : ℕ). IsLimit (0 + o) found left) tested.1 (entered next found rest))
+  passes found (inr (other, tested, is)) = absurd (unbroken tested.0 tested.1)
+
+pub written_passes : (schema : Shapes) → WrittenPasses schema
+written_passes schema B n t distance written refers depth tables found walks =
+    passes schema B n t distance written refers depth tables found walks

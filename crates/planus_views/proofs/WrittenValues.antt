@@ -2,7 +2,7 @@
 use Prim.Native.Nat.{zero, suc}
 use Rattle.std.proofs.Common.{◌≡◌, ℕ, ◌+◌, ◌-◌, ◌*◌, ◌≤◌, ◌<◌, List, [], ◌∷◌, ◌++◌, length, map, take, drop}
 use Rattle.std.proofs.Common.{Bool, true, false, Option, Some, None, refl, sym, subst, ap, ◌∙◌, arith}
-use Rattle.std.proofs.lemmas.List.{drop-drop}
+use Rattle.std.proofs.lemmas.List.{drop-drop, length-drop}
 use Rattle.std.proofs.lemmas.Option.{slice_get_within, slice_get-get_or}
 use Rattle.std.specs.Prelude.{⊤, slice_get, get_or}
 use Rattle.std.specs.Str.{IsUtf8}
@@ -13,7 +13,7 @@ use Rattle.planus_read.specs.Reading.{vector_clauses, table_clauses, Items}
 use Rattle.planus_read.specs.ReadsBack.{ListReads, ReferenceReads}
 use Rattle.planus_read.specs.Stands.{at, Stands, FieldStands, ReferenceStands}
 use Rattle.planus_read.specs.Values.{Field, Value, Plain, plain, reference, text, byte_list}
-use Rattle.planus_read.specs.Values.{plain_list, reference_list}
+use Rattle.planus_read.specs.Values.{plain_list, reference_list, union_vector, table}
 use Rattle.planus_read.proofs.Reading.{stood_inside, vector_holds}
 use Rattle.planus_read.proofs.ReadingLaws.{lawful_text, lawful_byte_list, lawful_vector}
 use Rattle.planus_read.proofs.ReadsBack.{what_stands_reads_back}
@@ -50,7 +50,7 @@ module _ (B : List ℕ) (k q : ℕ) where
   plain_there bytes size long some stands =
       let inside : length bytes ≤ length (drop q (drop k B)) =
       stood_inside (drop q (drop k B)) bytes (bytes_in_slice B k q bytes stands) in
-      (omega (arith, inside, long, some), tt)
+      (omega (arith, inside, long, some, length-drop q (drop k B)), tt)
 
   text_there : (d : ℕ) (bytes : List ℕ) → IsUtf8 bytes → Stands B (at (position_of B d)) (text bytes)
       → Leads B (k + q) (position_of B d) → AllHold (text_clauses (drop k B) q)
@@ -90,7 +90,7 @@ module _ (B : List ℕ) (k q : ℕ) where
       clauses = vector_holds (drop k B) q 4 read.position (length distances) read.vector.there
 
       first : k + items_at (drop k B) q ≡ position_of B d + 4
-      first = ap (λ (n : ℕ). k + n) (sym clauses.1.0) ∙ read.first
+      first = ap (λ (n : ℕ). k + n) (sym clauses.1) ∙ read.first
 
       bytes : drop (items_at (drop k B) q) (drop k B) ≡ drop (position_of B d + 4) B
       bytes = drop-drop (items_at (drop k B) q) k B ∙ ap (λ (n : ℕ). drop n B) first
@@ -99,7 +99,7 @@ module _ (B : List ℕ) (k q : ℕ) where
           → StepsHold H (steps j (drop (position_of B d + 4) B) (position_of B d + 4) (j * 4))
       here j below =
           let one = get_or distances j 0 in
-          let found = slice_get-get_or distances j 0 (omega (arith, below, clauses.1.1)) in
+          let found = slice_get-get_or distances j 0 (omega (arith, below, clauses.2)) in
           each j one found (read.each j one found).leads
 
       items : StepsHold H (items_from 0 (count_at (drop k B) q)
@@ -113,10 +113,17 @@ text_of : (B : List ℕ) (texts : List Value) (distances : List ℕ) → AreText
     → AllStand B texts distances → (j one : ℕ) → slice_get distances j ≡ Some one
     → (bytes : List ℕ) × IsUtf8 bytes × Stands B (at (position_of B one)) (text bytes)
 text_of B [] [] fit stand j one e = absurd (let within = slice_get_within [] j one e in omega (arith, within))
+text_of B [] (d ∷ ds) fit stand j one e = elim stand [ ]
+text_of B (x ∷ texts) [] fit stand j one e = elim stand [ ]
 text_of B (text bytes ∷ texts) (d ∷ ds) fit stand zero one e =
     let same : Some d ≡ Some one = e in
     let is : d ≡ one = cc in
     (bytes, fit.0, subst (λ (n : ℕ). Stands B (at (position_of B n)) (text bytes)) is stand.0)
+text_of B (byte_list bytes ∷ texts) (d ∷ ds) fit stand zero one e = absurd fit.0
+text_of B (plain_list size alignment items ∷ texts) (d ∷ ds) fit stand zero one e = absurd fit.0
+text_of B (reference_list distances ∷ texts) (d ∷ ds) fit stand zero one e = absurd fit.0
+text_of B (union_vector items ∷ texts) (d ∷ ds) fit stand zero one e = absurd fit.0
+text_of B (table fields ∷ texts) (d ∷ ds) fit stand zero one e = absurd fit.0
 text_of B (x ∷ texts) (d ∷ ds) fit stand (suc j) one e = text_of B texts ds fit.1 stand.1 j one e
 
 at_each : (P : ℕ → Type 0) (distances : List ℕ) → AllAt P distances → (j one : ℕ)
