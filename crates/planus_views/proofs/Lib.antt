@@ -7,4 +7,5 @@ pub mod Judged
 pub mod UnionVectorFacts
 pub mod ByteFields
 pub mod WrittenValues
+pub mod WrittenUnions
 pub mod WrittenTables

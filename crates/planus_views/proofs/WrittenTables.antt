@@ -1,21 +1,23 @@
 -- Tables that were written are verified.
 use Prim.Native.Nat.{zero, suc}
-use Rattle.std.proofs.Common.{◌≡◌, ℕ, ◌+◌, ◌-ℤ◌, ◌≤◌, ◌<◌, List, [], ◌∷◌, length, take, drop, pos}
+use Rattle.std.proofs.Common.{◌≡◌, ℕ, ◌+◌, ◌*◌, ◌-ℤ◌, ◌≤◌, ◌<◌, List, [], ◌∷◌, length, take, drop, pos}
 use Rattle.std.proofs.Common.{Bool, true, false, Option, Some, None, Err, inl, inr, refl, sym, subst, ap, ◌∙◌, arith}
 use Rattle.std.proofs.lemmas.List.{drop-drop}
 use Rattle.std.specs.Prelude.{⊤, ◌⊎◌}
-use Rattle.planus_read.specs.Bytes.{position_of}
+use Rattle.std.specs.Int.{w32}
+use Rattle.planus_read.specs.Bytes.{Num, position_of}
 use Rattle.planus_read.specs.Clauses.{AllHold, FirstBroken}
 use Rattle.planus_read.specs.Reading.{Leads, target, slots_of, table_clauses, TableThere, vtable_at}
 use Rattle.planus_read.specs.Reading.{vtable_size_at}
 use Rattle.planus_read.specs.Stands.{at, Stands, FieldStands, ReferenceStands, TableStands as Encoded}
 use Rattle.planus_read.specs.TableReading.{SlotReads}
 use Rattle.planus_read.specs.Tables.{Slot}
-use Rattle.planus_read.specs.Values.{Field, field_at, table, vtable_size}
-use Rattle.planus_read.proofs.Reading.{leads_inside, table_holds}
+use Rattle.planus_read.specs.Values.{Field, field_at, slot_count, table, vtable_size}
+use Rattle.planus_read.proofs.Reading.{leads_inside, num_inside, number_of_signed, table_holds}
 use Rattle.planus_read.proofs.ReadingLaws.{lawful_table}
 use Rattle.planus_read.proofs.SliceLaws.{references_lead, leads_in_slices, stands_in_slices}
 use Rattle.planus_read.proofs.TableReading.{table_there, any_slot_reads, slot_reads_whole}
+use Rattle.planus_read.proofs.TableReading.{table_slot_bytes}
 use Rattle.planus_write.specs.Contents.{Content}
 use Rattle.planus.specs.ReadBack.{TableStands, FieldHoldsIf, content_at}
 use Rattle.planus.proofs.ReadBack.{holds_at}
@@ -36,12 +38,15 @@ use Rattle.planus_views.specs.Written.{OfWritten, FitsIf, FieldFits, FieldsFit, 
 use Rattle.planus_verify.proofs.Outcomes.{walks_limit}
 use Rattle.planus_views.specs.Fields.{TableHolds}
 use Rattle.planus_views.specs.Written.{WrittenIsVerified, WrittenPasses}
+use Rattle.planus_views.proofs.WrittenUnions.{union_holds}
 use Rattle.planus_views.proofs.WrittenValues.{both_hold, held, TablesHold}
 
 -- A table is read at the reference at f of the slice, with these fields.
 record IsReadAt (B : List ℕ) (k : ℕ) (entries : List (ℕ × Field)) (start f : ℕ) : Type 0 where
   clauses : AllHold (table_clauses (drop start B) f)
   begin : start + target (drop start B) f ≡ k
+  inside : k + 4 ≤ length B
+  long : length (slots_of (drop start B) (target (drop start B) f)) ≡ 2 * slot_count entries
   slots :
       (i : ℕ) → SlotReads B k (Slot (slots_of (drop start B) (target (drop start B) f)) i)
       (field_at entries i)
@@ -51,6 +56,8 @@ read_at : (B : List ℕ) (k : ℕ) (entries : List (ℕ × Field)) → Stands B 
 read_at B k entries stands start f leads = record {
   clauses = is.0;
   begin = ap (λ (n : ℕ). start + n) (sym is.1) ∙ sym whole;
+  inside = first;
+  long = ap length (sym slots_are) ∙ table_slot_bytes S object entries stands_here;
   slots = slots;
 }
   where
@@ -65,6 +72,11 @@ read_at B k entries stands start f leads = record {
 
     inside : start ≤ length B
     inside = let here = leads_inside B (start + f) k leads in omega (arith, here)
+
+    first : k + 4 ≤ length B
+    first =
+        let word = number_of_signed (Num B k w32) (pos k -ℤ pos stands.vtable) stands.word in
+        num_inside B k w32 word.0 word.1
 
     stands_here : Encoded S object entries
     stands_here = stands_in_slices B start (at object) (table entries) inside
@@ -122,17 +134,21 @@ module _ (H : OfTable) (Written : OfWritten) (B : List ℕ) (tables_hold : Table
   module _ (contents : List (ℕ × Option Content)) (entries : List (ℕ × Field)) (V : List ℕ)
       (holds : (slot : ℕ) → FieldHoldsIf B (content_at contents slot) (field_at entries slot))
       (reads : (i : ℕ) → SlotReads B k (Slot V i) (field_at entries i))
+      (inside : k + 4 ≤ length B) (long : length V ≡ 2 * slot_count entries)
       (variants : List Variant) (t : ℕ) where
     kind_holds : (at_ : Faults) (required : Bool) (one : FieldKind) (slot : ℕ)
-        → FieldFits Written (content_at contents) required one slot
+        → FieldFits Written variants (content_at contents) required one slot
         → StepsHold H (kind_steps variants at_ required one slot (drop k B) V k)
     kind_holds at_ required (kind.Value one) slot fits =
         slot_holds at_ required one (Slot V slot) (content_at contents slot) (field_at entries slot) fits
         (holds slot) (reads slot)
-    kind_holds at_ required (kind.Union u) slot fits = absurd fits
+    kind_holds at_ required (kind.Union u) slot fits =
+        union_holds H Written B tables_hold k inside variants u at_ required entries V long reads slot
+        (content_at contents slot) (content_at contents (slot + 1)) (field_at entries slot)
+        (field_at entries (slot + 1)) refl refl fits (holds slot) (holds (slot + 1))
     kind_holds at_ required (kind.Unions u) slot fits = absurd fits
 
-    fields_hold : (fields : List FieldShape) → FieldsFit Written (content_at contents) fields
+    fields_hold : (fields : List FieldShape) → FieldsFit Written variants (content_at contents) fields
         → StepsHold H (fields_steps variants t (drop k B) V k fields)
     fields_hold [] fits = tt
     fields_hold (field ∷ fields) fits =
@@ -154,7 +170,8 @@ module _ (schema : Shapes) (B : List ℕ) where
       drop-drop o start B ∙ ap (λ (n : ℕ). drop n B) read.begin in
       let all = fields_hold (Verified schema n) (IsWritten schema B n) B (written_holds n)
       (position_of B d) contents stands.fields (slots_of S o)
-      (holds_at B contents stands.fields stands.apart stands.hold) read.slots schema.variants t
+      (holds_at B contents stands.fields stands.apart stands.hold) read.slots read.inside read.long
+      schema.variants t
       (fields_of schema t) fits in
       (
         read.clauses,

@@ -45,7 +45,7 @@ items_hold H steps i (suc m) each =
     (items_hold H steps (i + 1) m (λ j below. each j (omega (arith, below))))
 
 module _ (B : List ℕ) (k q : ℕ) where
-  plain_there : (bytes : List ℕ) (size : ℕ) → length bytes ≡ size → 1 ≤ size
+  pub plain_there : (bytes : List ℕ) (size : ℕ) → length bytes ≡ size → 1 ≤ size
       → BytesStand B (k + q) bytes → AllHold (plain_clauses (drop k B) q size)
   plain_there bytes size long some stands =
       let inside : length bytes ≤ length (drop q (drop k B)) =

@@ -16,6 +16,7 @@ use Rattle.planus_verify.specs.declared.fault.Fault.TheVariants as fault
 use Rattle.planus_verify.specs.declared.schema.FieldShape.{FieldShape}
 use Rattle.planus_verify.specs.declared.schema.FieldKind.{FieldKind}
 use Rattle.planus_verify.specs.declared.schema.FieldKind.TheVariants as kind
+use Rattle.planus_verify.specs.declared.schema.Variant.{Variant}
 use Rattle.planus_verify.specs.declared.schema.ValueKind.{ValueKind}
 use Rattle.planus_verify.specs.declared.schema.ValueKind.TheVariants as kind_of
 use Rattle.planus_views.specs.Fields.{TableHolds}
@@ -81,17 +82,37 @@ abbrev pub FitsIf : OfWritten → Bool → ValueKind → Option Content → Type
 FitsIf Written required kind None = required ≡ false
 FitsIf Written required kind (Some content) = FitsKind Written kind content
 
--- a field, by the contents of all slots; of unions nothing is said
-abbrev pub FieldFits :
-    OfWritten → (ℕ → Option Content) → Bool → FieldKind → ℕ → Type 0
-FieldFits Written at required (kind.Value one) slot = FitsIf Written required one (at slot)
-FieldFits Written at required (kind.Union u) slot = ⊥
-FieldFits Written at required (kind.Unions u) slot = ⊥
+-- a table of a union's tag; other tags may be of a later schema
+abbrev pub FitsMember : OfWritten → Option ℕ → ℕ → Type 0
+FitsMember Written None distance = ⊤
+FitsMember Written (Some t) distance = Written t distance
 
-abbrev pub FieldsFit : OfWritten → (ℕ → Option Content) → List FieldShape → Type 0
-FieldsFit Written at [] = ⊤
-FieldsFit Written at (field ∷ fields) =
-    FieldFits Written at field.required field.kind field.slot × FieldsFit Written at fields
+abbrev pub FitsUnion : OfWritten → List Variant → ℕ → Plain → ℕ → Type 0
+FitsUnion Written variants u plain distance =
+    (tag : ℕ) × (plain.bytes ≡ tag ∷ []) × (1 ≤ tag)
+    × FitsMember Written (variant_in variants u tag) distance
+
+-- a union by the contents of its two slots, or nothing where the field isn't required
+abbrev pub FitsUnionIf :
+    OfWritten → List Variant → Bool → ℕ → Option Content → Option Content → Type 0
+FitsUnionIf Written variants required u None None = required ≡ false
+FitsUnionIf Written variants required u (Some (item plain)) (Some (written distance)) =
+    FitsUnion Written variants u plain distance
+FitsUnionIf Written variants required u _ _ = ⊥
+
+-- A field, by the contents of all slots. Of vectors of unions nothing is said.
+abbrev pub FieldFits :
+    OfWritten → List Variant → (ℕ → Option Content) → Bool → FieldKind → ℕ → Type 0
+FieldFits Written variants at required (kind.Value one) slot = FitsIf Written required one (at slot)
+FieldFits Written variants at required (kind.Union u) slot =
+    FitsUnionIf Written variants required u (at slot) (at (slot + 1))
+FieldFits Written variants at required (kind.Unions u) slot = ⊥
+
+abbrev pub FieldsFit : OfWritten → List Variant → (ℕ → Option Content) → List FieldShape → Type 0
+FieldsFit Written variants at [] = ⊤
+FieldsFit Written variants at (field ∷ fields) =
+    FieldFits Written variants at field.required field.kind field.slot
+    × FieldsFit Written variants at fields
 
 -- At the distance from the end of B stands a table with contents as the schema's table of index t has
 -- them, and with tables of that kind below it, one in the other to a depth of n.
@@ -99,7 +120,7 @@ abbrev pub IsWritten : Shapes → List ℕ → ℕ → OfWritten
 IsWritten schema B zero t distance = ⊥
 IsWritten schema B (suc n) t distance =
     (contents : List (ℕ × Option Content)) × TableStands B contents distance
-    × FieldsFit (IsWritten schema B n) (content_at contents) (fields_of schema t)
+    × FieldsFit (IsWritten schema B n) schema.variants (content_at contents) (fields_of schema t)
 
 -- It is verified to that depth by each reference that leads to it.
 abbrev pub WrittenIsVerified : Shapes → Type 0
