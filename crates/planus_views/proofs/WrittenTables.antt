@@ -3,13 +3,13 @@ use Prim.Native.Nat.{zero, suc}
 use Rattle.std.proofs.Common.{◌≡◌, ℕ, ◌+◌, ◌*◌, ◌-ℤ◌, ◌≤◌, ◌<◌, List, [], ◌∷◌, length, take, drop, pos}
 use Rattle.std.proofs.Common.{Bool, true, false, Option, Some, None, Err, inl, inr, refl, sym, subst, ap, ◌∙◌, arith}
 use Rattle.std.proofs.lemmas.List.{drop-drop}
-use Rattle.std.specs.Prelude.{⊤, ◌⊎◌}
+use Rattle.std.specs.Prelude.{◌⊎◌}
 use Rattle.std.specs.Int.{w32}
 use Rattle.planus_read.specs.Bytes.{Num, position_of}
 use Rattle.planus_read.specs.Clauses.{AllHold, FirstBroken}
 use Rattle.planus_read.specs.Reading.{Leads, target, slots_of, table_clauses, TableThere, vtable_at}
 use Rattle.planus_read.specs.Reading.{vtable_size_at}
-use Rattle.planus_read.specs.Stands.{at, Stands, FieldStands, ReferenceStands, TableStands as Encoded}
+use Rattle.planus_read.specs.Stands.{at, Stands, ReferenceStands, TableStands as Encoded}
 use Rattle.planus_read.specs.TableReading.{SlotReads}
 use Rattle.planus_read.specs.Tables.{Slot}
 use Rattle.planus_read.specs.Values.{Field, field_at, slot_count, table, vtable_size}
@@ -19,12 +19,12 @@ use Rattle.planus_read.proofs.SliceLaws.{references_lead, leads_in_slices, stand
 use Rattle.planus_read.proofs.TableReading.{table_there, any_slot_reads, slot_reads_whole}
 use Rattle.planus_read.proofs.TableReading.{table_slot_bytes}
 use Rattle.planus_write.specs.Contents.{Content}
-use Rattle.planus.specs.ReadBack.{TableStands, FieldHoldsIf, content_at}
+use Rattle.planus.specs.ReadBack.{FieldHoldsIf, content_at}
 use Rattle.planus.proofs.ReadBack.{holds_at}
 use Rattle.planus_read.specs.declared.errors.ErrorKind.{ErrorKind}
 use Rattle.planus_verify.specs.Schemas.{Shapes, fields_of}
 use Rattle.planus_verify.specs.Steps.{Step, Enters, Faults, present_steps, value_steps, kind_steps}
-use Rattle.planus_verify.specs.Steps.{field_steps, fields_steps, place_faults, reference_steps}
+use Rattle.planus_verify.specs.Steps.{field_steps, fields_steps, place_faults}
 use Rattle.planus_verify.specs.Verified.{OfTable, StepsHold, Verified, tables_in}
 use Rattle.planus_verify.specs.Walks.{InOrder, Walks, RootWalks}
 use Rattle.planus_verify.specs.declared.fault.Fault.{Fault}
@@ -172,8 +172,7 @@ module _ (schema : Shapes) (B : List ℕ) where
       (position_of B d) contents stands.fields (slots_of S o)
       (holds_at B contents stands.fields stands.apart stands.hold) read.slots read.inside read.long
       schema.variants t
-      (fields_of schema t) fits in
-      (
+      (fields_of schema t) fits in (
         read.clauses,
         (
           subst (λ (l : List ℕ). Verified schema (suc n) t l (slots_of S o) (start + o)) (sym object)

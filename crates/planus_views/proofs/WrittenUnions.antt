@@ -1,15 +1,14 @@
 -- A union that was written passes each test of it.
 use Prim.Native.Nat.{zero, suc}
-use Rattle.std.proofs.Common.{◌≡◌, ℕ, ◌+◌, ◌*◌, ◌≤◌, ◌<◌, ◌==◌, List, [], ◌∷◌, length, drop, max}
-use Rattle.std.proofs.Common.{Bool, true, false, if◌then◌else◌, Option, Some, None, refl, sym, subst, ap, ◌∙◌, arith}
+use Rattle.std.proofs.Common.{◌≡◌, ℕ, ◌+◌, ◌*◌, ◌≤◌, ◌==◌, List, [], ◌∷◌, length, drop, max}
+use Rattle.std.proofs.Common.{Bool, true, false, if◌then◌else◌, Option, Some, None, refl, subst, ap, ◌∙◌, arith}
 use Rattle.std.proofs.lemmas.Bool.Decides.{nat_tests}
 use Rattle.std.proofs.lemmas.List.{length-drop}
-use Rattle.std.specs.Prelude.{⊤, nat_le}
+use Rattle.std.specs.Prelude.{nat_le}
 use Rattle.std.specs.Int.{w8}
 use Rattle.planus_read.specs.Bytes.{BytesStand, position_of}
 use Rattle.planus_read.specs.Clauses.{AllHold}
-use Rattle.planus_read.specs.Reading.{Leads, number}
-use Rattle.planus_read.specs.Stands.{FieldStands, ReferenceStands}
+use Rattle.planus_read.specs.Reading.{Leads}
 use Rattle.planus_read.specs.TableReading.{SlotReads}
 use Rattle.planus_read.specs.Tables.{Slot}
 use Rattle.planus_read.specs.Values.{Field, Plain, plain, reference, field_at, slot_count}
@@ -104,7 +103,7 @@ module _ (H : OfTable) (Written : OfWritten) (B : List ℕ) (tables_hold : Table
       (λ more. (
         (both, (clause.0, tt)),
         a_member H at_ steps required (Slot V i) (Slot V (i + 1)) (tag_at S (Slot V i)) tag_reads.0
-        value_reads.0 (omega (arith, tag_there, some)) member,
+            value_reads.0 (omega (arith, tag_there, some)) member,
       ))
     where
       tag_reads : SlotReads B k (Slot V i) (Some (plain one))

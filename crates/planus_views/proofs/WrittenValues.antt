@@ -1,18 +1,18 @@
 -- What was written in a field passes each test of it.
 use Prim.Native.Nat.{zero, suc}
-use Rattle.std.proofs.Common.{◌≡◌, ℕ, ◌+◌, ◌-◌, ◌*◌, ◌≤◌, ◌<◌, List, [], ◌∷◌, ◌++◌, length, map, take, drop}
-use Rattle.std.proofs.Common.{Bool, true, false, Option, Some, None, refl, sym, subst, ap, ◌∙◌, arith}
+use Rattle.std.proofs.Common.{◌≡◌, ℕ, ◌+◌, ◌*◌, ◌≤◌, ◌<◌, List, [], ◌∷◌, ◌++◌, length, drop}
+use Rattle.std.proofs.Common.{Some, None, sym, subst, ap, ◌∙◌, arith}
 use Rattle.std.proofs.lemmas.List.{drop-drop, length-drop}
 use Rattle.std.proofs.lemmas.Option.{slice_get_within, slice_get-get_or}
-use Rattle.std.specs.Prelude.{⊤, slice_get, get_or}
+use Rattle.std.specs.Prelude.{slice_get, get_or}
 use Rattle.std.specs.Str.{IsUtf8}
 use Rattle.planus_read.specs.Bytes.{BytesStand, position_of}
 use Rattle.planus_read.specs.Clauses.{AllHold}
 use Rattle.planus_read.specs.Reading.{Leads, count_at, items_at, text_clauses, byte_list_clauses}
-use Rattle.planus_read.specs.Reading.{vector_clauses, table_clauses, Items}
+use Rattle.planus_read.specs.Reading.{vector_clauses}
 use Rattle.planus_read.specs.ReadsBack.{ListReads, ReferenceReads}
-use Rattle.planus_read.specs.Stands.{at, Stands, FieldStands, ReferenceStands}
-use Rattle.planus_read.specs.Values.{Field, Value, Plain, plain, reference, text, byte_list}
+use Rattle.planus_read.specs.Stands.{at, Stands, FieldStands}
+use Rattle.planus_read.specs.Values.{Field, Value, reference, text, byte_list}
 use Rattle.planus_read.specs.Values.{plain_list, reference_list, union_vector, table}
 use Rattle.planus_read.proofs.Reading.{stood_inside, vector_holds}
 use Rattle.planus_read.proofs.ReadingLaws.{lawful_text, lawful_byte_list, lawful_vector}
@@ -20,14 +20,13 @@ use Rattle.planus_read.proofs.ReadsBack.{what_stands_reads_back}
 use Rattle.planus_read.proofs.SliceLaws.{references_lead, bytes_in_slice}
 use Rattle.planus_write.specs.Contents.{Content, item, value, values, written}
 use Rattle.planus.specs.ReadBack.{FieldHolds, AllStand}
-use Rattle.planus_verify.specs.Steps.{Step, Faults, Tests, items_from, value_steps, text_steps}
+use Rattle.planus_verify.specs.Steps.{Step, Faults, items_from, value_steps, text_steps}
 use Rattle.planus_verify.specs.Steps.{plain_clauses, reference_steps, vector_steps}
 use Rattle.planus_verify.specs.Verified.{OfTable, StepsHold}
 use Rattle.planus_verify.specs.declared.schema.ValueKind.{ValueKind}
 use Rattle.planus_verify.specs.declared.schema.ValueKind.TheVariants as kind_of
 use Rattle.planus_verify.specs.declared.fault.Fault.{Fault}
 use Rattle.planus_read.specs.declared.errors.ErrorKind.{ErrorKind}
-use Rattle.planus_views.specs.Fields.{EachHolds}
 use Rattle.planus_views.specs.Written.{OfWritten, IsText, AreTexts, IsByteList, IsPlainList, AllAt}
 use Rattle.planus_views.specs.Written.{AreTables, HoldsPlain, HoldsValue, HoldsValues, HoldsWritten}
 use Rattle.planus_views.specs.Written.{FitsKind}

@@ -1,6 +1,6 @@
 -- Tables that were written as a schema says.
 use Prim.Native.Nat.{zero, suc}
-use Rattle.std.specs.Prelude.{◌≡◌, ℕ, ◌+◌, ◌≤◌, List, [], ◌∷◌, length, drop, Bool, true, false}
+use Rattle.std.specs.Prelude.{◌≡◌, ℕ, ◌+◌, ◌≤◌, List, [], ◌∷◌, length, drop, Bool, false}
 use Rattle.std.specs.Prelude.{Option, Some, None, ⊤, Err, ◌<◌, ◌⊎◌}
 use Rattle.std.specs.Str.{IsUtf8}
 use Rattle.planus_read.specs.Reading.{target, slots_of}
