@@ -6,8 +6,6 @@ mod fault;
 mod kind;
 mod laws;
 mod limits;
-mod pass;
-mod pass_member;
 mod passes;
 mod readings;
 mod root;
@@ -15,6 +13,8 @@ mod schema;
 #[cfg(test)]
 mod tests;
 mod union_kind;
+mod verify_table;
+mod verify_union;
 mod walk;
 
 pub use entered::Entered;
@@ -22,8 +22,8 @@ pub use fault::{Fault, FieldPlace};
 pub use kind::VerifiedKind;
 pub use laws::{passed_is_verified, verified_passes};
 pub use limits::Limits;
-pub use pass::Verify;
-pub use pass_member::{VerifyUnion, member_passes};
 pub use root::{verify, verify_kind};
 pub use schema::{FieldKind, FieldShape, Schema, TableShape, ValueKind, Variant};
 pub use union_kind::UnionKind;
+pub use verify_table::Verify;
+pub use verify_union::{VerifyUnion, member_passes};

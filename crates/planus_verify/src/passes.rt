@@ -11,10 +11,10 @@ ghost use Rattle.planus_verify.specs.Walks.{NoTable, InOrder, Walks};
 ghost use Rattle.planus_verify.specs.declared.fault.Fault.{Fault};
 ghost use Rattle.planus_verify.specs.declared.schema.ValueKind.TheVariants as value;
 
-use crate::pass::Verify;
-use crate::pass_member::VerifyUnion;
 use crate::readings::{bytes_are_there, plain_is_there, plains_are_there, text_is_there};
 use crate::schema::ValueKind;
+use crate::verify_table::Verify;
+use crate::verify_union::VerifyUnion;
 use planus_read::table_reader::Table;
 use planus_read::{Place, SliceWithStartOffset, TableRead, TaggedPlace};
 use planus_view::{UnionVector, Vector};

@@ -9,8 +9,8 @@ ghost use Rattle.planus_verify.specs.Walks.{RootWalks};
 
 use crate::fault::Fault;
 use crate::limits::Limits;
-use crate::pass::Verify;
 use crate::schema::Schema;
+use crate::verify_table::Verify;
 use crate::walk::verify_table;
 use planus_read::table_reader::Table;
 use planus_read::{SliceWithStartOffset, TableRead};

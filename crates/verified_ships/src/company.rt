@@ -6,7 +6,7 @@ ghost use Rattle.planus_views.specs.Vectors.{Returns};
 
 use crate::schema::schema;
 use planus::table_reader::Table;
-use planus_views::{Entered, OfKind, Schema, ValueKind, VerifiedKind, Verify, View, ViewOf};
+use planus_views::{OfKind, Schema, VerifiedKind, Verify, View, ViewOf};
 
 /// The kind of `Company`.
 pub struct Company;
@@ -30,15 +30,8 @@ impl VerifiedKind for Company {
     }
 }
 
-impl Verify for Company {
-    fn pass(table: Table<'_>, depth: u8, left: usize) -> Option<usize> {
-        let fields = Entered::<Company>::new(table, depth)?;
-        let left = fields.counted(left)?;
-        let left = fields.value(0, false, ValueKind::Text, left)?;
-        let left = fields.value(1, false, ValueKind::Bytes, left)?;
-        Some(left)
-    }
-}
+// It is verified by a walk over the schema.
+impl Verify for Company {}
 
 /// A verified one in a buffer.
 #[derive(Clone, Copy)]

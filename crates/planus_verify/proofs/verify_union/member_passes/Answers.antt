@@ -2,7 +2,7 @@ use Rattle.std.proofs.Common.{ap, ◌∙◌}
 use Rattle.planus_verify.specs.Schemas.{variant_in}
 use Rattle.planus_read.specs.Places.{place_bytes, place_start, place_offset}
 use Rattle.planus_verify.proofs.Passing.{variant_passed}
-use Rattle.planus_verify.proofs.pass_member.member_passes.Goals as goal
+use Rattle.planus_verify.proofs.verify_union.member_passes.Goals as goal
 
 pub returns : goal.returns
 returns g c = λ here.

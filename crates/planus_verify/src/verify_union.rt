@@ -9,22 +9,20 @@ ghost use Rattle.planus_verify.specs.Steps.{variant_steps};
 ghost use Rattle.planus_verify.specs.Walks.{Walks};
 ghost use Rattle.planus_verify.specs.declared.fault.Fault.{Fault};
 
-use crate::pass::Verify;
 use crate::passes::reference_passes;
 use crate::union_kind::UnionKind;
+use crate::verify_table::Verify;
 use planus_read::Place;
 
-/// How unions of a kind are verified: as [`crate::verify`] does, where it has no function of its own.
+/// How unions of a kind are verified.
 pub trait VerifyUnion: UnionKind {
     /// Verifies the union of this tag whose reference is at a place, as
-    /// [`crate::Verify::pass`] does a table. A tag that the schema doesn't have passes.
+    /// [`crate::Verify::pass`] does a table: `None` says nothing. A tag that the schema doesn't have
+    /// passes.
     fn pass_member(tag: u8, at: Place<'_>, depth: u8, left: usize) -> Option<usize>
         ensures { (here : ErrorKind → Fault) → StepsPass (Walks Self.schema depth) (variant_steps here
             (variant_in Self.schema.variants Self.union tag) (place_bytes at.entry) (place_start at.entry)
-            (place_offset at.entry)) left result }
-    {
-        None
-    }
+            (place_offset at.entry)) left result };
 }
 
 /// Verifies a union whose tag is that of a variant with tables of kind `L`.
