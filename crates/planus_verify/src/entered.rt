@@ -1,6 +1,6 @@
 //! Verification of a table field by field, which says whether all pass, and no fault.
 
-ghost use Rattle.std.specs.Prelude.{◌≡◌, ◌+◌, IfSome, if◌then◌else◌, None, Some};
+ghost use Rattle.std.specs.Prelude.{◌≡◌, ◌+◌, IfSome, ⊤, if◌then◌else◌, None, Some};
 ghost use Rattle.planus_verify.specs.Passes.{FieldPasses, field_of, entered_table, entered_depth};
 ghost use Rattle.planus_verify.specs.declared.schema.FieldKind.TheVariants as field_kind;
 ghost use Rattle.planus_verify.specs.declared.schema.ValueKind.TheVariants as value_kind;
@@ -14,6 +14,7 @@ use crate::walk::verify_field;
 use planus_read::table_reader::Table;
 use planus_read::{Place, TaggedPlace};
 use planus_view::UnionVector;
+use std::alloc::AllocError;
 use std::marker::PhantomData;
 
 /// A table of kind `K` whose fields are verified one by one: a method a kind of field, each by its
@@ -35,6 +36,19 @@ fn unless(required: bool, left: usize) -> Option<usize>
     }
     Some(left)
 }
+
+impl<'b, K: VerifiedKind> Clone for Entered<'b, K> {
+    ghost is_clone = { λ entered copy. copy ≡ entered };
+
+    ghost is_infallible = { λ _. ⊤ };
+
+    #[inline]
+    fn clone(&self) -> Result<Self, AllocError> {
+        Ok(*self)
+    }
+}
+
+impl<'b, K: VerifiedKind> Copy for Entered<'b, K> {}
 
 impl<'b, K: VerifiedKind> Entered<'b, K> {
     /// Enters a table, where so many may stand one in the other.
