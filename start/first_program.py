@@ -158,7 +158,7 @@ out += [f"/// Prints a `{root}`. Fails with the error of its first damaged field
 for it, of in getters:
     inner = of[7:-1] if (is_option := of.startswith("Option<")) else of
     counted = inner.startswith(("Vector<", "UnionVector<"))
-    shown = not inner.endswith("Ref<'a>") and not inner.startswith("TableRef<")
+    shown = not inner.endswith("Ref<'a>")
     if not counted and shown:
         out.append(f'    println!(rt; "{it}: {{:?}}", record.{it}()?)?;')
         must_print.append(f"{it}: {printed.get(it)}")
