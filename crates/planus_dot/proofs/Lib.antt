@@ -1,0 +1,3 @@
+mod Added
+mod Cut
+mod Read

@@ -1,0 +1,43 @@
+-- The names of types.
+use Rattle.std.specs.Prelude.{ℕ, List, [], ◌∷◌, ◌++◌, codes, Option, Some, None, slice_get}
+use Rattle.std.specs.Prelude.{if◌then◌else◌}
+use Rattle.planus_layout.specs.declared.scalar.Scalar.{Scalar}
+use Rattle.planus_layout.specs.declared.scalar.Scalar.TheVariants as scalar
+use Rattle.planus_layout.specs.declared.schema.Base.{Base}
+use Rattle.planus_layout.specs.declared.schema.Base.TheVariants as base
+use Rattle.planus_layout.specs.declared.schema.Declared.{Declared}
+use Rattle.planus_layout.specs.declared.schema.FieldType.{FieldType}
+
+abbrev pub scalar_name : Scalar → List ℕ
+scalar_name scalar.Bool = codes "bool"
+scalar_name scalar.Byte = codes "byte"
+scalar_name scalar.UByte = codes "ubyte"
+scalar_name scalar.Short = codes "short"
+scalar_name scalar.UShort = codes "ushort"
+scalar_name scalar.Int = codes "int"
+scalar_name scalar.UInt = codes "uint"
+scalar_name scalar.Long = codes "long"
+scalar_name scalar.ULong = codes "ulong"
+scalar_name scalar.Float = codes "float"
+scalar_name scalar.Double = codes "double"
+
+abbrev pub name_of : Option Declared → List ℕ
+name_of None = []
+name_of (Some d) = d.name.items
+
+-- the full name of a declaration
+abbrev pub name_at : List Declared → ℕ → List ℕ
+name_at ds i = name_of (slice_get ds i)
+
+abbrev pub base_name : List Declared → Base → List ℕ
+base_name ds (base.Scalar s) = scalar_name s
+base_name ds base.Text = codes "string"
+base_name ds (base.Enum i) = name_at ds i
+base_name ds (base.Struct i) = name_at ds i
+base_name ds (base.Table i) = name_at ds i
+base_name ds (base.Union i) = name_at ds i
+
+-- a type, as a schema has it; a declaration by its full name
+abbrev pub type_text : List Declared → FieldType → List ℕ
+type_text ds kind = if kind.vector then 91 ∷ (base_name ds kind.base ++ 93 ∷ [])
+    else base_name ds kind.base

@@ -1,0 +1,135 @@
+//! The nodes: a declaration with its rows.
+
+ghost use Rattle.std.specs.Prelude.{◌≡◌, ◌++◌, ◌∷◌, [], map, IfOk, OnOk};
+ghost use Rattle.std.specs.List.{flat_map};
+ghost use Rattle.std.specs.Option.{option_map};
+ghost use Rattle.planus_dot.specs.Rows.{row_view};
+ghost use Rattle.planus_dot.specs.Nodes.{word_of as word_lem, integer_of as integer_lem};
+ghost use Rattle.planus_dot.specs.Nodes.{kind_text, row_text, rows_text, title_text, label_text, node_line};
+ghost use Rattle.planus_dot.specs.Nodes.{nodes_text};
+
+use crate::row::Row;
+use crate::rows::rows_of;
+use crate::types::{put_type, scalar_name};
+use planus_layout::{Body, Declared, FieldType};
+use std::alloc::{AllocError, Global};
+
+/// Returns the word that declares it.
+fn word_of(body: &Body) -> &'static str
+    ensures { result.now ≡ word_lem body.now }
+{
+    match body {
+        Body::Table(_) => "table ",
+        Body::Struct(_) => "struct ",
+        Body::Enum(_) => "enum ",
+        Body::Union(_) => "union ",
+    }
+}
+
+/// Adds the integer type of an enum.
+fn put_integer(text: &mut Vec<u8>, body: &Body) -> Result<(), AllocError>
+    ensures { OnOk result (text.new.items ≡ text.old.items ++ integer_lem body.now) }
+{
+    if let Body::Enum(body) = body {
+        text.extend_from_slice(b": ")?;
+        text.extend_from_slice(scalar_name(body.scalar).as_bytes())?;
+    }
+    Ok(())
+}
+
+fn put_kind(
+    text: &mut Vec<u8>,
+    declarations: &[Declared],
+    kind: Option<FieldType>,
+) -> Result<(), AllocError>
+    ensures { OnOk result (text.new.items ≡ text.old.items ++ kind_text declarations.now kind) }
+{
+    if let Some(kind) = kind {
+        text.extend_from_slice(b": ")?;
+        put_type(text, declarations, kind)?;
+    }
+    Ok(())
+}
+
+/// Adds a row, which ends at the left.
+fn put_row(text: &mut Vec<u8>, declarations: &[Declared], row: &Row<'_>) -> Result<(), AllocError>
+    ensures { OnOk result (text.new.items
+        ≡ text.old.items ++ row_text declarations.now (row_view row.now)) }
+{
+    text.extend_from_slice(row.name)?;
+    put_kind(text, declarations, row.kind)?;
+    text.extend_from_slice(b"\\l")?;
+    Ok(())
+}
+
+fn put_rows(
+    text: &mut Vec<u8>,
+    declarations: &[Declared],
+    rows: &[Row<'_>],
+) -> Result<(), AllocError>
+    ensures { OnOk result (text.new.items
+        ≡ text.old.items ++ rows_text declarations.now (map row_view rows.now)) }
+{
+    'rows: for row in rows {
+        put_row(text, declarations, row)?;
+    }
+    Ok(())
+}
+
+fn put_title(text: &mut Vec<u8>, declared: &Declared) -> Result<(), AllocError>
+    ensures { OnOk result (text.new.items ≡ text.old.items ++ title_text declared.now) }
+{
+    text.extend_from_slice(word_of(&declared.body).as_bytes())?;
+    text.extend_from_slice(&declared.name)?;
+    put_integer(text, &declared.body)
+}
+
+/// Adds the label of a node.
+#[tactic(auto, unfolding(crate::specs::Nodes::label_text))]
+fn put_label(
+    alloc: Global,
+    text: &mut Vec<u8>,
+    declarations: &[Declared],
+    declared: &Declared,
+) -> Result<(), AllocError>
+    ensures { OnOk result (text.new.items
+        ≡ text.old.items ++ label_text declarations.now declared.now) }
+{
+    let rows = rows_of(alloc, &declared.body)?;
+    put_title(text, declared)?;
+    text.push(b'|')?;
+    put_rows(text, declarations, &rows)
+}
+
+/// Adds the line of a node.
+#[tactic(auto, unfolding(crate::specs::Nodes::node_line))]
+fn put_node(
+    alloc: Global,
+    text: &mut Vec<u8>,
+    declarations: &[Declared],
+    declared: &Declared,
+) -> Result<(), AllocError>
+    ensures { OnOk result (text.new.items
+        ≡ text.old.items ++ (node_line declarations.now declared.now ++ 10 ∷ [])) }
+{
+    text.extend_from_slice(b"  \"")?;
+    text.extend_from_slice(&declared.name)?;
+    text.extend_from_slice(b"\" [label=\"")?;
+    put_label(alloc, text, declarations, declared)?;
+    text.extend_from_slice(b"\"];\n")?;
+    Ok(())
+}
+
+/// Adds the lines of all nodes.
+pub(crate) fn put_nodes(
+    alloc: Global,
+    text: &mut Vec<u8>,
+    declarations: &[Declared],
+) -> Result<(), AllocError>
+    ensures { OnOk result (text.new.items ≡ text.old.items ++ nodes_text declarations.now) }
+{
+    'declarations: for declared in declarations {
+        put_node(alloc, text, declarations, declared)?;
+    }
+    Ok(())
+}

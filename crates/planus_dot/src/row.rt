@@ -1,0 +1,13 @@
+//! A row of a declaration.
+
+use planus_layout::FieldType;
+
+/// A field, a value of an enum or a member of a union.
+#[derive(Clone, Copy)]
+pub(crate) struct Row<'a> {
+    pub name: &'a [u8],
+    /// Its type; a value of an enum has none.
+    pub kind: Option<FieldType>,
+    /// The declaration that it refers to, by its index.
+    pub target: Option<usize>,
+}
