@@ -14,15 +14,19 @@ import sys
 OPTION = re.compile(r"(?<![\w-])--?[A-Za-z][\w-]*")
 HELP = {"--help", "-h"}
 
+# What help says of another program's call has that program's options.
+OTHER = re.compile(r"\| dot .*")
+
 # The words of a call up to where it is completed, and what may stand there.
 COMPLETED = {
-    ("",): "check format view rattle completions help",
+    ("",): "check format view rattle dot completions help",
     ("c",): "check completions",
     ("--v",): "--version",
     ("view", ""): "",
     ("view", "--l"): "--lines",
     ("completions", ""): "bash zsh fish",
     ("help", "f"): "format",
+    ("dot", "-"): "-I --help -h",
 }
 
 CALL = """
@@ -46,7 +50,7 @@ def differences(program):
     yield "commands", sorted(usage), sorted(name for name, _, _ in rows)
     for name, options, _ in rows:
         if name != "help":
-            named = set(OPTION.findall(said(program, "help", name)))
+            named = set(OPTION.findall(OTHER.sub("", said(program, "help", name))))
             yield name, named, set(options.split()) - HELP
     for words, wanted in COMPLETED.items():
         got = said("bash", "-c", CALL, "bash", script, "planus", *words)

@@ -10,7 +10,7 @@ use Rattle.planus_layout.specs.declared.number.Number.{Number}
 use Rattle.planus_commands.specs.declared.arguments.Command.{Command}
 use Rattle.planus_commands.specs.declared.arguments.Command.TheVariants.{Check, Format, View}
 use Rattle.planus_commands.specs.declared.arguments.Command.TheVariants.{Rattle as RattleCommand}
-use Rattle.planus_commands.specs.declared.arguments.Command.TheVariants.{Completions}
+use Rattle.planus_commands.specs.declared.arguments.Command.TheVariants.{Dot, Completions}
 use Rattle.planus_commands.specs.declared.arguments.Shell.{Shell}
 use Rattle.planus_commands.specs.declared.arguments.Shell.TheVariants.{Bash, Zsh, Fish}
 use Rattle.planus_commands.specs.declared.arguments.Choice.{Choice}
@@ -106,6 +106,7 @@ option_of command w = if is_help w then Some HelpChoice else option_in command
         else if bytes_eq w (codes "--check") then Some CheckChoice else None
     option_in View = view_option w
     option_in RattleCommand = rattle_option w
+    option_in Dot = if bytes_eq w (codes "-I") then Some Folder else None
     option_in Completions = None
 
 -- an option, and its value in the same word
@@ -123,6 +124,7 @@ joined_by choice start w = if starts_with nat_eq w start
 
 abbrev pub joined_in : Command → List ℕ → Option JoinedV
 joined_in Check w = joined_by Folder (codes "-I") w
+joined_in Dot w = joined_by Folder (codes "-I") w
 joined_in Format w = None
 joined_in Completions w = None
 joined_in View w = option_or (joined_by Folder (codes "-I") w)
@@ -233,7 +235,7 @@ pub data Asked : Type 0 where
   empty_value : Command → Choice → Asked
   empty_file : Command → Asked
   no_number : Choice → List ℕ → Asked
-  several_schemas : Asked
+  several_schemas : Command → Asked
   no_output : Asked
   write_and_check : Asked
   completions : Shell → Asked
@@ -253,7 +255,7 @@ asked code.NoBuffer = no_buffer
 asked (code.EmptyValue command choice) = empty_value command choice
 asked (code.EmptyFile command) = empty_file command
 asked (code.NoNumber choice w) = no_number choice w.now
-asked code.SeveralSchemas = several_schemas
+asked (code.SeveralSchemas command) = several_schemas command
 asked code.NoOutput = no_output
 asked code.WriteAndCheck = write_and_check
 asked (code.Completions shell) = completions shell
@@ -276,8 +278,12 @@ run_with (Some folder) ws = run RattleCommand ws
 
 -- `rattle` needs one schema and a folder
 abbrev pub rattle_request : WordsV → Asked
-rattle_request ws = if not (length ws.files == 1) then several_schemas
+rattle_request ws = if not (length ws.files == 1) then several_schemas RattleCommand
     else run_with ws.output ws
+
+-- `dot` needs one schema
+abbrev pub dot_request : WordsV → Asked
+dot_request ws = if length ws.files == 1 then run Dot ws else several_schemas Dot
 
 -- `format` writes files or compares them
 abbrev pub format_request : WordsV → Asked
@@ -303,6 +309,7 @@ run_request Check ws = run Check ws
 run_request Format ws = format_request ws
 run_request View ws = view_request ws
 run_request RattleCommand ws = rattle_request ws
+run_request Dot ws = dot_request ws
 run_request Completions ws = completions_request ws.files
 
 abbrev pub request_by : Command → WordsV → Asked
@@ -326,6 +333,7 @@ command_of w = if bytes_eq w (codes "check") then Some Check
     else if bytes_eq w (codes "format") then Some Format
     else if bytes_eq w (codes "view") then Some View
     else if bytes_eq w (codes "rattle") then Some RattleCommand
+    else if bytes_eq w (codes "dot") then Some Dot
     else if bytes_eq w (codes "completions") then Some Completions else None
 
 abbrev pub request_after : List ℕ → List (List ℕ) → Option Command → Asked

@@ -6,7 +6,7 @@ use Rattle.planus_commands.specs.declared.arguments.Shell.TheVariants.{Bash, Zsh
 use Rattle.planus_commands.specs.declared.arguments.Command.{Command}
 use Rattle.planus_commands.specs.declared.arguments.Command.TheVariants.{Check, Format, View}
 use Rattle.planus_commands.specs.declared.arguments.Command.TheVariants.{Rattle as RattleCommand}
-use Rattle.planus_commands.specs.declared.arguments.Command.TheVariants.{Completions}
+use Rattle.planus_commands.specs.declared.arguments.Command.TheVariants.{Dot, Completions}
 use Rattle.planus_commands.specs.declared.completions.Frame.{Frame}
 
 -- what a script has round the words of a row, and round the words that a call may begin with
@@ -69,8 +69,8 @@ shells = codes "bash" ∷ codes "zsh" ∷ codes "fish" ∷ []
 
 -- the commands
 abbrev pub names : List (List ℕ)
-names = codes "check" ∷ codes "format" ∷ codes "view" ∷ codes "rattle" ∷ codes "completions"
-    ∷ codes "help" ∷ []
+names = codes "check" ∷ codes "format" ∷ codes "view" ∷ codes "rattle" ∷ codes "dot"
+    ∷ codes "completions" ∷ codes "help" ∷ []
 
 -- the options of a command
 abbrev pub option_words : Command → List (List ℕ)
@@ -80,6 +80,7 @@ option_words View = codes "-I" ∷ codes "--root" ∷ codes "--size-prefixed" �
     ∷ codes "--bytes" ∷ codes "--help" ∷ codes "-h" ∷ []
 option_words RattleCommand =
     codes "-I" ∷ codes "-o" ∷ codes "--check" ∷ codes "--help" ∷ codes "-h" ∷ []
+option_words Dot = codes "-I" ∷ codes "--help" ∷ codes "-h" ∷ []
 option_words Completions = codes "--help" ∷ codes "-h" ∷ []
 
 -- the options that a call may begin with
@@ -100,13 +101,14 @@ unfoldable pub other_rows : FrameV → List ℕ
 other_rows frame = row_text frame (codes "completions") (option_words Completions) shells
     ++ row_text frame (codes "help") [] names
 
--- a row for each command, with its options; files are the arguments of the first four
+-- a row for each command, with its options; files are the arguments of the first five
 unfoldable pub rows_text : FrameV → List ℕ
 rows_text frame = row_text frame (codes "check") (option_words Check) []
     ++ (row_text frame (codes "format") (option_words Format) []
     ++ (row_text frame (codes "view") (option_words View) []
     ++ (row_text frame (codes "rattle") (option_words RattleCommand) []
-    ++ other_rows frame)))
+    ++ (row_text frame (codes "dot") (option_words Dot) []
+    ++ other_rows frame))))
 
 unfoldable pub script_in : FrameV → List ℕ
 script_in frame = frame.head ++ (rows_text frame ++ (frame.first ++ (spaced first_options

@@ -17,5 +17,6 @@ pub mod Near
 pub mod Viewing
 pub mod Buffers
 pub mod Printing
+pub mod Drawing
 pub mod Running
 pub mod Outputs

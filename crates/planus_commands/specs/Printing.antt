@@ -1,6 +1,7 @@
 -- Crates of printed code: their names, and how their files are written or compared.
 use Rattle.std.specs.Prelude.{◌≡◌, ℕ, Bool, false, ◌&&◌, ◌||◌, ◌==◌, not, List, [], ◌∷◌, codes, nat_eq}
 use Rattle.std.specs.Prelude.{◌++◌, ◌≢◌, ◌⊎◌, true, max, Option, Some, Result, Ok, Err}
+use Rattle.std.specs.Prelude.{if◌then◌else◌}
 use Rattle.std.specs.Io.KnownBytes.{Appends}
 use Rattle.std.specs.List.{list_all, starts_with}
 use Rattle.std.specs.Int.{is_in_range}
@@ -86,10 +87,18 @@ is_crate_name w = is_word w && not (is_reserved w || is_library w || is_of_planu
 abbrev pub crates_line : List ℕ → List ℕ
 crates_line name = line_of (codes "the line of crates.txt is `") name (codes ": planus planus_views`")
 
--- It was said that no crate can have some name.
+-- why no crate can have a name, after it
+abbrev pub name_fault : List ℕ → List ℕ
+name_fault w = if is_library w then codes "`: a library of Rattle has it; the folder after -o needs another name"
+    else if is_reserved w then codes "`: it is a reserved word; the folder after -o needs another name"
+    else if is_of_planus w
+    then codes "`: crates that printed code stands on begin so; the folder after -o needs another name"
+    else codes "`: a name has small letters, digits and `_`, and first a letter"
+
+-- It was said that no crate can have some name, and why.
 abbrev pub RefusesName : Option (List ℕ) → Option (List ℕ) → Type 0
 RefusesName unsaid said = (name : List ℕ) × (is_crate_name name ≡ false)
-    × Appends unsaid said (line_of (codes "no crate can have the name `") name (codes "`"))
+    × Appends unsaid said (line_of (codes "no crate can have the name `") name (name_fault name))
 
 -- what is known of whether a file has these bytes
 abbrev pub IsHeld : Disk → List ℕ → List ℕ → Result Bool FileError → Type 0

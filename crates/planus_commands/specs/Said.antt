@@ -6,7 +6,7 @@ use Rattle.std.specs.Io.KnownBytes.{Appends, Keeps}
 use Rattle.planus_commands.specs.declared.arguments.Command.{Command}
 use Rattle.planus_commands.specs.declared.arguments.Command.TheVariants.{Check, Format, View}
 use Rattle.planus_commands.specs.declared.arguments.Command.TheVariants.{Rattle as RattleCommand}
-use Rattle.planus_commands.specs.declared.arguments.Command.TheVariants.{Completions}
+use Rattle.planus_commands.specs.declared.arguments.Command.TheVariants.{Dot, Completions}
 use Rattle.planus_commands.specs.Completions.{option_words, script_of}
 use Rattle.planus_commands.specs.declared.arguments.Choice.{Choice}
 use Rattle.planus_commands.specs.declared.arguments.Choice.TheVariants.{Root, Lines, Bytes, Output}
@@ -30,7 +30,7 @@ said_view said = record { wrong = said.wrong; text = said.text.items }
 -- the words that a call may begin with
 abbrev pub command_words : List (List ℕ)
 command_words = codes "check" ∷ codes "format" ∷ codes "view" ∷ codes "rattle"
-    ∷ codes "completions" ∷ codes "help"
+    ∷ codes "dot" ∷ codes "completions" ∷ codes "help"
     ∷ codes "--help" ∷ codes "-h" ∷ codes "--version" ∷ codes "-V" ∷ []
 
 abbrev pub is_equals : ℕ → Bool
@@ -49,22 +49,24 @@ abbrev pub version_text : List ℕ
 version_text = codes "planus 0.1.0\n"
 
 abbrev pub help_text : List ℕ
-help_text = codes "planus reads schemas of flatbuffers, shows buffers by them, and prints their code.\n\nusage: planus check [-I FOLDER].. SCHEMA..\n       planus format [--write | --check] SCHEMA..\n       planus view [OPTION].. SCHEMA BUFFER\n       planus rattle [--check] [-I FOLDER].. SCHEMA -o FOLDER\n       planus completions bash|zsh|fish\n       planus help [COMMAND], planus [COMMAND] --help, planus --version\n\nSCHEMA and BUFFER are files, or - for standard input; after --, each word is one. The\nvalue of an option may be in the same word: -IFOLDER, -oFOLDER, --root=NAME. -h is\n--help, and -V is --version.\n"
+help_text = codes "planus reads schemas of flatbuffers, shows buffers by them, and prints their code.\n\nusage: planus check [-I FOLDER].. SCHEMA..\n       planus format [--write | --check] SCHEMA..\n       planus view [OPTION].. SCHEMA BUFFER\n       planus rattle [--check] [-I FOLDER].. SCHEMA -o FOLDER\n       planus dot [-I FOLDER].. SCHEMA\n       planus completions bash|zsh|fish\n       planus help [COMMAND], planus [COMMAND] --help, planus --version\n\nSCHEMA and BUFFER are files, or - for standard input; after --, each word is one. The\nvalue of an option may be in the same word: -IFOLDER, -oFOLDER, --root=NAME. -h is\n--help, and -V is --version.\n"
 
 -- the usage line of a command, with which its help begins, or of the program; what is said of a
 -- wrong call ends with it
 unfoldable pub usage_of : Option Command → List ℕ
-usage_of None = codes "usage: planus COMMAND ..; the commands are check, format, view, rattle, completions and help\n"
+usage_of None = codes "usage: planus COMMAND ..; the commands are check, format, view, rattle, dot, completions and help\n"
 usage_of (Some Check) = codes "usage: planus check [-I FOLDER].. SCHEMA..\n"
 usage_of (Some Format) = codes "usage: planus format [--write | --check] SCHEMA..\n"
 usage_of (Some View) = codes "usage: planus view [OPTION].. SCHEMA BUFFER\n"
 usage_of (Some RattleCommand) = codes "usage: planus rattle [--check] [-I FOLDER].. SCHEMA -o FOLDER\n"
+usage_of (Some Dot) = codes "usage: planus dot [-I FOLDER].. SCHEMA\n"
 usage_of (Some Completions) = codes "usage: planus completions bash|zsh|fish\n"
 
 abbrev pub details_of : Command → List ℕ
 details_of Check = codes "\nSays on standard error what is wrong with each schema and the files that it includes,\nor nothing. Included files are sought beside the file and in each FOLDER.\nEnds with 0 where nothing is wrong, with 1 where a schema has a fault, and with 2\nwhere the call is wrong or a file can't be read.\n"
 details_of Format = codes "\nPrints the canonical text of each schema, with its comments.\n\n  --write  replaces each file by its text\n  --check  prints nothing, and says which files don't have that text\n\nEnds with 0 where nothing is wrong, with 1 where a schema has a fault or --check names\na file, and with 2 where the call is wrong or a file can't be read or written.\n"
 details_of View = codes "\nPrints what a buffer holds, a line a value, as far as the lines and bytes go.\n\n  --root NAME      the root is this table, and not that of the schema\n  --size-prefixed  BUFFER is any number of buffers, each after its size\n  --lines N        at most N lines, and not 1000\n  --bytes N        at most N bytes, and not 1048576\n  -I FOLDER        included files are sought in this folder too\n\nEnds with 0 where all is shown, with 1 where something is wrong with the buffer or\nmore follows, and with 2 where the call is wrong or a file can't be read.\n"
+details_of Dot = codes "\nPrints the graph of a schema for Graphviz: a node for each declaration, with its\nfields and their types, and an edge for each that names a declaration. For a picture,\nplanus dot a.fbs | dot -Tsvg -o a.svg. Included files are sought beside the file and\nin each FOLDER.\nEnds with 0 where the graph is printed, with 1 where the schema has a fault, and with\n2 where the call is wrong or a file can't be read.\n"
 details_of Completions = codes "\nPrints the script by which this shell completes calls of planus: commands, their\noptions, and files. It says how it is used.\n"
 details_of RattleCommand = codes "\nPrints the code of a schema as a crate: its files in FOLDER, whose last word is the\ncrate's name. A file that has its text already is left alone.\n\n  -o FOLDER        the folder of the crate, which is made if it isn't there\n  --check          writes nothing, and says which files aren't what is printed\n  -I FOLDER        included files are sought in this folder too\n\nEnds with 0 where all is printed, with 1 where the schema has a fault or something\nthat isn't supported, or --check names a file, and with 2 where the call is wrong or\na file can't be read or written.\n"
 
@@ -80,6 +82,10 @@ no_value_text choice = codes "planus: no folder follows -I\n"
 
 abbrev pub no_shell_text : List ℕ
 no_shell_text = codes "planus: completions has one shell: bash, zsh or fish\n"
+
+abbrev pub several_schemas_text : Command → List ℕ
+several_schemas_text Dot = codes "planus: dot has one schema\n"
+several_schemas_text command = codes "planus: rattle has one schema\n"
 
 abbrev pub no_schema_text : Command → List ℕ
 no_schema_text Completions = no_shell_text
@@ -128,8 +134,8 @@ said_of (empty_file command) = on_errors (codes "planus: the name of a file is e
     ++ usage_of (Some command))
 said_of (no_number choice w) = on_errors (codes "planus: `" ++ (shown w
     ++ (codes "`" ++ (no_number_text choice ++ (codes "\n" ++ usage_of (Some View))))))
-said_of several_schemas = on_errors (codes "planus: rattle has one schema\n"
-    ++ usage_of (Some RattleCommand))
+said_of (several_schemas command) =
+    on_errors (several_schemas_text command ++ usage_of (Some command))
 said_of no_output = on_errors (codes "planus: no folder is given: -o FOLDER\n"
     ++ usage_of (Some RattleCommand))
 said_of write_and_check = on_errors (codes "planus: format has --write or --check, and not both\n"

@@ -98,7 +98,15 @@ fn frame_of(shell: Shell) -> Frame
 fn names() -> &'static [&'static str]
     ensures { map (λ w. w.now) result.now ≡ names_lem }
 {
-    &["check", "format", "view", "rattle", "completions", "help"]
+    &[
+        "check",
+        "format",
+        "view",
+        "rattle",
+        "dot",
+        "completions",
+        "help",
+    ]
 }
 
 fn shells() -> &'static [&'static str]
@@ -176,6 +184,7 @@ fn put_rows(text: &mut Vec<u8>, frame: &Frame) -> Result<(), AllocError>
     put_command(text, frame, "format", Command::Format)?;
     put_command(text, frame, "view", Command::View)?;
     put_command(text, frame, "rattle", Command::Rattle)?;
+    put_command(text, frame, "dot", Command::Dot)?;
     put_other_rows(text, frame)
 }
 

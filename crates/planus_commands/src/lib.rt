@@ -1,5 +1,5 @@
-//! What the program `planus` does: it checks and formats schemas, views buffers by them and prints
-//! their code. Start at `program`.
+//! What the program `planus` does: it checks and formats schemas, views buffers by them, and prints
+//! their code and their graphs. Start at `program`.
 #![tactic(auto)]
 
 mod arguments;
@@ -7,6 +7,7 @@ mod buffers;
 mod checking;
 mod completions;
 mod distance;
+mod drawing;
 mod file_error;
 mod files;
 mod include;

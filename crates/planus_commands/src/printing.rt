@@ -12,6 +12,7 @@ ghost use Rattle.planus_commands.specs.Printing.{is_small_letter as is_small_let
 ghost use Rattle.planus_commands.specs.Printing.{is_in_name as is_in_name_lem};
 ghost use Rattle.planus_commands.specs.Printing.{is_word as is_word_lem};
 ghost use Rattle.planus_commands.specs.Printing.{is_of_planus as is_of_planus_lem};
+ghost use Rattle.planus_commands.specs.Printing.{name_fault as name_fault_lem};
 ghost use Rattle.planus_commands.specs.Printing.{is_crate_name as is_crate_name_lem};
 
 use crate::arguments::Words;
@@ -80,7 +81,22 @@ fn is_crate_name(word: &[u8]) -> bool
     is_word(word) && !(is_reserved(word) || is_library(word) || is_of_planus(word))
 }
 
-/// Returns the folder of a crate, or reports that no crate can have its last word as its name.
+/// Returns why no crate can have a name, as it is said after it.
+fn name_fault(word: &[u8]) -> &'static str
+    ensures { result.now ≡ name_fault_lem word.now }
+{
+    if is_library(word) {
+        "`: a library of Rattle has it; the folder after -o needs another name"
+    } else if is_reserved(word) {
+        "`: it is a reserved word; the folder after -o needs another name"
+    } else if is_of_planus(word) {
+        "`: crates that printed code stands on begin so; the folder after -o needs another name"
+    } else {
+        "`: a name has small letters, digits and `_`, and first a letter"
+    }
+}
+
+/// Returns the folder of a crate, or reports why no crate can have its last word as its name.
 fn folder_or_report<'a, X: Write>(
     alloc: Global,
     path: &'a str,
@@ -97,7 +113,8 @@ fn folder_or_report<'a, X: Write>(
     if is_crate_name(name.as_bytes()) {
         return Ok(Some(Folder { path, name, check }));
     }
-    say(alloc, errors, "no crate can have the name `", name, "`")?;
+    let why = name_fault(name.as_bytes());
+    say(alloc, errors, "no crate can have the name `", name, why)?;
     Ok(None)
 }
 

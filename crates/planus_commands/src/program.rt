@@ -9,6 +9,7 @@ ghost use Rattle.planus_commands.specs.Running.{RunsFile, RunsFiles, Runs, SaysO
 
 use crate::arguments::{Command, Request, Words, request_of};
 use crate::buffers::view_file;
+use crate::drawing::draw_graph;
 use crate::files::{Files, HostFiles};
 use crate::output::Output;
 use crate::printing::print_code;
@@ -80,6 +81,7 @@ fn run_request<F: Files, W: Write, X: Write>(
     match command {
         Command::View => view_file(files, alloc, words, writer, errors),
         Command::Rattle => print_code(files, alloc, words, errors),
+        Command::Dot => draw_graph(files, alloc, words, writer, errors),
         Command::Check => run_files(files, alloc, false, words, writer, errors),
         Command::Format => run_files(files, alloc, true, words, writer, errors),
         // Said before.

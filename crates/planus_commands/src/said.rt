@@ -13,6 +13,7 @@ ghost use Rattle.planus_commands.specs.Said.{before_equals as before_equals_lem}
 ghost use Rattle.planus_commands.specs.Said.{help_of as help_of_lem, help_text, no_value_text};
 ghost use Rattle.planus_commands.specs.Completions.{script_of};
 ghost use Rattle.planus_commands.specs.Said.{empty_value_text, no_number_text, no_schema_text};
+ghost use Rattle.planus_commands.specs.Said.{several_schemas_text};
 ghost use Rattle.planus_commands.specs.Said.{usage_of as usage_of_lem, details_of as details_of_lem};
 ghost use Rattle.planus_commands.specs.Said.{said_text as said_text_lem};
 ghost use Rattle.planus_commands.specs.Said.{said_of as said_of_lem, said_view, Says};
@@ -36,6 +37,7 @@ usage: planus check [-I FOLDER].. SCHEMA..
        planus format [--write | --check] SCHEMA..
        planus view [OPTION].. SCHEMA BUFFER
        planus rattle [--check] [-I FOLDER].. SCHEMA -o FOLDER
+       planus dot [-I FOLDER].. SCHEMA
        planus completions bash|zsh|fish
        planus help [COMMAND], planus [COMMAND] --help, planus --version
 
@@ -45,7 +47,7 @@ value of an option may be in the same word: -IFOLDER, -oFOLDER, --root=NAME. -h 
 ";
 
 const PROGRAM_USAGE: &str =
-    "usage: planus COMMAND ..; the commands are check, format, view, rattle, completions and help\n";
+    "usage: planus COMMAND ..; the commands are check, format, view, rattle, dot, completions and help\n";
 
 const USAGE_OF_CHECK: &str = "usage: planus check [-I FOLDER].. SCHEMA..\n";
 
@@ -98,6 +100,17 @@ that isn't supported, or --check names a file, and with 2 where the call is wron
 a file can't be read or written.
 ";
 
+const USAGE_OF_DOT: &str = "usage: planus dot [-I FOLDER].. SCHEMA\n";
+
+const DETAILS_OF_DOT: &str = "
+Prints the graph of a schema for Graphviz: a node for each declaration, with its
+fields and their types, and an edge for each that names a declaration. For a picture,
+planus dot a.fbs | dot -Tsvg -o a.svg. Included files are sought beside the file and
+in each FOLDER.
+Ends with 0 where the graph is printed, with 1 where the schema has a fault, and with
+2 where the call is wrong or a file can't be read.
+";
+
 const USAGE_OF_COMPLETIONS: &str = "usage: planus completions bash|zsh|fish\n";
 
 const DETAILS_OF_COMPLETIONS: &str = "
@@ -116,6 +129,8 @@ const EMPTY_FILE: &str = "planus: the name of a file is empty\n";
 const NO_BUFFER: &str = "planus: view has a schema and a buffer\n";
 
 const SEVERAL_SCHEMAS: &str = "planus: rattle has one schema\n";
+
+const SEVERAL_FOR_DOT: &str = "planus: dot has one schema\n";
 
 const NO_OUTPUT: &str = "planus: no folder is given: -o FOLDER\n";
 
@@ -160,6 +175,7 @@ fn command_words() -> &'static [&'static str]
         "format",
         "view",
         "rattle",
+        "dot",
         "completions",
         "help",
         "--help",
@@ -187,6 +203,7 @@ pub(crate) fn option_words(command: Command) -> &'static [&'static str]
             ]
         }
         Command::Rattle => &["-I", "-o", "--check", "--help", "-h"],
+        Command::Dot => &["-I", "--help", "-h"],
         Command::Completions => &["--help", "-h"],
     }
 }
@@ -233,6 +250,7 @@ fn usage_of(command: Option<Command>) -> &'static str
         Some(Command::Format) => USAGE_OF_FORMAT,
         Some(Command::View) => USAGE_OF_VIEW,
         Some(Command::Rattle) => USAGE_OF_RATTLE,
+        Some(Command::Dot) => USAGE_OF_DOT,
         Some(Command::Completions) => USAGE_OF_COMPLETIONS,
     }
 }
@@ -245,6 +263,7 @@ fn details_of(command: Command) -> &'static str
         Command::Format => DETAILS_OF_FORMAT,
         Command::View => DETAILS_OF_VIEW,
         Command::Rattle => DETAILS_OF_RATTLE,
+        Command::Dot => DETAILS_OF_DOT,
         Command::Completions => DETAILS_OF_COMPLETIONS,
     }
 }
@@ -340,6 +359,15 @@ fn no_schema(command: Command) -> &'static str
     }
 }
 
+fn several_schemas(command: Command) -> &'static str
+    ensures { result.now ≡ several_schemas_text command }
+{
+    match command {
+        Command::Dot => SEVERAL_FOR_DOT,
+        _ => SEVERAL_SCHEMAS,
+    }
+}
+
 fn script_said(alloc: Global, shell: Shell) -> Result<Option<Said>, AllocError>
     ensures { IfOk result (λ said. option_map said_view said ≡ said_text_lem false (script_of shell)) }
 {
@@ -391,7 +419,7 @@ pub fn said_of(alloc: Global, request: &Request<'_>) -> Result<Option<Said>, All
                 Some(Command::View),
             )
         }
-        Request::SeveralSchemas => wrong(alloc, SEVERAL_SCHEMAS, Some(Command::Rattle)),
+        Request::SeveralSchemas(command) => wrong(alloc, several_schemas(*command), Some(*command)),
         Request::NoOutput => wrong(alloc, NO_OUTPUT, Some(Command::Rattle)),
         Request::WriteAndCheck => wrong(alloc, WRITE_AND_CHECK, Some(Command::Format)),
         Request::Completions(shell) => script_said(alloc, *shell),
