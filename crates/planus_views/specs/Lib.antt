@@ -1,3 +1,4 @@
+pub mod Buffers
 pub mod Fields
 pub mod Views
 pub mod Vectors
@@ -6,5 +7,6 @@ pub mod Members
 pub mod Items
 pub mod Nested
 pub mod Printed
+pub mod References
 pub mod Written
 pub use Rattle.planus_verify.specs as verify

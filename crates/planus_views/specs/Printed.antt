@@ -2,6 +2,7 @@
 pub use Rattle.std.specs.Option.{option_map}
 pub use Rattle.planus_verify.specs.Schemas.{Shapes, shapes}
 pub use Rattle.planus_verify.specs.Walks.{RootWalks}
+pub use Rattle.planus_views.specs.Buffers.{IsVerifiedBuffer, IsVerifiedSized, VerifiesRoot}
 pub use Rattle.planus_views.specs.CheckedVectors.{checked_texts, checked_tables, checked_unions}
 pub use Rattle.planus_views.specs.Fields.{IsMember}
 pub use Rattle.planus_views.specs.Members.{ReturnsAs, checked_option, Checked, unknown}

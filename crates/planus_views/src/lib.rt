@@ -2,6 +2,9 @@
 //! without errors.
 #![tactic(auto)]
 
+mod buffer_fault;
+mod buffers;
+mod flags;
 pub mod laws;
 mod members;
 mod of_kind;
@@ -11,10 +14,14 @@ mod table_vectors;
 mod texts;
 mod union_of;
 mod unions;
+mod unread;
 mod verified_items;
 mod view;
 mod view_of;
 
+pub use buffer_fault::BufferFault;
+pub use buffers::{verify_buffer, verify_sized_buffer};
+pub use flags::show_flags;
 pub use of_kind::OfKind;
 pub use of_union::OfUnion;
 pub use planus_verify::{
@@ -26,6 +33,7 @@ pub use table_vectors::Tables;
 pub use texts::Texts;
 pub use union_of::{Member, UnionOf};
 pub use unions::Unions;
+pub use unread::Unread;
 pub use verified_items::{ReadVerified, VerifiedItems, VerifiedVector};
 pub use view::View;
 pub use view_of::ViewOf;

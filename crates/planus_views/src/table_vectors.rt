@@ -14,6 +14,7 @@ use crate::view_of::ViewOf;
 use planus::table_reader::Table;
 use planus::{SliceWithStartOffset, Vector};
 use std::alloc::AllocError;
+use std::fmt;
 use std::marker::PhantomData;
 
 /// A vector of tables, all of which are verified. Its items are printed views.
@@ -125,6 +126,12 @@ impl<'b, 'a, V: ViewOf<'a>> IntoIterator for &'b Tables<'a, V> {
     #[inline(always)]
     fn into_iter(self) -> VerifiedItems<Tables<'a, V>> {
         self.iter()
+    }
+}
+
+impl<'a, V: ViewOf<'a> + fmt::Debug + Drop> fmt::Debug for Tables<'a, V> {
+    fn fmt<W: fmt::Write>(&self, f: &mut fmt::Formatter<W>) -> fmt::Result {
+        f.debug_list().entries(self.iter()).finish()
     }
 }
 

@@ -12,6 +12,7 @@ ghost use Rattle.planus_view.specs.VectorView.{ShowsVector};
 use crate::verified_items::{ReadVerified, VerifiedItems, VerifiedVector};
 use planus::{SliceWithStartOffset, Vector};
 use planus_read::text_unchecked;
+use std::fmt;
 
 /// A vector of strings, all of which are there.
 #[derive(Clone, Copy)]
@@ -105,6 +106,12 @@ impl<'b, 'a> IntoIterator for &'b Texts<'a> {
     #[inline(always)]
     fn into_iter(self) -> VerifiedItems<Texts<'a>> {
         self.iter()
+    }
+}
+
+impl<'a> fmt::Debug for Texts<'a> {
+    fn fmt<W: fmt::Write>(&self, f: &mut fmt::Formatter<W>) -> fmt::Result {
+        f.debug_list().entries(self.iter()).finish()
     }
 }
 

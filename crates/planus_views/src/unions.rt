@@ -15,6 +15,7 @@ use crate::verified_items::{ReadVerified, VerifiedItems, VerifiedVector};
 use planus::SliceWithStartOffset;
 use planus_read::array_unchecked;
 use std::alloc::AllocError;
+use std::fmt;
 use std::marker::PhantomData;
 
 /// A vector of unions, all of which are verified. Its items are printed unions.
@@ -161,5 +162,11 @@ impl<'b, 'a, U: UnionOf<'a>> IntoIterator for &'b Unions<'a, U> {
     #[inline(always)]
     fn into_iter(self) -> VerifiedItems<Unions<'a, U>> {
         self.iter()
+    }
+}
+
+impl<'a, U: UnionOf<'a> + fmt::Debug + Drop> fmt::Debug for Unions<'a, U> {
+    fn fmt<W: fmt::Write>(&self, f: &mut fmt::Formatter<W>) -> fmt::Result {
+        f.debug_list().entries(self.iter()).finish()
     }
 }
