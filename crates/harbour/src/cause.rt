@@ -33,7 +33,7 @@ impl Cause {
 }
 
 /// One in a buffer.
-#[derive(Clone, Copy)]
+#[derive(Clone, Copy, Debug)]
 pub enum CauseRef<'a> {
     Entry(EntryRef<'a>),
     Origin(OriginRef<'a>),

@@ -89,3 +89,12 @@ impl TableKind for Company {
         "[CompanyRef]"
     }
 }
+
+impl<'a> std::fmt::Debug for CompanyRef<'a> {
+    fn fmt<W: std::fmt::Write>(&self, f: &mut std::fmt::Formatter<W>) -> std::fmt::Result {
+        let mut shown = f.debug_struct("CompanyRef");
+        shown.field("title", &self.title());
+        shown.field("vat", &self.vat());
+        shown.finish()
+    }
+}

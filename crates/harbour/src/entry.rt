@@ -151,3 +151,18 @@ impl TableKind for Entry {
         "[EntryRef]"
     }
 }
+
+impl<'a> std::fmt::Debug for EntryRef<'a> {
+    fn fmt<W: std::fmt::Write>(&self, f: &mut std::fmt::Formatter<W>) -> std::fmt::Result {
+        let mut shown = f.debug_struct("EntryRef");
+        shown.field("at", &self.at());
+        shown.field("text", &self.text());
+        shown.field("origin", &self.origin());
+        shown.field("cause", &planus_views::Unread::new(self.0, 4, "CauseRef"));
+        shown.field(
+            "parents",
+            &planus_views::Unread::new(self.0, 5, "[EntryRef]"),
+        );
+        shown.finish()
+    }
+}

@@ -40,7 +40,8 @@ mod root;
 
 pub use root::{
     finish_root, finish_root_size_prefixed, has_identifier, read_as_root,
-    read_size_prefixed_as_root, verify_as_root,
+    read_size_prefixed_as_root, verify_as_root, verify_buffer, verify_size_prefixed_as_root,
+    verify_size_prefixed_buffer,
 };
 
 mod verified;

@@ -10,7 +10,7 @@ use planus::{
 
 /// What a ship needs in a harbour.
 /// Bits without a name are kept.
-#[derive(Clone, Copy, Debug, PartialEq)]
+#[derive(Clone, Copy, PartialEq)]
 pub struct Needs {
     /// The bits.
     pub bits: u16,
@@ -80,4 +80,11 @@ impl PlainTotal for Needs {
 
 impl Exact for Needs {
     fn equal_is_same(a: Needs, b: Needs) {}
+}
+
+impl std::fmt::Debug for Needs {
+    fn fmt<W: std::fmt::Write>(&self, f: &mut std::fmt::Formatter<W>) -> std::fmt::Result {
+        let names: [(&str, u64); 2] = [("WATER", 1), ("POWER", 2)];
+        planus_views::show_flags(f, "Needs", self.bits as u64, &names)
+    }
 }

@@ -89,3 +89,12 @@ impl TableKind for Origin {
         "[OriginRef]"
     }
 }
+
+impl<'a> std::fmt::Debug for OriginRef<'a> {
+    fn fmt<W: std::fmt::Write>(&self, f: &mut std::fmt::Formatter<W>) -> std::fmt::Result {
+        let mut shown = f.debug_struct("OriginRef");
+        shown.field("host", &self.host());
+        shown.field("port", &self.port());
+        shown.finish()
+    }
+}

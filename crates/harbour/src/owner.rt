@@ -33,7 +33,7 @@ impl Owner {
 }
 
 /// One in a buffer.
-#[derive(Clone, Copy)]
+#[derive(Clone, Copy, Debug)]
 pub enum OwnerRef<'a> {
     Person(PersonRef<'a>),
     Firm(CompanyRef<'a>),

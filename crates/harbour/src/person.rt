@@ -99,3 +99,12 @@ impl TableKind for Person {
         "[PersonRef]"
     }
 }
+
+impl<'a> std::fmt::Debug for PersonRef<'a> {
+    fn fmt<W: std::fmt::Write>(&self, f: &mut std::fmt::Formatter<W>) -> std::fmt::Result {
+        let mut shown = f.debug_struct("PersonRef");
+        shown.field("name", &self.name());
+        shown.field("age", &self.age());
+        shown.finish()
+    }
+}

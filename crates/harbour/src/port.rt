@@ -200,3 +200,18 @@ impl TableKind for Port {
         "[PortRef]"
     }
 }
+
+impl<'a> std::fmt::Debug for PortRef<'a> {
+    fn fmt<W: std::fmt::Write>(&self, f: &mut std::fmt::Formatter<W>) -> std::fmt::Result {
+        let mut shown = f.debug_struct("PortRef");
+        shown.field("owner", &self.owner());
+        shown.field("ships", &self.ships());
+        shown.field("berths", &self.berths());
+        shown.field("shares", &self.shares());
+        shown.field("soundings", &self.soundings());
+        shown.field("chart", &self.chart());
+        shown.field("gauge", &self.gauge());
+        shown.field("hoisted", &self.hoisted());
+        shown.finish()
+    }
+}

@@ -1,12 +1,13 @@
 //! The root of a buffer.
 
-ghost use Rattle.std.specs.Prelude.{◌↔◌, ◌∷◌, [], ℕ, List, codes, IfOk, IfErr, IsTrue, Some, Ok};
-ghost use Rattle.std.specs.Prelude.{Err};
+ghost use Rattle.std.specs.Prelude.{◌↔◌, ◌∷◌, [], ℕ, List, codes, IfOk, IfErr, IsTrue, Some, None};
+ghost use Rattle.std.specs.Prelude.{Ok, Err};
 ghost use Rattle.std.specs.Borrow.{sem};
 ghost use Rattle.planus.specs.Printed.{BytesStand, IsPrefixed, FinishGives, SizedFinishGives};
 ghost use Rattle.planus.specs.Printed.{EndsAs, FinishLeaves, SizedFinishLeaves, IsIn, IsPrepared};
 ghost use Rattle.planus.specs.Printed.{IsRoot, IsSizedRoot};
-ghost use Rattle.planus_views.specs.Printed.{view_table, RootWalks};
+ghost use Rattle.planus_views.specs.Printed.{view_table, RootWalks, IsVerifiedBuffer};
+ghost use Rattle.planus_views.specs.Printed.{IsVerifiedSized, VerifiesRoot};
 ghost use Rattle.harbour.specs.Verified.{verified_schema};
 ghost use Rattle.harbour.specs.declared.ship.Ship.{Ship};
 ghost use Rattle.harbour.specs.declared.verified.ship.ShipView.{ShipView};
@@ -44,6 +45,40 @@ pub fn verify_as_root(
         bytes.now (Err found)) }
 {
     planus_views::verify_root(bytes, limits)
+}
+
+/// Verifies the root of the first of these size-prefixed buffers as [`verify_as_root`], and returns
+/// what follows the buffer too. The limits are those of one buffer.
+pub fn verify_size_prefixed_as_root(
+    bytes: &[u8],
+    limits: planus_views::Limits,
+) -> Result<(ShipView<'_>, &[u8]), planus_views::BufferFault>
+    ensures { IsVerifiedSized (VerifiesRoot Ship (λ (view : ShipView). view_table view.0)
+        verified_schema 2 limits) None bytes.now result }
+{
+    planus_views::verify_sized_buffer(bytes, limits, None)
+}
+
+/// As [`verify_as_root`], of a buffer with the file identifier: fails if the buffer lacks it.
+pub fn verify_buffer(
+    bytes: &[u8],
+    limits: planus_views::Limits,
+) -> Result<ShipView<'_>, planus_views::BufferFault>
+    ensures { IsVerifiedBuffer (VerifiesRoot Ship (λ (view : ShipView). view_table view.0)
+        verified_schema 2 limits) (Some (83 ∷ 72 ∷ 73 ∷ 80 ∷ [])) bytes.now result }
+{
+    planus_views::verify_buffer(bytes, limits, Some(FILE_IDENTIFIER))
+}
+
+/// As [`verify_size_prefixed_as_root`], of a buffer with the file identifier.
+pub fn verify_size_prefixed_buffer(
+    bytes: &[u8],
+    limits: planus_views::Limits,
+) -> Result<(ShipView<'_>, &[u8]), planus_views::BufferFault>
+    ensures { IsVerifiedSized (VerifiesRoot Ship (λ (view : ShipView). view_table view.0)
+        verified_schema 2 limits) (Some (83 ∷ 72 ∷ 73 ∷ 80 ∷ [])) bytes.now result }
+{
+    planus_views::verify_sized_buffer(bytes, limits, Some(FILE_IDENTIFIER))
 }
 
 /// Finishes a buffer with this root and the file identifier, as [`Builder::finish`].

@@ -425,3 +425,39 @@ impl TableKind for Ship {
         "[ShipRef]"
     }
 }
+
+impl<'a> std::fmt::Debug for ShipRef<'a> {
+    fn fmt<W: std::fmt::Write>(&self, f: &mut std::fmt::Formatter<W>) -> std::fmt::Result {
+        let mut shown = f.debug_struct("ShipRef");
+        shown.field("name", &self.name());
+        shown.field("hull", &self.hull());
+        shown.field("cargo", &self.cargo());
+        shown.field("kind", &self.kind());
+        shown.field("level", &self.level());
+        shown.field("needs", &self.needs());
+        shown.field("home", &self.home());
+        shown.field("track", &self.track());
+        shown.field("heat", &self.heat());
+        shown.field("depth", &self.depth());
+        shown.field("open", &self.open());
+        shown.field("shut", &self.shut());
+        shown.field("maybe", &self.maybe());
+        shown.field("photo", &self.photo());
+        shown.field("names", &self.names());
+        shown.field("mate", &planus_views::Unread::new(self.0, 15, "ShipRef"));
+        shown.field(
+            "consorts",
+            &planus_views::Unread::new(self.0, 16, "[ShipRef]"),
+        );
+        shown.field("kinds", &self.kinds());
+        shown.field("owner", &self.owner());
+        shown.field("shares", &self.shares());
+        shown.field("tall", &self.tall());
+        shown.field("temps", &self.temps());
+        shown.field("deltas", &self.deltas());
+        shown.field("fix", &self.fix());
+        shown.field("which", &self.which());
+        shown.field("flags", &self.flags());
+        shown.finish()
+    }
+}

@@ -24,7 +24,7 @@ impl Equipment {
 }
 
 /// One in a buffer.
-#[derive(Clone, Copy)]
+#[derive(Clone, Copy, Debug)]
 pub enum EquipmentRef<'a> {
     Weapon(WeaponRef<'a>),
 }

@@ -12,7 +12,9 @@ pub use weapon::{Weapon, WeaponFields, WeaponRef};
 
 mod root;
 
-pub use root::{read_as_root, read_size_prefixed_as_root, verify_as_root};
+pub use root::{
+    read_as_root, read_size_prefixed_as_root, verify_as_root, verify_size_prefixed_as_root,
+};
 
 mod verified;
 

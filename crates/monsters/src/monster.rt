@@ -164,3 +164,16 @@ impl TableKind for Monster {
         "[MonsterRef]"
     }
 }
+
+impl<'a> std::fmt::Debug for MonsterRef<'a> {
+    fn fmt<W: std::fmt::Write>(&self, f: &mut std::fmt::Formatter<W>) -> std::fmt::Result {
+        let mut shown = f.debug_struct("MonsterRef");
+        shown.field("hp", &self.hp());
+        shown.field("name", &self.name());
+        shown.field("inventory", &self.inventory());
+        shown.field("weapons", &self.weapons());
+        shown.field("equipped", &self.equipped());
+        shown.field("loot", &self.loot());
+        shown.finish()
+    }
+}

@@ -1,8 +1,8 @@
 //! The root of a buffer.
 
-ghost use Rattle.std.specs.Prelude.{ℕ, List, codes, IfOk, IfErr, Ok, Err};
+ghost use Rattle.std.specs.Prelude.{ℕ, List, codes, IfOk, IfErr, None, Ok, Err};
 ghost use Rattle.planus.specs.Printed.{IsRoot, IsSizedRoot};
-ghost use Rattle.planus_views.specs.Printed.{view_table, RootWalks};
+ghost use Rattle.planus_views.specs.Printed.{view_table, RootWalks, IsVerifiedSized, VerifiesRoot};
 ghost use Rattle.monsters.specs.Verified.{verified_schema};
 ghost use Rattle.monsters.specs.declared.monster.Monster.{Monster};
 ghost use Rattle.monsters.specs.declared.verified.monster.MonsterView.{MonsterView};
@@ -39,4 +39,16 @@ pub fn verify_as_root(
         bytes.now (Err found)) }
 {
     planus_views::verify_root(bytes, limits)
+}
+
+/// Verifies the root of the first of these size-prefixed buffers as [`verify_as_root`], and returns
+/// what follows the buffer too. The limits are those of one buffer.
+pub fn verify_size_prefixed_as_root(
+    bytes: &[u8],
+    limits: planus_views::Limits,
+) -> Result<(MonsterView<'_>, &[u8]), planus_views::BufferFault>
+    ensures { IsVerifiedSized (VerifiesRoot Monster (λ (view : MonsterView). view_table view.0)
+        verified_schema 1 limits) None bytes.now result }
+{
+    planus_views::verify_sized_buffer(bytes, limits, None)
 }

@@ -91,3 +91,12 @@ impl TableKind for Weapon {
         "[WeaponRef]"
     }
 }
+
+impl<'a> std::fmt::Debug for WeaponRef<'a> {
+    fn fmt<W: std::fmt::Write>(&self, f: &mut std::fmt::Formatter<W>) -> std::fmt::Result {
+        let mut shown = f.debug_struct("WeaponRef");
+        shown.field("name", &self.name());
+        shown.field("damage", &self.damage());
+        shown.finish()
+    }
+}

@@ -33,7 +33,8 @@ use std::alloc::{AllocError, Global};
 const ROOT: &str = "
 pub use root::{
     finish_root, finish_root_size_prefixed, has_identifier, read_as_root,
-    read_size_prefixed_as_root, verify_as_root,
+    read_size_prefixed_as_root, verify_as_root, verify_buffer, verify_size_prefixed_as_root,
+    verify_size_prefixed_buffer,
 };
 ";
 
@@ -45,7 +46,9 @@ const VERIFIED_HEAD: &str =
 const CREATE: &str = "pub use planus::Create;\n";
 
 const ROOT_ALONE: &str = "
-pub use root::{read_as_root, read_size_prefixed_as_root, verify_as_root};
+pub use root::{
+    read_as_root, read_size_prefixed_as_root, verify_as_root, verify_size_prefixed_as_root,
+};
 ";
 
 /// What a namespace has of its declarations, by the place of their modules to this one.

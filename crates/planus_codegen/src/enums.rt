@@ -84,7 +84,7 @@ $M_shape = $b_enum $M_is
 
 const FLAGS: &str = "\
 /// Bits without a name are kept.
-#[derive(Clone, Copy, Debug, PartialEq)]
+#[derive(Clone, Copy, PartialEq)]
 pub struct $T {
     /// The bits.
     pub bits: $b,
@@ -267,6 +267,7 @@ pub(crate) fn print_flags<'a>(
     printer.put_pieces(&EACH_CODE, at);
     printer.put_pieces(&FLAGS_END, at);
     printer.put_exact(at);
+    printer.put_shown_flags(at);
     printer
 }
 

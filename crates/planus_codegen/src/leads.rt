@@ -156,3 +156,23 @@ pub(crate) fn leads_on(
         None => false,
     }
 }
+
+/// Whether `Debug` of a table may read a field on: whether all tables whose views it shows are left
+/// before its own, by these numbers. A buffer is shown as its bytes.
+pub(crate) fn shows_on(
+    left: &[usize],
+    declared: &[Declared],
+    table: usize,
+    field: &TableField,
+) -> bool {
+    let (Base::Table(index) | Base::Union(index)) = field.kind.base else {
+        return true;
+    };
+    match declared.get(index) {
+        Some(one) => match &one.body {
+            Body::Union(union) => are_left_before(left, union, table),
+            _ => left.get(index) < left.get(table),
+        },
+        None => false,
+    }
+}

@@ -80,6 +80,7 @@ pub fn has_identifier(bytes: &[u8]) -> bool
 pub(crate) fn print_root<'a>(context: &'a Context<'a>, at: At) -> Printer<'a> {
     let mut printer = Printer::new(context);
     printer.put_pieces(&[Once(READ), Once(READ_SIZED), Once(VERIFY)], at);
+    printer.put_verified_buffers(at);
     if context.identifier.is_some() {
         printer.put_pieces(&[Once(FINISH), Once(FINISH_SIZED), Once(CHECK)], at);
     }

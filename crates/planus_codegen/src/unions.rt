@@ -31,7 +31,7 @@ const VIEW: &str = "\
 }
 
 /// One in a buffer.
-#[derive(Clone, Copy)]
+#[derive(Clone, Copy, Debug)]
 pub enum $TRef<'a> {
 ";
 

@@ -18,7 +18,7 @@ impl planus_views::UnionKind for $T {
 }
 
 /// A verified one in a buffer.
-#[derive(Clone, Copy)]
+#[derive(Clone, Copy, Debug)]
 pub enum $TView<'a> {
 ";
 

@@ -18,7 +18,7 @@ impl planus_views::UnionKind for Cause {
 }
 
 /// A verified one in a buffer.
-#[derive(Clone, Copy)]
+#[derive(Clone, Copy, Debug)]
 pub enum CauseView<'a> {
     Entry(EntryView<'a>),
     Origin(OriginView<'a>),

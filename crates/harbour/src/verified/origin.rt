@@ -76,3 +76,12 @@ impl<'a> OriginView<'a> {
         planus::TableView::of_table(self.0.table())
     }
 }
+
+impl<'a> std::fmt::Debug for OriginView<'a> {
+    fn fmt<W: std::fmt::Write>(&self, f: &mut std::fmt::Formatter<W>) -> std::fmt::Result {
+        let mut shown = f.debug_struct("OriginView");
+        shown.field("host", &self.host());
+        shown.field("port", &self.port());
+        shown.finish()
+    }
+}

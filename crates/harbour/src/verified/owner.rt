@@ -18,7 +18,7 @@ impl planus_views::UnionKind for Owner {
 }
 
 /// A verified one in a buffer.
-#[derive(Clone, Copy)]
+#[derive(Clone, Copy, Debug)]
 pub enum OwnerView<'a> {
     Person(PersonView<'a>),
     Firm(CompanyView<'a>),

@@ -16,7 +16,7 @@ impl planus_views::UnionKind for Equipment {
 }
 
 /// A verified one in a buffer.
-#[derive(Clone, Copy)]
+#[derive(Clone, Copy, Debug)]
 pub enum EquipmentView<'a> {
     Weapon(WeaponView<'a>),
     /// A tag that the schema doesn't have.

@@ -123,3 +123,16 @@ impl<'a> MonsterView<'a> {
         planus::TableView::of_table(self.0.table())
     }
 }
+
+impl<'a> std::fmt::Debug for MonsterView<'a> {
+    fn fmt<W: std::fmt::Write>(&self, f: &mut std::fmt::Formatter<W>) -> std::fmt::Result {
+        let mut shown = f.debug_struct("MonsterView");
+        shown.field("hp", &self.hp());
+        shown.field("name", &self.name());
+        shown.field("inventory", &self.inventory());
+        shown.field("weapons", &self.weapons());
+        shown.field("equipped", &self.equipped());
+        shown.field("loot", &self.loot());
+        shown.finish()
+    }
+}
