@@ -16,4 +16,6 @@ mod orc;
 #[cfg(test)]
 mod printed;
 #[cfg(test)]
+mod shown;
+#[cfg(test)]
 mod verified;

@@ -1,5 +1,6 @@
 //! Verified views that are printed read what `flatc` writes, and what the checked views read.
 
+mod buffers;
 mod damage;
 mod faults;
 mod same;
