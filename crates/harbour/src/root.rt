@@ -15,7 +15,7 @@ ghost use Rattle.harbour.specs.declared.verified.ship.ShipView.{ShipView};
 use crate::FILE_IDENTIFIER;
 use crate::ship::{Ship, ShipRef};
 use crate::verified::ship::ShipView;
-use planus::{BuildError, Builder, Offset, Result, read_root, read_sized_root};
+use planus::{BuildError, Builder, Offset, read_root, read_sized_root};
 
 /// Reads the root of a buffer.
 pub fn read_as_root(bytes: &[u8]) -> planus::Result<ShipRef<'_>>

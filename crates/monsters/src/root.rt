@@ -9,7 +9,7 @@ ghost use Rattle.monsters.specs.declared.verified.monster.MonsterView.{MonsterVi
 
 use crate::monster::MonsterRef;
 use crate::verified::monster::MonsterView;
-use planus::{Result, read_root, read_sized_root};
+use planus::{read_root, read_sized_root};
 
 /// Reads the root of a buffer.
 pub fn read_as_root(bytes: &[u8]) -> planus::Result<MonsterRef<'_>>

@@ -36,25 +36,29 @@ impl<'a> Printer<'a> {
 
     fn put_parameters(&mut self, plan: &Plan<'_>, words: &Words<'_>) {
         let mut between = "^";
-        for line in plan.lines.iter().filter(|line| line.field.required) {
-            let at = At::line(line);
-            self.put(between, at);
-            self.put_parameter(line, words);
-            self.put(": $G", at);
-            between = ",^";
+        for line in &plan.lines {
+            if line.field.required {
+                let at = At::line(line);
+                self.put(between, at);
+                self.put_parameter(line, words);
+                self.put(": $G", at);
+                between = ",^";
+            }
         }
     }
 
     fn put_given(&mut self, plan: &Plan<'_>, words: &Words<'_>) {
         let mut between = "        ensures given {";
-        for line in plan.lines.iter().filter(|line| line.field.required) {
-            let at = At::line(line);
-            self.put(between, at);
-            self.put("~(result.$n ≡ ", at);
-            self.put_parameter(line, words);
-            self.put_str(ending(line.field.kind));
-            self.put_str(")");
-            between = "~×";
+        for line in &plan.lines {
+            if line.field.required {
+                let at = At::line(line);
+                self.put(between, at);
+                self.put("~(result.$n ≡ ", at);
+                self.put_parameter(line, words);
+                self.put_str(ending(line.field.kind));
+                self.put_str(")");
+                between = "~×";
+            }
         }
         self.put_str(" }\n");
     }
@@ -63,10 +67,12 @@ impl<'a> Printer<'a> {
     fn put_rest(&mut self, plan: &Plan<'_>) {
         let at = At::declaration(plan.table);
         let mut between = "        ensures rest {~let x = result in";
-        for line in plan.lines.iter().filter(|line| !line.field.required) {
-            self.put(between, at);
-            self.put(default_is(line.field), At::line(line));
-            between = "~×";
+        for line in &plan.lines {
+            if !line.field.required {
+                self.put(between, at);
+                self.put(default_is(line.field), At::line(line));
+                between = "~×";
+            }
         }
         self.put_str(if self.as_str().is_empty() { "" } else { " }\n" });
     }
