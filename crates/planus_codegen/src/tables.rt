@@ -180,6 +180,7 @@ impl<'a> Printer<'a> {
             ("impl Default for $TFields {\n", OWNED_FIELDS)
         };
         self.put(head, at);
+        self.put_constant_uses_apart(plan);
         self.put("    ghost is_default = {~λ x.", at);
         let mut between = "";
         for line in &plan.lines {
