@@ -128,7 +128,7 @@ fn is_anna(bytes: &[u8]) -> bool {
     matches!(read_as_root(bytes), Ok(ship) if has_all(&ship)) && has_identifier(bytes)
 }
 
-fn is_in_sized_root(error: &planus::Error<'_>) -> bool {
+fn is_in_sized_root(error: &planus::Error) -> bool {
     let place = &error.source_location;
     place.type_ == "[ShipRef]" && place.method == "read_as_root" && place.byte_offset == 0
 }

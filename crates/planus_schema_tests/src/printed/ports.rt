@@ -10,9 +10,7 @@ use harbour::{
     Cause, CauseRef, Company, Create, Entry, EntryFields, EntryRef, Kind, Origin, OriginFields,
     OriginRef, Owner, OwnerRef, Port, PortFields, PortRef, Ship, Signal, has_identifier,
 };
-use planus::{
-    BuildError, Builder, ByteList, Offset, plain_item, read_root, text_item, union_item,
-};
+use planus::{BuildError, Builder, ByteList, Offset, plain_item, read_root, text_item, union_item};
 
 type Written<T> = std::result::Result<T, BuildError>;
 
@@ -25,16 +23,13 @@ fn has_values(port: &PortRef<'_>) -> bool {
 }
 
 fn has_ships(port: &PortRef<'_>) -> bool {
-    let ships = match port.ships() {
-        Ok(ships) => ships,
-        Err(_) => return false,
-    };
-    for ship in &ships {
-        if !matches!(ship, Ok(ship) if is_plain(&ship, "Bo", Kind::Car)) {
-            return false;
+    match port.ships() {
+        Ok(ships) => {
+            ships.len() == 1
+                && matches!(ships.get(0), Some(Ok(ship)) if is_plain(&ship, "Bo", Kind::Car))
         }
+        Err(_) => false,
     }
-    ships.len() == 1
 }
 
 fn has_owners(port: &PortRef<'_>) -> bool {
