@@ -2,6 +2,7 @@ pub mod Included
 pub mod Reported
 pub mod Distances
 pub mod Nearest
+pub mod Fits
 pub mod SpelledFiles
 pub mod Sized
 pub mod LoadedFiles

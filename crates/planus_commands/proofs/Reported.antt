@@ -1,30 +1,30 @@
 -- Reports.
 use Rattle.std.proofs.Common.{ℕ, List, [], ◌∷◌, ◌++◌, refl, sym, ap, ◌∙◌}
 use Rattle.std.proofs.Common.{append-nil, append_assoc}
-use Rattle.planus_syntax.specs.Values.{Name}
 use Rattle.planus_syntax.specs.Parsed.{IsRefusal}
 use Rattle.planus_syntax.specs.declared.text.SchemaError.{SchemaError}
 use Rattle.planus_syntax.specs.declared.text.SchemaError.TheVariants as whole
+use Rattle.planus_schema.specs.Names.{HeadV}
 use Rattle.planus_schema.specs.declared.fault.Fault.{Fault}
 use Rattle.planus_commands.specs.declared.checking.File.{File}
 use Rattle.planus_commands.specs.Checks.{AreReports, IsReportAdded}
 use Rattle.planus_commands.specs.Outcomes.{ReportsError}
 
-pub reports_push : (names : List Name) (files : List File) (faults : List Fault) (fault : Fault) (old new : List ℕ)
-    → AreReports names files faults old → IsReportAdded names files fault old new
-    → AreReports names files (faults ++ fault ∷ []) new
-reports_push names files [] fault old new e a = record {
+pub reports_push : (hs : List HeadV) (files : List File) (faults : List Fault) (fault : Fault) (old new : List ℕ)
+    → AreReports hs files faults old → IsReportAdded hs files fault old new
+    → AreReports hs files (faults ++ fault ∷ []) new
+reports_push hs files [] fault old new e a = record {
   first = a.report;
   rest = [];
   is = a.is;
   are = refl;
   joined = a.added ∙ ap (λ x. x ++ a.report) e ∙ sym (append-nil a.report);
 }
-reports_push names files (f ∷ fs) fault old new j a = record {
+reports_push hs files (f ∷ fs) fault old new j a = record {
   first = j.first;
   rest = j.rest ++ a.report;
   is = j.is;
-  are = reports_push names files fs fault j.rest (j.rest ++ a.report) j.are (record {
+  are = reports_push hs files fs fault j.rest (j.rest ++ a.report) j.are (record {
     report = a.report;
     is = a.is;
     added = refl;

@@ -9,8 +9,9 @@ use Rattle.std.specs.Io.KnownBytes.{Appends, Keeps}
 use Rattle.std.specs.Global.{Vec}
 use Rattle.planus_dump.specs.Writing.{WritesBeginning}
 use Rattle.planus_syntax.specs.Strings.{is_quote}
-use Rattle.planus_syntax.specs.Values.{Name, DeclarationV, declarations_of}
+use Rattle.planus_syntax.specs.Values.{DeclarationV, declarations_of}
 use Rattle.planus_syntax.specs.declared.value.Declaration.{Declaration}
+use Rattle.planus_schema.specs.Names.{HeadV, heads_of}
 use Rattle.planus_schema.specs.Faults.{AreInOrder, faults_found}
 use Rattle.planus_commands.specs.declared.streams.RunError.{RunError}
 use Rattle.planus_commands.specs.declared.streams.RunError.TheVariants.{OutOfMemory, Read, Write}
@@ -21,7 +22,6 @@ use Rattle.planus_schema.specs.Sound.{IsSound}
 use Rattle.planus_schema.specs.declared.fault.Fault.{Fault}
 use Rattle.planus_layout.specs.declared.schema.Schema.{Schema}
 use Rattle.planus_commands.specs.declared.checking.File.{File}
-use Rattle.planus_commands.specs.Near.{names_of_files}
 use Rattle.planus_commands.specs.Problems.{message_text}
 use Rattle.planus_commands.specs.Reports.{report_text}
 
@@ -46,21 +46,21 @@ abbrev pub word_of : List ℕ → List ℕ
 word_of bytes = take (position_or_len ends_word bytes) bytes
 
 -- the report of a fault at its word
-abbrev pub IsReport : List Name → File → Fault → List ℕ → Type 0
-IsReport names file fault report = (at : ℕ) × IsPlaceAt file.text.items fault.left at
+abbrev pub IsReport : List HeadV → File → Fault → List ℕ → Type 0
+IsReport hs file fault report = (at : ℕ) × IsPlaceAt file.text.items fault.left at
     × (report ≡ report_text (string_bytes file.name) file.text.items at
-    (message_text names fault.problem (word_of (unquoted (drop at file.text.items)))))
+    (message_text hs fault.problem (word_of (unquoted (drop at file.text.items)))))
 
-pub record IsReportIn (names : List Name) (files : List File) (fault : Fault) (report : List ℕ)
+pub record IsReportIn (hs : List HeadV) (files : List File) (fault : Fault) (report : List ℕ)
     : Type 0 where
   pub file : File
   pub here : slice_get files fault.file ≡ Some file
-  pub is : IsReport names file fault report
+  pub is : IsReport hs file fault report
 
-pub record IsReportAdded (names : List Name) (files : List File) (fault : Fault)
+pub record IsReportAdded (hs : List HeadV) (files : List File) (fault : Fault)
     (old new : List ℕ) : Type 0 where
   pub report : List ℕ
-  pub is : IsReportIn names files fault report
+  pub is : IsReportIn hs files fault report
   pub added : new ≡ old ++ report
 
 pub record Joins (IsFirst AreRest : List ℕ → Type 0) (out : List ℕ) : Type 0 where
@@ -71,10 +71,10 @@ pub record Joins (IsFirst AreRest : List ℕ → Type 0) (out : List ℕ) : Type
   pub joined : out ≡ first ++ rest
 
 -- one report after another
-abbrev pub AreReports : List Name → List File → List Fault → List ℕ → Type 0
-AreReports names files [] out = out ≡ []
-AreReports names files (fault ∷ faults) out =
-    Joins (IsReportIn names files fault) (AreReports names files faults) out
+abbrev pub AreReports : List HeadV → List File → List Fault → List ℕ → Type 0
+AreReports hs files [] out = out ≡ []
+AreReports hs files (fault ∷ faults) out =
+    Joins (IsReportIn hs files fault) (AreReports hs files faults) out
 
 abbrev pub schemas_of : List (Vec Declaration) → List (List DeclarationV)
 schemas_of declarations = map (λ f. declarations_of f.items) declarations
@@ -91,7 +91,7 @@ ResolvesFiles files declarations (Some s) before after = (faults_found declarati
     × Means (schemas_of declarations) s × IsSound s × Keeps before after
 ResolvesFiles files declarations None before after = (faults : List Fault)
     × AreTold declarations faults
-    × ((out : List ℕ) × AreReports (names_of_files (schemas_of declarations)) files faults out
+    × ((out : List ℕ) × AreReports (heads_of (schemas_of declarations)) files faults out
     × Appends before after out)
 
 -- Memory was refused before anything was written; or writing failed, and a beginning of the reports
@@ -103,5 +103,5 @@ FailsResolving files declarations Read before after = ⊥
 FailsResolving files declarations BadSchema before after = ⊥
 FailsResolving files declarations Write before after = (faults : List Fault)
     × AreTold declarations faults
-    × ((out : List ℕ) × AreReports (names_of_files (schemas_of declarations)) files faults out
+    × ((out : List ℕ) × AreReports (heads_of (schemas_of declarations)) files faults out
     × WritesBeginning out before after)

@@ -1,19 +1,19 @@
 -- The messages of faults of meaning.
 use Rattle.std.specs.Prelude.{ℕ, List, [], ◌++◌, codes, slice_get, Option, Some, None}
-use Rattle.planus_syntax.specs.Values.{Name}
+use Rattle.planus_schema.specs.Names.{HeadV}
 use Rattle.planus_schema.specs.declared.fault.Problem.{Problem}
 use Rattle.planus_schema.specs.declared.fault.Problem.TheVariants as problem
 use Rattle.planus_commands.specs.Near.{hint_of, nearest_type}
 
 -- before the word at fault
 abbrev pub before : Problem → List ℕ
-before problem.UnknownType = codes "unknown type "
+before (problem.UnknownType e) = codes "unknown type "
 before problem.UnknownAttribute = codes "unknown attribute "
 before p = []
 
 -- after the word at fault
 abbrev pub after : Problem → List ℕ
-after problem.UnknownType = []
+after (problem.UnknownType e) = []
 after problem.NameTaken = codes ": this name is declared before"
 after problem.FieldNameTaken = codes ": a field before it has this name"
 after problem.ValueNameTaken = codes ": a value before it has this name"
@@ -58,19 +58,19 @@ after problem.FlagsInUnion =
 abbrev pub problem_text : Problem → List ℕ → List ℕ
 problem_text p word = before p ++ (codes "`" ++ (word ++ (codes "`" ++ after p)))
 
-abbrev pub name_at : Option Name → List ℕ
+abbrev pub name_at : Option HeadV → List ℕ
 name_at None = []
-name_at (Some name) = name
+name_at (Some head) = head.name
 
 abbrev pub both_text : List ℕ → List ℕ → List ℕ → List ℕ
 both_text word here elsewhere = codes "`" ++ word ++ codes "` means `" ++ here
     ++ codes "`, but flatc takes it for `" ++ elsewhere ++ codes "`; declare it before its use"
 
--- the message, with the nearest type for an unknown one, and with both for a name
--- of two meanings
-abbrev pub message_text : List Name → Problem → List ℕ → List ℕ
-message_text names problem.UnknownType word =
-    problem_text problem.UnknownType word ++ hint_of (nearest_type names word)
-message_text names (problem.TwoMeanings here elsewhere) word =
-    both_text word (name_at (slice_get names here)) (name_at (slice_get names elsewhere))
-message_text names p word = problem_text p word
+-- the message, with the nearest type that may stand there for an unknown one, and with both for a
+-- name of two meanings
+abbrev pub message_text : List HeadV → Problem → List ℕ → List ℕ
+message_text hs (problem.UnknownType e) word =
+    problem_text (problem.UnknownType e) word ++ hint_of (nearest_type e hs word)
+message_text hs (problem.TwoMeanings here elsewhere) word =
+    both_text word (name_at (slice_get hs here)) (name_at (slice_get hs elsewhere))
+message_text hs p word = problem_text p word

@@ -1,8 +1,8 @@
 //! Whether the files of a schema mean something.
 
-ghost use Rattle.std.specs.Prelude.{◌≡◌, ◌<◌, length, IfOk, IfErr, OnOk};
+ghost use Rattle.std.specs.Prelude.{◌≡◌, ◌<◌, length, map, IfOk, IfErr, OnOk};
 ghost use Rattle.std.specs.List.{All};
-ghost use Rattle.planus_syntax.specs.Values.{names_of};
+ghost use Rattle.planus_schema.specs.Names.{head_of};
 ghost use Rattle.planus_commands.specs.Checks.{AreReports, ResolvesFiles, FailsResolving, IsReport};
 ghost use Rattle.planus_commands.specs.Checks.{AreSpelled, IsReportAdded};
 ghost use Rattle.planus_commands.specs.Outcomes.{HasTokens};
@@ -14,7 +14,7 @@ use crate::placed::place_of;
 use crate::problem::message_text;
 use crate::report::report;
 use crate::streams::{RunError, write_out};
-use planus_schema::{Fault, Refusal, Schema, full_names, resolve};
+use planus_schema::{Fault, Head, Refusal, Schema, heads_of, resolve};
 use planus_syntax::Declaration;
 use std::alloc::{AllocError, Global};
 use std::io::Write;
@@ -53,49 +53,49 @@ fn word_of(bytes: &[u8]) -> &[u8]
 
 fn fault_report(
     alloc: Global,
-    names: &[Vec<u8>],
+    heads: &[Head],
     file: &File,
     fault: Fault,
 ) -> Result<Vec<u8>, AllocError>
     requires { HasTokens file.now.text.items }
-    ensures { IfOk result (λ out. IsReport (names_of names.now) file.now fault out.items) }
+    ensures { IfOk result (λ out. IsReport (map head_of heads.now) file.now fault out.items) }
 {
     let at = place_of(alloc, &file.text, fault.left)?;
     let word = word_of(unquoted(&file.text[at..]));
-    let message = message_text(alloc, names, fault.problem, word)?;
+    let message = message_text(alloc, heads, fault.problem, word)?;
     report(alloc, file.name.as_str(), &file.text, at, &message)
 }
 
 fn put_report(
     alloc: Global,
     out: &mut Vec<u8>,
-    names: &[Vec<u8>],
+    heads: &[Head],
     files: &[File],
     fault: Fault,
 ) -> Result<(), AllocError>
     requires within { fault.file < length files.now }
     requires tokens { All (λ f. HasTokens f.text.items) files.now }
-    ensures { OnOk result (IsReportAdded (names_of names.now) files.now fault
+    ensures { OnOk result (IsReportAdded (map head_of heads.now) files.now fault
         out.old.items out.new.items) }
 {
-    let report = fault_report(alloc, names, &files[fault.file], fault)?;
+    let report = fault_report(alloc, heads, &files[fault.file], fault)?;
     out.extend_from_slice(&report)?;
     Ok(())
 }
 
 fn reports(
     alloc: Global,
-    names: &[Vec<u8>],
+    heads: &[Head],
     files: &[File],
     faults: &[Fault],
 ) -> Result<Vec<u8>, AllocError>
     requires within { All (λ f. f.file < length files.now) faults.now }
     requires tokens { All (λ f. HasTokens f.text.items) files.now }
-    ensures { IfOk result (λ out. AreReports (names_of names.now) files.now faults.now out.items) }
+    ensures { IfOk result (λ out. AreReports (map head_of heads.now) files.now faults.now out.items) }
 {
     let mut out = Vec::new(alloc);
     'faults: for fault in faults {
-        put_report(alloc, &mut out, names, files, *fault)?;
+        put_report(alloc, &mut out, heads, files, *fault)?;
     }
     Ok(out)
 }
@@ -120,8 +120,8 @@ pub fn resolve_or_report<X: Write>(
         Ok(schema) => Ok(Some(schema)),
         Err(Refusal::OutOfMemory) => Err(RunError::OutOfMemory),
         Err(Refusal::Faults(faults)) => {
-            let names = full_names(alloc, declarations)?;
-            let out = reports(alloc, &names, files, &faults)?;
+            let heads = heads_of(alloc, declarations)?;
+            let out = reports(alloc, &heads, files, &faults)?;
             write_out(errors, &out)?;
             Ok(None)
         }

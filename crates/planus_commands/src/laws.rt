@@ -6,9 +6,12 @@ ghost use Rattle.std.specs.Str.{bytes_eq};
 ghost use Rattle.planus_commands.specs.Arguments.{command_of, option_of};
 ghost use Rattle.planus_commands.specs.Completions.{names, option_words};
 ghost use Rattle.planus_commands.specs.Near.{nearest, AreFar, IsFirstNearest};
+ghost use Rattle.planus_commands.specs.Near.{candidates, IsFitting};
+ghost use Rattle.planus_schema.specs.Names.{HeadV};
 ghost use Rattle.planus_commands.specs.Shown.{shown, IsSeenText};
 
 use crate::arguments::Command;
+use planus_schema::Expected;
 
 /// Whatever the bytes, what is shown of them is UTF-8 without control characters but tabs, and
 /// without marks that turn the direction of text.
@@ -21,6 +24,12 @@ pub fn shown_is_seen()
 pub fn nearest_is_first()
     ensures { (word : List ℕ) (names : List (List ℕ)) → MatchOption (nearest names word)
         (AreFar word names) (IsFirstNearest word names) }
+{}
+
+/// What is proposed for an unknown type may stand there.
+pub fn candidates_fit()
+    ensures { (expected : Expected) (heads : List HeadV)
+        → All (IsFitting expected heads) (candidates expected heads) }
 {}
 
 /// The options that completions and proposals have of a command are exactly those that it takes, but

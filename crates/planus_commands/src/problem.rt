@@ -1,24 +1,24 @@
 //! The messages of faults of meaning.
 
-ghost use Rattle.std.specs.Prelude.{◌≡◌, ◌++◌, slice_get, Some, IfOk, OnOk};
+ghost use Rattle.std.specs.Prelude.{◌≡◌, ◌++◌, map, slice_get, Some, IfOk, OnOk};
 ghost use Rattle.planus_commands.specs.Problems.{both_text as both_text_lem};
 ghost use Rattle.planus_commands.specs.Problems.{name_at as name_at_lem};
 ghost use Rattle.std.specs.Option.{option_map};
-ghost use Rattle.planus_syntax.specs.Values.{names_of};
+ghost use Rattle.planus_schema.specs.Names.{head_of};
 ghost use Rattle.planus_commands.specs.Near.{hint_of};
 ghost use Rattle.planus_commands.specs.Problems.{message_text as message_text_lem};
 ghost use Rattle.planus_commands.specs.Problems.{after as after_lem, before as before_lem};
 ghost use Rattle.planus_commands.specs.Problems.{problem_text as problem_text_lem};
 
 use crate::near::nearest_type;
-use planus_schema::Problem;
+use planus_schema::{Head, Problem};
 use std::alloc::{AllocError, Global};
 
 fn before(problem: Problem) -> &'static str
     ensures { result.now ≡ before_lem problem }
 {
     match problem {
-        Problem::UnknownType => "unknown type ",
+        Problem::UnknownType(_) => "unknown type ",
         Problem::UnknownAttribute => "unknown attribute ",
         _ => "",
     }
@@ -28,7 +28,7 @@ fn after(problem: Problem) -> &'static str
     ensures { result.now ≡ after_lem problem }
 {
     match problem {
-        Problem::UnknownType => "",
+        Problem::UnknownType(_) => "",
         Problem::NameTaken => ": this name is declared before",
         Problem::FieldNameTaken => ": a field before it has this name",
         Problem::ValueNameTaken => ": a value before it has this name",
@@ -105,11 +105,11 @@ fn put_hint(alloc: Global, text: &mut Vec<u8>, name: Option<&[u8]>) -> Result<()
     }
 }
 
-fn name_at(names: &[Vec<u8>], index: usize) -> &[u8]
-    ensures { result.now ≡ name_at_lem (slice_get (names_of names.now) index) }
+fn name_at<'a>(heads: &'a [Head], index: usize) -> &'a [u8]
+    ensures { result.now ≡ name_at_lem (slice_get (map head_of heads.now) index) }
 {
-    match names.get(index) {
-        Some(name) => name,
+    match heads.get(index) {
+        Some(head) => &head.name,
         None => &[],
     }
 }
@@ -132,23 +132,23 @@ fn both_text(
     Ok(text)
 }
 
-/// Returns the message of a fault, with the nearest of these full names for an unknown type, and
-/// with both for a name of two meanings.
+/// Returns the message of a fault, with the nearest type that may stand there for an unknown one,
+/// and with both for a name of two meanings. `heads` are the declarations of all files.
 pub fn message_text(
     alloc: Global,
-    names: &[Vec<u8>],
+    heads: &[Head],
     problem: Problem,
     word: &[u8],
 ) -> Result<Vec<u8>, AllocError>
     ensures { IfOk result (λ text. text.items
-        ≡ message_text_lem (names_of names.now) problem word.now) }
+        ≡ message_text_lem (map head_of heads.now) problem word.now) }
 {
     if let Problem::TwoMeanings { here, elsewhere } = problem {
-        return both_text(alloc, word, name_at(names, here), name_at(names, elsewhere));
+        return both_text(alloc, word, name_at(heads, here), name_at(heads, elsewhere));
     }
     let mut text = problem_text(alloc, problem, word)?;
-    if let Problem::UnknownType = problem {
-        put_hint(alloc, &mut text, nearest_type(names, word))?;
+    if let Problem::UnknownType(expected) = problem {
+        put_hint(alloc, &mut text, nearest_type(expected, heads, word))?;
     }
     Ok(text)
 }

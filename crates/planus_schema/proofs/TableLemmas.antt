@@ -5,6 +5,7 @@ use Rattle.std.specs.List.{list_all}
 use Rattle.planus_syntax.specs.Values.{Name, field_of, kind_of, attribute_of, names_of}
 use Rattle.planus_syntax.specs.declared.value.Attribute.{Attribute}
 use Rattle.planus_syntax.specs.declared.value.Field.{Field}
+use Rattle.planus_schema.specs.declared.expected.Expected.TheVariants as expected
 use Rattle.planus_schema.specs.declared.fault.Problem.TheVariants as problem
 use Rattle.planus_schema.specs.Names.{HeadV, SpaceV, has, type_named, attribute_named}
 use Rattle.planus_schema.specs.Wrong.{Broken, when, first, Stops, wrong_kind}
@@ -102,8 +103,8 @@ nothing_wrong hs space ids next key names d ds all f names' key' next' h a b n k
 pub names_are : (f : TableField) (d : Field) (t : FieldType) → f.kind ≡ t → f.name.items ≡ d.name.items → names_taken f ≡ names_in t d
 names_are f d t k n = ap (λ u. names_for u f.name.items) k ∙ ap (names_for t) n
 
-pub typed_is : (hs : List HeadV) (space : SpaceV) (ids : Bool) (next : ℕ) (f : Field) (t : FieldType) → wrong_kind hs space f.kind ≡ None → type_named hs space (kind_of f.kind) ≡ Some t → wrong_field hs space ids next f ≡ wrong_typed hs space ids next f (Some t)
-typed_is hs space ids next f t k n = skip (wrong_kind hs space f.kind) _ k ∙ ap (wrong_typed hs space ids next f) n
+pub typed_is : (hs : List HeadV) (space : SpaceV) (ids : Bool) (next : ℕ) (f : Field) (t : FieldType) → wrong_kind expected.AnyType hs space f.kind ≡ None → type_named hs space (kind_of f.kind) ≡ Some t → wrong_field hs space ids next f ≡ wrong_typed hs space ids next f (Some t)
+typed_is hs space ids next f t k n = skip (wrong_kind expected.AnyType hs space f.kind) _ k ∙ ap (wrong_typed hs space ids next f) n
 
 abbrev pub field_law : FieldType → Field → Option Broken
 field_law t f = wrong_law (is_required t (field_of f)) (has (codes "key") (field_of f).attributes) (has (codes "nested_flatbuffer") (field_of f).attributes) t f.left

@@ -15,6 +15,7 @@ use Rattle.planus_syntax.specs.Strings.{string_text}
 use Rattle.planus_layout.specs.declared.scalar.Scalar.{Scalar}
 use Rattle.planus_layout.specs.declared.measure.Measure.{Measure}
 use Rattle.planus_layout.specs.Numbers.{scalar_size}
+use Rattle.planus_schema.specs.declared.expected.Expected.TheVariants as expected
 use Rattle.planus_schema.specs.declared.fault.Fault.{Fault}
 use Rattle.planus_schema.specs.declared.fault.Refusal.{Refusal}
 use Rattle.planus_schema.specs.declared.fault.Refusal.TheVariants as refusal
@@ -99,20 +100,24 @@ name_faults hs n (p ∷ ps) = name_fault hs n p ++ name_faults hs (n + 1) ps
 
 -- ---- declarations
 
+-- an item that declares no type
+abbrev pub no_type : ℕ → Option Broken
+no_type left = broken (problem.UnknownType expected.AnyType) left
+
 -- the fault of a declaration; `left` is the place of its name
 abbrev pub wrong_body : List HeadV → SpaceV → List (Option Measure) → ℕ → Item → Option Broken
-wrong_body hs space ms left (item.Include w) = broken problem.UnknownType left
-wrong_body hs space ms left (item.NativeInclude w) = broken problem.UnknownType left
-wrong_body hs space ms left (item.Namespace p) = broken problem.UnknownType left
-wrong_body hs space ms left (item.Attribute l) = broken problem.UnknownType left
+wrong_body hs space ms left (item.Include w) = no_type left
+wrong_body hs space ms left (item.NativeInclude w) = no_type left
+wrong_body hs space ms left (item.Namespace p) = no_type left
+wrong_body hs space ms left (item.Attribute l) = no_type left
 wrong_body hs space ms left (item.Table r) = wrong_table_body hs space r left
 wrong_body hs space ms left (item.Struct r) = wrong_struct hs space ms r left
 wrong_body hs space ms left (item.Enum e) = wrong_enum (integer_at hs (length ms)) e
 wrong_body hs space ms left (item.Union u) = wrong_union hs space u
-wrong_body hs space ms left (item.Service s) = broken problem.UnknownType left
-wrong_body hs space ms left (item.RootType p) = broken problem.UnknownType left
-wrong_body hs space ms left (item.FileIdentifier w) = broken problem.UnknownType left
-wrong_body hs space ms left (item.FileExtension w) = broken problem.UnknownType left
+wrong_body hs space ms left (item.Service s) = no_type left
+wrong_body hs space ms left (item.RootType p) = no_type left
+wrong_body hs space ms left (item.FileIdentifier w) = no_type left
+wrong_body hs space ms left (item.FileExtension w) = no_type left
 
 abbrev pub scalar_measure : Option Scalar → Option Measure
 scalar_measure None = None

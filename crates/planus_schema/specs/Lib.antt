@@ -1,4 +1,5 @@
 pub mod Names
+pub mod Fitting
 pub mod Wrong
 pub mod Enums
 pub mod Structs

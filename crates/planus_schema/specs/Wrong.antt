@@ -7,6 +7,8 @@ use Rattle.planus_syntax.specs.Values.{path_of}
 use Rattle.planus_syntax.specs.declared.value.Path.{Path}
 use Rattle.planus_syntax.specs.declared.value.Kind.{Kind}
 use Rattle.planus_syntax.specs.declared.value.Kind.TheVariants as kind
+use Rattle.planus_schema.specs.declared.expected.Expected.{Expected}
+use Rattle.planus_schema.specs.declared.expected.Expected.TheVariants as expected
 use Rattle.planus_schema.specs.declared.fault.Problem.{Problem}
 use Rattle.planus_schema.specs.declared.fault.Problem.TheVariants as problem
 use Rattle.planus_schema.specs.Names.{UsedAs}
@@ -42,18 +44,19 @@ Tells o (Err e) = Stops o e
 
 -- ---- names of types
 
-abbrev pub wrong_base : List HeadV → UsedAs → SpaceV → Path → Option Broken
-wrong_base hs w space p =
-    when (not (is_set (base_as hs w space (path_of p)))) problem.UnknownType p.left
+-- a name that means no type, where one of these is expected
+abbrev pub wrong_base : Expected → List HeadV → UsedAs → SpaceV → Path → Option Broken
+wrong_base e hs w space p =
+    when (not (is_set (base_as hs w space (path_of p)))) (problem.UnknownType e) p.left
 
 abbrev pub path_in_kind : Kind → Path
 path_in_kind (kind.Single p) = p
 path_in_kind (kind.Vector p) = p
 
-abbrev pub wrong_kind : List HeadV → SpaceV → Kind → Option Broken
-wrong_kind hs space k = wrong_base hs as_type space (path_in_kind k)
+abbrev pub wrong_kind : Expected → List HeadV → SpaceV → Kind → Option Broken
+wrong_kind e hs space k = wrong_base e hs as_type space (path_in_kind k)
 
 -- a name that has to be a table's
 abbrev pub wrong_table : Problem → List HeadV → UsedAs → SpaceV → Path → Option Broken
-wrong_table problem hs w space p = first (wrong_base hs w space p)
+wrong_table problem hs w space p = first (wrong_base expected.Table hs w space p)
     (when (not (is_set (table_in (base_as hs w space (path_of p))))) problem p.left)

@@ -1,5 +1,5 @@
 -- Faults of structs.
-use Rattle.std.specs.Prelude.{ℕ, ◌+◌, max, Bool, true, false, ◌&&◌, ◌||◌, not, nat_le, nat_lt}
+use Rattle.std.specs.Prelude.{ℕ, ◌+◌, ◌-◌, max, Bool, true, false, ◌&&◌, ◌||◌, not, nat_le, nat_lt}
 use Rattle.std.specs.Prelude.{codes}
 use Rattle.std.specs.Prelude.{if◌then◌else◌, List, [], ◌∷◌, ◌++◌, map, Option, Some, None}
 use Rattle.std.specs.Prelude.{slice_get}
@@ -16,6 +16,7 @@ use Rattle.planus_layout.specs.declared.measure.Measure.{Measure}
 use Rattle.planus_layout.specs.Numbers.{scalar_size}
 use Rattle.planus_layout.specs.Distinct.{is_in}
 use Rattle.planus_layout.specs.Layouts.{next_multiple, is_alignment, measure_of_body}
+use Rattle.planus_schema.specs.declared.expected.Expected.TheVariants as expected
 use Rattle.planus_schema.specs.declared.fault.Problem.TheVariants as problem
 use Rattle.planus_schema.specs.Names.{HeadV, SpaceV, type_named, has, setting, attribute_named}
 use Rattle.planus_schema.specs.Structs.{number_in, alignment_said, is_zero_default}
@@ -71,12 +72,13 @@ wrong_single hs f (Some t) = first (when t.vector problem.NoStructField f.left)
     (when (not (is_zero_default hs t (option_map literal_of f.default))) problem.DefaultInStruct
     f.left)
 
+-- its attributes, its type and its default; the struct is the last declaration that begins before it
 abbrev pub wrong_plain : List HeadV → SpaceV → Field → Option Broken
 wrong_plain hs space f =
     let set = map attribute_of f.attributes.items in
     first (when (has (codes "required") set || has (codes "deprecated") set)
     problem.AttributeInStruct f.left)
-    (first (wrong_kind hs space f.kind)
+    (first (wrong_kind (expected.InStruct (space.begun - 1)) hs space f.kind)
     (wrong_single hs f (type_named hs space (kind_of f.kind))))
 
 abbrev pub wrong_type : List (Option Measure) → ℕ → ℕ → Option FieldType → Option Broken

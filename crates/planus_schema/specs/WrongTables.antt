@@ -12,6 +12,7 @@ use Rattle.planus_layout.specs.declared.schema.Base.TheVariants as base
 use Rattle.planus_layout.specs.declared.scalar.Scalar.TheVariants as scalar
 use Rattle.planus_layout.specs.Slots.{is_union, width, are_whole, slot_said}
 use Rattle.planus_layout.specs.Distinct.{is_in}
+use Rattle.planus_schema.specs.declared.expected.Expected.TheVariants as expected
 use Rattle.planus_schema.specs.declared.fault.Problem.TheVariants as problem
 use Rattle.planus_schema.specs.Names.{HeadV, SpaceV, type_named, has, is_set, attribute_named, table_in}
 use Rattle.planus_schema.specs.Tables.{has_ids, id_said, nested_name, table_found, is_required}
@@ -74,7 +75,7 @@ wrong_typed hs space ids next f (Some t) =
 
 -- its type, slot and default, the nested buffer, and what it may be
 abbrev pub wrong_field : List HeadV → SpaceV → Bool → ℕ → Field → Option Broken
-wrong_field hs space ids next f = first (wrong_kind hs space f.kind)
+wrong_field hs space ids next f = first (wrong_kind expected.AnyType hs space f.kind)
     (wrong_typed hs space ids next f (type_named hs space (kind_of f.kind)))
 
 abbrev pub field_type : List HeadV → SpaceV → Field → FieldType

@@ -4,13 +4,14 @@ ghost use Rattle.std.specs.Prelude.{◌≡◌, true, ◌<◌, ◌≤◌, length,
 ghost use Rattle.planus_schema.specs.Names.{is_set};
 ghost use Rattle.planus_schema.specs.Faults.{Adds, fault_in, broken_in};
 
+use crate::expected::Expected;
 use std::alloc::{AllocError, AllocFailed};
 
 /// The kind of a fault.
 #[derive(Clone, Copy)]
 pub enum Problem {
-    /// No scalar type and no declaration has this name.
-    UnknownType,
+    /// No scalar type and no declaration has this name, where one of these is expected.
+    UnknownType(Expected),
     /// A declaration before it has this name.
     NameTaken,
     /// A field before it has this name, or the type of a union has it.

@@ -7,20 +7,49 @@ ghost use Rattle.planus_schema.specs.Names.{with_word, space_of, path_in, heads_
 ghost use Rattle.planus_schema.specs.Names.{heads_in};
 ghost use Rattle.planus_schema.specs.Faults.{placed_of, placed_at, placed_in, placed_from};
 ghost use Rattle.planus_schema.specs.Names.{own_name as own_name_lem, head_of, heads_of, dotted};
+ghost use Rattle.planus_schema.specs.Fitting.{head_fits};
+ghost use Rattle.planus_schema.specs.Names.{base_of_item};
 ghost use Rattle.planus_schema.specs.Names.{space_after as space_after_lem};
 ghost use Rattle.planus_schema.specs.Names.{begun_after as begun_after_lem};
 
+use crate::expected::Expected;
 use crate::fault::or_return;
+use planus_layout::Base;
 use planus_syntax::{Declaration, Item, Path};
 use std::alloc::{AllocError, Global};
 
 /// `file` is the index of its file, `space` its namespace, and `name` its full name with dots.
 #[derive(Drop)]
-pub(crate) struct Head<'a> {
-    pub(crate) file: usize,
-    pub(crate) space: Option<&'a Path>,
-    pub(crate) name: Vec<u8>,
-    pub(crate) declaration: &'a Declaration,
+pub struct Head<'a> {
+    pub file: usize,
+    pub space: Option<&'a Path>,
+    pub name: Vec<u8>,
+    pub declaration: &'a Declaration,
+}
+
+/// Returns the type that a declaration of this index is, or `None` where it is none.
+pub(crate) fn item_base(item: &Item, index: usize) -> Option<Base>
+    ensures { result ≡ base_of_item (item_of item.now) index }
+{
+    match item {
+        Item::Table(_) => Some(Base::Table(index)),
+        Item::Struct(_) => Some(Base::Struct(index)),
+        Item::Enum(_) => Some(Base::Enum(index)),
+        Item::Union(_) => Some(Base::Union(index)),
+        _ => None,
+    }
+}
+
+impl Head<'_> {
+    /// Returns whether this declaration, of this index, may stand where a type is expected.
+    pub fn fits(&self, expected: Expected, index: usize) -> bool
+        ensures { result ≡ head_fits expected index (head_of self.now) }
+    {
+        match item_base(&self.declaration.item, index) {
+            Some(base) => expected.fits(base),
+            None => false,
+        }
+    }
 }
 
 fn put_word(out: &mut Vec<u8>, word: &[u8]) -> Result<(), AllocError>
@@ -167,7 +196,8 @@ fn add_heads<'a>(
     Ok(())
 }
 
-pub(crate) fn heads(alloc: Global, files: &[Vec<Declaration>]) -> Result<Vec<Head<'_>>, AllocError>
+/// Returns the tables, structs, enums and unions of these files, in order.
+pub fn heads(alloc: Global, files: &[Vec<Declaration>]) -> Result<Vec<Head<'_>>, AllocError>
     ensures heads { IfOk result (λ v. map head_of v.items
         ≡ heads_of (map (λ f. declarations_of f.items) files.now)) }
     ensures placed { IfOk result (λ v. map placed_of v.items ≡ placed_from 0 files.now) }
@@ -179,24 +209,4 @@ pub(crate) fn heads(alloc: Global, files: &[Vec<Declaration>]) -> Result<Vec<Hea
         file += 1;
     }
     Ok(heads)
-}
-
-fn copied_names(alloc: Global, heads: &[Head]) -> Result<Vec<Vec<u8>>, AllocError>
-    ensures { IfOk result (λ v. names_of v.items ≡ map (λ h. h.name) (map head_of heads.now)) }
-{
-    let mut names = Vec::new(alloc);
-    'heads: for head in heads {
-        let name = Vec::from_slice(alloc, &head.name)?;
-        names.push(name)?;
-    }
-    Ok(names)
-}
-
-/// Returns the full names of the tables, structs, enums and unions of these files, in order.
-pub fn full_names(alloc: Global, files: &[Vec<Declaration>]) -> Result<Vec<Vec<u8>>, AllocError>
-    ensures { IfOk result (λ v. names_of v.items
-        ≡ map (λ h. h.name) (heads_of (map (λ f. declarations_of f.items) files.now))) }
-{
-    let heads = or_return!(heads(alloc, files));
-    copied_names(alloc, &heads)
 }

@@ -10,7 +10,9 @@ ghost use Rattle.planus_schema.specs.Names.{base_of_head};
 ghost use Rattle.planus_schema.specs.Wrong.{Tells, wrong_base, wrong_kind, wrong_table};
 ghost use Rattle.planus_schema.specs.Names.{base_as, type_named, item_at};
 
+use crate::expected::Expected;
 use crate::fault::{Problem, Stop, or_return, wrong};
+use crate::head::item_base;
 use crate::heads::Heads;
 use crate::lookup::{Wanted, found};
 use crate::scalar_names::scalar_named;
@@ -47,11 +49,8 @@ pub(crate) fn head_base(heads: &Heads, index: usize) -> Option<Base>
     ensures { result ≡ base_of_head (item_at (map head_of heads.now) index) index }
 {
     match item_of_head(heads, index) {
-        Some(Item::Table(_)) => Some(Base::Table(index)),
-        Some(Item::Struct(_)) => Some(Base::Struct(index)),
-        Some(Item::Enum(_)) => Some(Base::Enum(index)),
-        Some(Item::Union(_)) => Some(Base::Union(index)),
-        _ => None,
+        Some(item) => item_base(item, index),
+        None => None,
     }
 }
 
@@ -72,29 +71,29 @@ pub(crate) fn base_named(
     }
 }
 
-fn base_of(scope: &Scope, wanted: Wanted, path: &Path) -> Result<Base, Stop>
+fn base_of(scope: &Scope, wanted: Wanted, path: &Path, expected: Expected) -> Result<Base, Stop>
     ensures named { IfOk result (λ b. base_as (scope_heads scope.now) (used_as wanted)
         (scope_space scope.now) (path_of path.now) ≡ Some b) }
-    ensures wrong { Tells (wrong_base (scope_heads scope.now) (used_as wanted) (scope_space scope.now)
-        path.now) result }
+    ensures wrong { Tells (wrong_base expected (scope_heads scope.now) (used_as wanted)
+        (scope_space scope.now) path.now) result }
 {
     match or_return!(base_named(scope, wanted, path), Stop::OutOfMemory) {
         Some(base) => Ok(base),
-        None => Err(wrong(Problem::UnknownType, path.left)),
+        None => Err(wrong(Problem::UnknownType(expected), path.left)),
     }
 }
 
-pub(crate) fn type_of(scope: &Scope, kind: &Kind) -> Result<FieldType, Stop>
+pub(crate) fn type_of(scope: &Scope, kind: &Kind, expected: Expected) -> Result<FieldType, Stop>
     ensures named { IfOk result (λ t. type_named (scope_heads scope.now)
         (scope_space scope.now) (kind_of kind.now) ≡ Some t) }
-    ensures wrong { Tells (wrong_kind (scope_heads scope.now) (scope_space scope.now) kind.now)
-        result }
+    ensures wrong { Tells (wrong_kind expected (scope_heads scope.now) (scope_space scope.now)
+        kind.now) result }
 {
     let (vector, path) = match kind {
         Kind::Single(path) => (false, path),
         Kind::Vector(path) => (true, path),
     };
-    let base = or_return!(base_of(scope, Wanted::AnyType, path));
+    let base = or_return!(base_of(scope, Wanted::AnyType, path, expected));
     Ok(FieldType { vector, base })
 }
 
@@ -109,7 +108,7 @@ pub(crate) fn table_at(
     ensures wrong { Tells (wrong_table problem (scope_heads scope.now) (used_as wanted)
         (scope_space scope.now) path.now) result }
 {
-    match base_of(scope, wanted, path) {
+    match base_of(scope, wanted, path, Expected::Table) {
         Ok(Base::Table(index)) => Ok(index),
         Ok(_) => Err(wrong(problem, path.left)),
         Err(stop) => Err(stop),

@@ -8,6 +8,7 @@ mod awaited;
 mod checks;
 mod defaults;
 mod enums;
+mod expected;
 mod fault;
 mod head;
 mod heads;
@@ -28,8 +29,9 @@ mod uses;
 mod waiting;
 mod words;
 
+pub use expected::Expected;
 pub use fault::{Fault, Problem, Refusal};
-pub use head::full_names;
+pub use head::{Head, heads as heads_of};
 pub use meaning::resolve;
 pub use planus_layout::{
     Base, Body, Declared, Enum, EnumValue, FieldType, Number, Scalar, Schema, Statements, Struct,

@@ -19,6 +19,7 @@ ghost use Rattle.planus_schema.specs.Faults.{faults_found, IsExact, AreWithin};
 ghost use Rattle.planus_schema.specs.Faults.{name_left as name_left_lem};
 
 use crate::enums::enum_of;
+use crate::expected::Expected;
 use crate::fault::{Fault, Problem, Refusal, Stop, note, or_return, wrong};
 use crate::head::{Head, heads};
 use crate::heads::Heads;
@@ -75,7 +76,7 @@ fn body_of(
             let body = or_return!(union_of(&scope, body));
             Ok(Body::Union(body))
         }
-        _ => Err(wrong(Problem::UnknownType, left)),
+        _ => Err(wrong(Problem::UnknownType(Expected::AnyType), left)),
     }
 }
 

@@ -22,6 +22,7 @@ ghost use Rattle.planus_schema.specs.WrongStructs.{wrong_alignment};
 
 use crate::attributes::{has, setting};
 use crate::defaults::literal_default;
+use crate::expected::Expected;
 use crate::fault::{Problem, Stop, or_return, wrong};
 use crate::kind::type_of;
 use crate::names::{copied, take_key};
@@ -83,7 +84,10 @@ fn base_in_struct(scope: &Scope, field: &Field) -> Result<Base, Stop>
     if has(&field.attributes, b"required") || has(&field.attributes, b"deprecated") {
         return Err(wrong(Problem::AttributeInStruct, field.left));
     }
-    let kind = or_return!(type_of(scope, &field.kind));
+    let expected = Expected::InStruct {
+        index: scope.begun.saturating_sub(1),
+    };
+    let kind = or_return!(type_of(scope, &field.kind, expected));
     if kind.vector {
         return Err(wrong(Problem::NoStructField, field.left));
     }

@@ -25,6 +25,7 @@ ghost use Rattle.planus_schema.specs.WrongTables.{wrong_fields, wrong_table_body
 
 use crate::attributes::{has, setting};
 use crate::defaults::default_of;
+use crate::expected::Expected;
 use crate::fault::{Problem, Stop, or_return, wrong};
 use crate::kind::{head_base, type_of};
 use crate::lookup::{Wanted, found};
@@ -140,7 +141,7 @@ fn table_field(scope: &Scope, field: &Field, ids: bool, next: usize) -> Result<T
         field.now) result }
 {
     let attributes = field.attributes.as_slice();
-    let kind = or_return!(type_of(scope, &field.kind));
+    let kind = or_return!(type_of(scope, &field.kind, Expected::AnyType));
     let slot = or_return!(field_slot(field, kind, ids, next));
     let default = or_return!(default_of(
         scope.alloc,
