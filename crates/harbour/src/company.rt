@@ -36,7 +36,7 @@ impl<'a> Create<CompanyFields<'a>> for Company {
 
 /// One in a buffer.
 #[derive(Clone, Copy)]
-pub struct CompanyRef<'a>(Table<'a>);
+pub struct CompanyRef<'a>(pub(crate) Table<'a>);
 
 impl<'a> CompanyRef<'a> {
     /// Returns `title`.

@@ -75,7 +75,7 @@ impl<'a> Create<EntryFields<'a>> for Entry {
 
 /// One in a buffer.
 #[derive(Clone, Copy)]
-pub struct EntryRef<'a>(Table<'a>);
+pub struct EntryRef<'a>(pub(crate) Table<'a>);
 
 impl<'a> EntryRef<'a> {
     /// Returns `at`.

@@ -41,7 +41,7 @@ mod root;
 pub use root::{
     finish_root, finish_root_size_prefixed, has_identifier, read_as_root,
     read_size_prefixed_as_root, verify_as_root, verify_buffer, verify_size_prefixed_as_root,
-    verify_size_prefixed_buffer,
+    verify_size_prefixed_buffer, where_fault_is, where_is,
 };
 
 mod verified;

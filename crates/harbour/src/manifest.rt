@@ -414,7 +414,7 @@ impl<'a> Create<ManifestFields<'a>> for Manifest {
 
 /// One in a buffer.
 #[derive(Clone, Copy)]
-pub struct ManifestRef<'a>(Table<'a>);
+pub struct ManifestRef<'a>(pub(crate) Table<'a>);
 
 impl<'a> ManifestRef<'a> {
     /// Returns `number`.

@@ -36,7 +36,7 @@ impl<'a> Create<OriginFields<'a>> for Origin {
 
 /// One in a buffer.
 #[derive(Clone, Copy)]
-pub struct OriginRef<'a>(Table<'a>);
+pub struct OriginRef<'a>(pub(crate) Table<'a>);
 
 impl<'a> OriginRef<'a> {
     /// Returns `host`.

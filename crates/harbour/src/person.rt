@@ -46,7 +46,7 @@ impl<'a> Create<PersonFields<'a>> for Person {
 
 /// One in a buffer.
 #[derive(Clone, Copy)]
-pub struct PersonRef<'a>(Table<'a>);
+pub struct PersonRef<'a>(pub(crate) Table<'a>);
 
 impl<'a> PersonRef<'a> {
     /// Returns `name`.

@@ -103,7 +103,7 @@ impl<'a> Create<PortFields<'a>> for Port {
 
 /// One in a buffer.
 #[derive(Clone, Copy)]
-pub struct PortRef<'a>(Table<'a>);
+pub struct PortRef<'a>(pub(crate) Table<'a>);
 
 impl<'a> PortRef<'a> {
     /// Returns `owner`.

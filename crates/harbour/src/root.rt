@@ -7,7 +7,8 @@ ghost use Rattle.planus.specs.Printed.{BytesStand, IsPrefixed, FinishGives, Size
 ghost use Rattle.planus.specs.Printed.{EndsAs, FinishLeaves, SizedFinishLeaves, IsIn, IsPrepared};
 ghost use Rattle.planus.specs.Printed.{IsRoot, IsSizedRoot};
 ghost use Rattle.planus_views.specs.Printed.{view_table, RootWalks, IsVerifiedBuffer};
-ghost use Rattle.planus_views.specs.Printed.{IsVerifiedSized, VerifiesRoot};
+ghost use Rattle.planus_views.specs.Printed.{IsVerifiedSized, VerifiesRoot, IsWhere, IsWhereFault};
+ghost use Rattle.planus_views.specs.Printed.{default_limits, NamesV};
 ghost use Rattle.harbour.specs.Verified.{verified_schema};
 ghost use Rattle.harbour.specs.declared.ship.Ship.{Ship};
 ghost use Rattle.harbour.specs.declared.verified.ship.ShipView.{ShipView};
@@ -79,6 +80,35 @@ pub fn verify_size_prefixed_buffer(
         verified_schema 2 limits) (Some (83 ∷ 72 ∷ 73 ∷ 80 ∷ [])) bytes.now result }
 {
     planus_views::verify_sized_buffer(bytes, limits, Some(FILE_IDENTIFIER))
+}
+
+/// Returns the names of the fields that lead from the root of a buffer to what an error of its
+/// accessors is of, as `crew[3].name`, or `None` if none do within the default limits.
+pub fn where_is(
+    alloc: std::alloc::Global,
+    error: &planus::Error,
+    bytes: &[u8],
+) -> Result<Option<planus_views::FieldPath>, std::alloc::AllocError>
+    ensures { (names : NamesV) × IsWhere verified_schema names 2 default_limits error.now bytes.now
+        result }
+{
+    let names = crate::verified::names();
+    let limits = planus_views::Limits::default();
+    planus_views::where_is::<Ship>(alloc, &names, error, bytes, limits)
+}
+
+/// The same of a fault of verification.
+pub fn where_fault_is(
+    alloc: std::alloc::Global,
+    fault: &planus_views::Fault,
+    bytes: &[u8],
+) -> Result<Option<planus_views::FieldPath>, std::alloc::AllocError>
+    ensures { (names : NamesV) × IsWhereFault verified_schema names 2 default_limits fault.now
+        bytes.now result }
+{
+    let names = crate::verified::names();
+    let limits = planus_views::Limits::default();
+    planus_views::where_fault_is::<Ship>(alloc, &names, fault, bytes, limits)
 }
 
 /// Finishes a buffer with this root and the file identifier, as [`Builder::finish`].

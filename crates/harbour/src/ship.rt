@@ -194,7 +194,7 @@ impl<'a> Create<ShipFields<'a>> for Ship {
 
 /// One in a buffer.
 #[derive(Clone, Copy)]
-pub struct ShipRef<'a>(Table<'a>);
+pub struct ShipRef<'a>(pub(crate) Table<'a>);
 
 impl<'a> ShipRef<'a> {
     /// Its name.

@@ -10,11 +10,13 @@ pub(crate) mod person;
 pub(crate) mod port;
 pub(crate) mod ship;
 
-ghost use Rattle.std.specs.Prelude.{◌≡◌};
+ghost use Rattle.std.specs.Prelude.{◌≡◌, length};
 ghost use Rattle.planus_views.specs.Printed.{shapes};
 ghost use Rattle.harbour.specs.Verified.{verified_schema};
 
-use planus_views::{FieldKind, FieldShape, Schema, TableShape, ValueKind, Variant};
+use planus_views::{
+    FieldKind, FieldName, FieldShape, Names, Schema, TableName, TableShape, ValueKind, Variant,
+};
 
 pub const FIELDS: [FieldShape; 87] = [
     FieldShape {
@@ -510,5 +512,485 @@ pub(crate) fn schema() -> Schema<'static>
         fields: &FIELDS,
         tables: &TABLES,
         variants: &VARIANTS,
+    }
+}
+
+pub const TABLE_NAMES: [TableName<'static>; 7] = [
+    TableName {
+        index: 0,
+        table: "Person",
+    },
+    TableName {
+        index: 1,
+        table: "Company",
+    },
+    TableName {
+        index: 2,
+        table: "Ship",
+    },
+    TableName {
+        index: 3,
+        table: "Port",
+    },
+    TableName {
+        index: 4,
+        table: "Manifest",
+    },
+    TableName {
+        index: 5,
+        table: "Origin",
+    },
+    TableName {
+        index: 6,
+        table: "Entry",
+    },
+];
+
+pub const FIELD_NAMES: [FieldName<'static>; 87] = [
+    FieldName {
+        table: 0,
+        slot: 0,
+        field: "name",
+    },
+    FieldName {
+        table: 0,
+        slot: 1,
+        field: "age",
+    },
+    FieldName {
+        table: 1,
+        slot: 0,
+        field: "title",
+    },
+    FieldName {
+        table: 1,
+        slot: 1,
+        field: "vat",
+    },
+    FieldName {
+        table: 2,
+        slot: 0,
+        field: "name",
+    },
+    FieldName {
+        table: 2,
+        slot: 1,
+        field: "hull",
+    },
+    FieldName {
+        table: 2,
+        slot: 2,
+        field: "cargo",
+    },
+    FieldName {
+        table: 2,
+        slot: 3,
+        field: "kind",
+    },
+    FieldName {
+        table: 2,
+        slot: 4,
+        field: "level",
+    },
+    FieldName {
+        table: 2,
+        slot: 5,
+        field: "needs",
+    },
+    FieldName {
+        table: 2,
+        slot: 6,
+        field: "home",
+    },
+    FieldName {
+        table: 2,
+        slot: 7,
+        field: "track",
+    },
+    FieldName {
+        table: 2,
+        slot: 8,
+        field: "heat",
+    },
+    FieldName {
+        table: 2,
+        slot: 9,
+        field: "depth",
+    },
+    FieldName {
+        table: 2,
+        slot: 10,
+        field: "open",
+    },
+    FieldName {
+        table: 2,
+        slot: 11,
+        field: "shut",
+    },
+    FieldName {
+        table: 2,
+        slot: 12,
+        field: "maybe",
+    },
+    FieldName {
+        table: 2,
+        slot: 13,
+        field: "photo",
+    },
+    FieldName {
+        table: 2,
+        slot: 14,
+        field: "names",
+    },
+    FieldName {
+        table: 2,
+        slot: 15,
+        field: "mate",
+    },
+    FieldName {
+        table: 2,
+        slot: 16,
+        field: "consorts",
+    },
+    FieldName {
+        table: 2,
+        slot: 17,
+        field: "kinds",
+    },
+    FieldName {
+        table: 2,
+        slot: 18,
+        field: "owner",
+    },
+    FieldName {
+        table: 2,
+        slot: 20,
+        field: "shares",
+    },
+    FieldName {
+        table: 2,
+        slot: 23,
+        field: "tall",
+    },
+    FieldName {
+        table: 2,
+        slot: 24,
+        field: "temps",
+    },
+    FieldName {
+        table: 2,
+        slot: 25,
+        field: "deltas",
+    },
+    FieldName {
+        table: 2,
+        slot: 26,
+        field: "fix",
+    },
+    FieldName {
+        table: 2,
+        slot: 27,
+        field: "which",
+    },
+    FieldName {
+        table: 2,
+        slot: 28,
+        field: "flags",
+    },
+    FieldName {
+        table: 3,
+        slot: 0,
+        field: "owner",
+    },
+    FieldName {
+        table: 3,
+        slot: 2,
+        field: "ships",
+    },
+    FieldName {
+        table: 3,
+        slot: 3,
+        field: "berths",
+    },
+    FieldName {
+        table: 3,
+        slot: 4,
+        field: "shares",
+    },
+    FieldName {
+        table: 3,
+        slot: 6,
+        field: "soundings",
+    },
+    FieldName {
+        table: 3,
+        slot: 7,
+        field: "chart",
+    },
+    FieldName {
+        table: 3,
+        slot: 8,
+        field: "gauge",
+    },
+    FieldName {
+        table: 3,
+        slot: 9,
+        field: "hoisted",
+    },
+    FieldName {
+        table: 4,
+        slot: 0,
+        field: "number",
+    },
+    FieldName {
+        table: 4,
+        slot: 1,
+        field: "issued",
+    },
+    FieldName {
+        table: 4,
+        slot: 2,
+        field: "weight",
+    },
+    FieldName {
+        table: 4,
+        slot: 3,
+        field: "worth",
+    },
+    FieldName {
+        table: 4,
+        slot: 4,
+        field: "boxes",
+    },
+    FieldName {
+        table: 4,
+        slot: 5,
+        field: "debt",
+    },
+    FieldName {
+        table: 4,
+        slot: 6,
+        field: "pages",
+    },
+    FieldName {
+        table: 4,
+        slot: 7,
+        field: "shift",
+    },
+    FieldName {
+        table: 4,
+        slot: 8,
+        field: "tier",
+    },
+    FieldName {
+        table: 4,
+        slot: 9,
+        field: "lean",
+    },
+    FieldName {
+        table: 4,
+        slot: 10,
+        field: "sealed",
+    },
+    FieldName {
+        table: 4,
+        slot: 11,
+        field: "opened",
+    },
+    FieldName {
+        table: 4,
+        slot: 12,
+        field: "kind",
+    },
+    FieldName {
+        table: 4,
+        slot: 13,
+        field: "level",
+    },
+    FieldName {
+        table: 4,
+        slot: 14,
+        field: "needs",
+    },
+    FieldName {
+        table: 4,
+        slot: 15,
+        field: "signal",
+    },
+    FieldName {
+        table: 4,
+        slot: 16,
+        field: "rank",
+    },
+    FieldName {
+        table: 4,
+        slot: 17,
+        field: "margin",
+    },
+    FieldName {
+        table: 4,
+        slot: 18,
+        field: "dues",
+    },
+    FieldName {
+        table: 4,
+        slot: 19,
+        field: "paid",
+    },
+    FieldName {
+        table: 4,
+        slot: 20,
+        field: "grade",
+    },
+    FieldName {
+        table: 4,
+        slot: 21,
+        field: "berth",
+    },
+    FieldName {
+        table: 4,
+        slot: 22,
+        field: "gauge",
+    },
+    FieldName {
+        table: 4,
+        slot: 23,
+        field: "title",
+    },
+    FieldName {
+        table: 4,
+        slot: 24,
+        field: "note",
+    },
+    FieldName {
+        table: 4,
+        slot: 25,
+        field: "scan",
+    },
+    FieldName {
+        table: 4,
+        slot: 26,
+        field: "stamp",
+    },
+    FieldName {
+        table: 4,
+        slot: 27,
+        field: "weights",
+    },
+    FieldName {
+        table: 4,
+        slot: 28,
+        field: "counts",
+    },
+    FieldName {
+        table: 4,
+        slot: 29,
+        field: "offsets",
+    },
+    FieldName {
+        table: 4,
+        slot: 30,
+        field: "marks",
+    },
+    FieldName {
+        table: 4,
+        slot: 31,
+        field: "kinds",
+    },
+    FieldName {
+        table: 4,
+        slot: 32,
+        field: "track",
+    },
+    FieldName {
+        table: 4,
+        slot: 33,
+        field: "labels",
+    },
+    FieldName {
+        table: 4,
+        slot: 34,
+        field: "holders",
+    },
+    FieldName {
+        table: 4,
+        slot: 35,
+        field: "ship",
+    },
+    FieldName {
+        table: 4,
+        slot: 36,
+        field: "next",
+    },
+    FieldName {
+        table: 4,
+        slot: 37,
+        field: "persons",
+    },
+    FieldName {
+        table: 4,
+        slot: 38,
+        field: "parts",
+    },
+    FieldName {
+        table: 4,
+        slot: 39,
+        field: "owner",
+    },
+    FieldName {
+        table: 4,
+        slot: 41,
+        field: "payer",
+    },
+    FieldName {
+        table: 4,
+        slot: 43,
+        field: "owners",
+    },
+    FieldName {
+        table: 5,
+        slot: 0,
+        field: "host",
+    },
+    FieldName {
+        table: 5,
+        slot: 1,
+        field: "port",
+    },
+    FieldName {
+        table: 6,
+        slot: 0,
+        field: "at",
+    },
+    FieldName {
+        table: 6,
+        slot: 1,
+        field: "text",
+    },
+    FieldName {
+        table: 6,
+        slot: 2,
+        field: "origin",
+    },
+    FieldName {
+        table: 6,
+        slot: 3,
+        field: "cause",
+    },
+    FieldName {
+        table: 6,
+        slot: 5,
+        field: "parents",
+    },
+];
+
+/// Returns the names of the schema's tables and fields.
+pub(crate) fn names() -> Names<'static>
+    ensures tables { length result.tables.now ≡ 7 }
+    ensures fields { length result.fields.now ≡ 87 }
+{
+    Names {
+        tables: &TABLE_NAMES,
+        fields: &FIELD_NAMES,
     }
 }

@@ -14,6 +14,7 @@ mod root;
 
 pub use root::{
     read_as_root, read_size_prefixed_as_root, verify_as_root, verify_size_prefixed_as_root,
+    where_fault_is, where_is,
 };
 
 mod verified;

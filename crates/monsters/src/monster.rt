@@ -81,7 +81,7 @@ impl<'a> Create<MonsterFields<'a>> for Monster {
 
 /// One in a buffer.
 #[derive(Clone, Copy)]
-pub struct MonsterRef<'a>(Table<'a>);
+pub struct MonsterRef<'a>(pub(crate) Table<'a>);
 
 impl<'a> MonsterRef<'a> {
     /// Returns `hp`.

@@ -3,11 +3,12 @@
 ghost use Rattle.std.specs.Prelude.{ℕ, List, codes, IfOk, IfErr, None, Ok, Err};
 ghost use Rattle.planus.specs.Printed.{IsRoot, IsSizedRoot};
 ghost use Rattle.planus_views.specs.Printed.{view_table, RootWalks, IsVerifiedSized, VerifiesRoot};
+ghost use Rattle.planus_views.specs.Printed.{IsWhere, IsWhereFault, default_limits, NamesV};
 ghost use Rattle.monsters.specs.Verified.{verified_schema};
 ghost use Rattle.monsters.specs.declared.monster.Monster.{Monster};
 ghost use Rattle.monsters.specs.declared.verified.monster.MonsterView.{MonsterView};
 
-use crate::monster::MonsterRef;
+use crate::monster::{Monster, MonsterRef};
 use crate::verified::monster::MonsterView;
 use planus::{read_root, read_sized_root};
 
@@ -51,4 +52,33 @@ pub fn verify_size_prefixed_as_root(
         verified_schema 1 limits) None bytes.now result }
 {
     planus_views::verify_sized_buffer(bytes, limits, None)
+}
+
+/// Returns the names of the fields that lead from the root of a buffer to what an error of its
+/// accessors is of, as `crew[3].name`, or `None` if none do within the default limits.
+pub fn where_is(
+    alloc: std::alloc::Global,
+    error: &planus::Error,
+    bytes: &[u8],
+) -> Result<Option<planus_views::FieldPath>, std::alloc::AllocError>
+    ensures { (names : NamesV) × IsWhere verified_schema names 1 default_limits error.now bytes.now
+        result }
+{
+    let names = crate::verified::names();
+    let limits = planus_views::Limits::default();
+    planus_views::where_is::<Monster>(alloc, &names, error, bytes, limits)
+}
+
+/// The same of a fault of verification.
+pub fn where_fault_is(
+    alloc: std::alloc::Global,
+    fault: &planus_views::Fault,
+    bytes: &[u8],
+) -> Result<Option<planus_views::FieldPath>, std::alloc::AllocError>
+    ensures { (names : NamesV) × IsWhereFault verified_schema names 1 default_limits fault.now
+        bytes.now result }
+{
+    let names = crate::verified::names();
+    let limits = planus_views::Limits::default();
+    planus_views::where_fault_is::<Monster>(alloc, &names, fault, bytes, limits)
 }

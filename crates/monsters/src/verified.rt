@@ -4,11 +4,13 @@ pub(crate) mod equipment;
 pub(crate) mod monster;
 pub(crate) mod weapon;
 
-ghost use Rattle.std.specs.Prelude.{◌≡◌};
+ghost use Rattle.std.specs.Prelude.{◌≡◌, length};
 ghost use Rattle.planus_views.specs.Printed.{shapes};
 ghost use Rattle.monsters.specs.Verified.{verified_schema};
 
-use planus_views::{FieldKind, FieldShape, Schema, TableShape, ValueKind, Variant};
+use planus_views::{
+    FieldKind, FieldName, FieldShape, Names, Schema, TableName, TableShape, ValueKind, Variant,
+};
 
 pub const FIELDS: [FieldShape; 8] = [
     FieldShape {
@@ -72,5 +74,70 @@ pub(crate) fn schema() -> Schema<'static>
         fields: &FIELDS,
         tables: &TABLES,
         variants: &VARIANTS,
+    }
+}
+
+pub const TABLE_NAMES: [TableName<'static>; 2] = [
+    TableName {
+        index: 0,
+        table: "Weapon",
+    },
+    TableName {
+        index: 1,
+        table: "Monster",
+    },
+];
+
+pub const FIELD_NAMES: [FieldName<'static>; 8] = [
+    FieldName {
+        table: 0,
+        slot: 0,
+        field: "name",
+    },
+    FieldName {
+        table: 0,
+        slot: 1,
+        field: "damage",
+    },
+    FieldName {
+        table: 1,
+        slot: 0,
+        field: "hp",
+    },
+    FieldName {
+        table: 1,
+        slot: 1,
+        field: "name",
+    },
+    FieldName {
+        table: 1,
+        slot: 2,
+        field: "inventory",
+    },
+    FieldName {
+        table: 1,
+        slot: 3,
+        field: "weapons",
+    },
+    FieldName {
+        table: 1,
+        slot: 4,
+        field: "equipped",
+    },
+    FieldName {
+        table: 1,
+        slot: 6,
+        field: "loot",
+    },
+];
+
+/// Returns the names of the schema's tables and fields.
+pub(crate) fn names() -> Names<'static>
+    ensures tables { length result.tables.now ≡ 2 }
+    ensures fields { length result.fields.now ≡ 8 }
+{
+    Names {
+        tables: &TABLE_NAMES,
+        fields: &FIELD_NAMES,
     }
 }

@@ -37,7 +37,7 @@ impl<'a> Create<WeaponFields<'a>> for Weapon {
 
 /// One in a buffer.
 #[derive(Clone, Copy)]
-pub struct WeaponRef<'a>(Table<'a>);
+pub struct WeaponRef<'a>(pub(crate) Table<'a>);
 
 impl<'a> WeaponRef<'a> {
     /// Returns `name`.

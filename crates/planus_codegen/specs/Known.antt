@@ -45,7 +45,7 @@ in_clauses =
     ∷ (codes "view_table checked_texts checked_tables checked_unions Returns ReturnsAs "
     ++ (codes "checked_option Checked unknown option_map IsNestedField IsNestedRequired RootWalks "
     ++ (codes "IsMember member_tag member_bytes member_start member_offset IsVerifiedBuffer "
-    ++ codes "IsVerifiedSized VerifiesRoot")))
+    ++ codes "IsVerifiedSized VerifiesRoot IsWhere IsWhereFault VerifiesTable default_limits NamesV")))
     ∷ []
 
 -- what code imports of `planus`
@@ -82,7 +82,7 @@ ends_as_printed w = ends_with nat_eq w (codes "Ref") || (ends_with nat_eq w (cod
 unfoldable pub own_modules : List ℕ
 own_modules = codes "finish_root finish_root_size_prefixed has_identifier lib read_as_root "
     ++ (codes "read_size_prefixed_as_root root verified verify_as_root verify_buffer "
-    ++ codes "verify_size_prefixed_as_root verify_size_prefixed_buffer")
+    ++ codes "verify_size_prefixed_as_root verify_size_prefixed_buffer where_fault_is where_is")
 
 -- code has such a type anyway
 abbrev pub is_known_type : List ℕ → Bool

@@ -34,7 +34,7 @@ const ROOT: &str = "
 pub use root::{
     finish_root, finish_root_size_prefixed, has_identifier, read_as_root,
     read_size_prefixed_as_root, verify_as_root, verify_buffer, verify_size_prefixed_as_root,
-    verify_size_prefixed_buffer,
+    verify_size_prefixed_buffer, where_fault_is, where_is,
 };
 ";
 
@@ -48,6 +48,7 @@ const CREATE: &str = "pub use planus::Create;\n";
 const ROOT_ALONE: &str = "
 pub use root::{
     read_as_root, read_size_prefixed_as_root, verify_as_root, verify_size_prefixed_as_root,
+    where_fault_is, where_is,
 };
 ";
 

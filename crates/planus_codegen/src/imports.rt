@@ -36,7 +36,9 @@ pub(crate) const WORDS: [(&str, &str); 6] = [
         "planus_views.specs.Printed",
         "view_table checked_texts checked_tables checked_unions Returns ReturnsAs checked_option \
          Checked unknown option_map IsNestedField IsNestedRequired RootWalks IsMember member_tag \
-         member_bytes member_start member_offset IsVerifiedBuffer IsVerifiedSized VerifiesRoot",
+         member_bytes member_start member_offset IsVerifiedBuffer IsVerifiedSized VerifiesRoot \
+         IsWhere IsWhereFault VerifiesTable \
+         default_limits NamesV",
     ),
 ];
 

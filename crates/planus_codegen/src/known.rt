@@ -22,7 +22,7 @@ const KNOWN_TYPES: &str =
 /// What a crate has beside its modules.
 const KNOWN_MODULES: &str = "finish_root finish_root_size_prefixed has_identifier lib read_as_root \
      read_size_prefixed_as_root root verified verify_as_root verify_buffer \
-     verify_size_prefixed_as_root verify_size_prefixed_buffer";
+     verify_size_prefixed_as_root verify_size_prefixed_buffer where_fault_is where_is";
 
 fn has_word(words: &str, name: &[u8]) -> bool
     ensures { result ≡ is_word_of words.now name.now }

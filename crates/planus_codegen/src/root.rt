@@ -39,6 +39,31 @@ pub fn verify_as_root(^bytes: &[u8],^limits: planus_views::Limits^) -> \
 }
 ";
 
+const WHERE: &str = "
+/// Returns the names of the fields that lead from the root of a buffer to what an error of its
+/// accessors is of, as `crew[3].name`, or `None` if none do within the default limits.
+pub fn where_is(^alloc: std::alloc::Global,^error: &planus::Error,^bytes: &[u8]^) -> \
+     %Result<Option<planus_views::FieldPath>, std::alloc::AllocError>
+    ensures {~(names : NamesV) ×~IsWhere~verified_schema~names~$a~default_limits~error.now~\
+     bytes.now~result }
+{
+    let names = crate::verified::names();
+    let limits = planus_views::Limits::default();
+    planus_views::where_is::<$T>(^alloc,^&names,^error,^bytes,^limits^)
+}
+
+/// The same of a fault of verification.
+pub fn where_fault_is(^alloc: std::alloc::Global,^fault: &planus_views::Fault,^bytes: &[u8]^) -> \
+     %Result<Option<planus_views::FieldPath>, std::alloc::AllocError>
+    ensures {~(names : NamesV) ×~IsWhereFault~verified_schema~names~$a~default_limits~fault.now~\
+     bytes.now~result }
+{
+    let names = crate::verified::names();
+    let limits = planus_views::Limits::default();
+    planus_views::where_fault_is::<$T>(^alloc,^&names,^fault,^bytes,^limits^)
+}
+";
+
 const FINISH: &str = "
 /// Finishes a buffer with this root and the file identifier, as [`Builder::finish`].
 pub fn finish_root(^builder: &mut Builder,^root: Offset<$T>^) -> %Result<&[u8], BuildError>
@@ -81,6 +106,7 @@ pub(crate) fn print_root<'a>(context: &'a Context<'a>, at: At) -> Printer<'a> {
     let mut printer = Printer::new(context);
     printer.put_pieces(&[Once(READ), Once(READ_SIZED), Once(VERIFY)], at);
     printer.put_verified_buffers(at);
+    printer.put(WHERE, at);
     if context.identifier.is_some() {
         printer.put_pieces(&[Once(FINISH), Once(FINISH_SIZED), Once(CHECK)], at);
     }

@@ -10,7 +10,7 @@ use planus_tie::{ending, kind_word};
 const VIEW: &str = "\
 /// One in a buffer.
 #[derive(Clone, Copy)]
-pub struct $TRef<'a>(Table<'a>);
+pub struct $TRef<'a>(pub(crate) Table<'a>);
 
 ";
 

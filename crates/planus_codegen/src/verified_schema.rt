@@ -2,17 +2,21 @@
 
 use crate::at::At;
 use crate::context::Context;
+use crate::entries::Entries;
 use crate::printer::Printer;
 use crate::types::is_bytes;
+use crate::verified_names::put_names;
 use planus_layout::{Base, Body, Table, TableField, Union};
 use std::alloc::AllocError;
 
 const USES: &str = "\
-ghost use Rattle.std.specs.Prelude.{◌≡◌};
+ghost use Rattle.std.specs.Prelude.{◌≡◌, length};
 ghost use Rattle.planus_views.specs.Printed.{shapes};
 ghost use Rattle.$c.specs.Verified.{verified_schema};
 
-use planus_views::{FieldKind, FieldShape, Schema, TableShape, ValueKind, Variant};
+use planus_views::{
+    FieldKind, FieldName, FieldShape, Names, Schema, TableName, TableShape, ValueKind, Variant,
+};
 ";
 
 const SCHEMA: &str = "
@@ -73,32 +77,7 @@ fn kind_of(field: &TableField) -> &'static str {
     }
 }
 
-/// A printed list: its entries, the last one as it stands alone, and how many there are.
-#[derive(Drop)]
-struct Entries<'a> {
-    all: Printer<'a>,
-    last: Printer<'a>,
-    count: usize,
-}
-
 impl<'a> Entries<'a> {
-    fn new(context: &'a Context<'a>) -> Entries<'a> {
-        Entries {
-            all: Printer::new(context),
-            last: Printer::new(context),
-            count: 0,
-        }
-    }
-
-    // Adds an entry, the lines of which are templates.
-    fn put_entry(&mut self, lines: &[&str], at: At) {
-        self.all.put_lines("    ", lines, at);
-        self.all.put_str(",\n");
-        self.last.clear();
-        self.last.put_lines("", lines, at);
-        self.count = self.count.saturating_add(1);
-    }
-
     fn put_field(&mut self, field: &TableField, at: At) {
         let required = if field.required {
             REQUIRED
@@ -156,14 +135,6 @@ pub(crate) fn places_by_slot(context: &Context<'_>, one: &Table) -> Result<Vec<u
 }
 
 impl<'a> Printer<'a> {
-    // Adds templates, each after these blanks.
-    fn put_lines(&mut self, indent: &str, lines: &[&str], at: At) {
-        for line in lines {
-            self.put_str(indent);
-            self.put(*line, at);
-        }
-    }
-
     // A table whose fields are in this range of all.
     fn put_range(&mut self, first: usize, end: usize) {
         let at = At::declaration(0);
@@ -173,27 +144,10 @@ impl<'a> Printer<'a> {
         self.put_number(end.saturating_sub(first) as u64);
         self.put("^}", at);
     }
-
-    fn put_constant(&mut self, name: &str, shape: &str, entries: &Entries<'_>) {
-        self.put_str("\npub const ");
-        self.put_str(name);
-        self.put_str(": [");
-        self.put_str(shape);
-        self.put_str("; ");
-        self.put_number(entries.count as u64);
-        self.put_str("] = [");
-        if entries.count == 1 {
-            self.join(&entries.last);
-        } else {
-            self.put_str(if entries.count > 0 { "\n" } else { "" });
-            self.join(&entries.all);
-        }
-        self.put_str("];\n");
-    }
 }
 
-/// Prints the schema as a value. Of a table it has the fields by their slots, but no deprecated
-/// ones.
+/// Prints the schema as a value, with its names. Of a table it has the fields by their slots, but no
+/// deprecated ones.
 pub(crate) fn print_schema<'a>(context: &'a Context<'a>) -> Result<Printer<'a>, AllocError> {
     let mut fields = Entries::new(context);
     let mut tables = Entries::new(context);
@@ -216,6 +170,7 @@ pub(crate) fn print_schema<'a>(context: &'a Context<'a>) -> Result<Printer<'a>, 
     printer.put_constant("TABLES", "TableShape", &tables);
     printer.put_constant("VARIANTS", "Variant", &variants);
     printer.put(SCHEMA, At::declaration(0));
+    put_names(&mut printer, context)?;
     Ok(printer)
 }
 

@@ -76,6 +76,23 @@ const AS_CHECKED: &str = "(&self) -> $TRef<'a>
 }
 ";
 
+const VERIFY: &str = "verify";
+
+const VERIFY_DOC: &str =
+    "    /// Verifies this table with all that it leads to, within limits, and returns its view, whose
+    /// accessors don't fail.
+";
+
+const AS_VERIFIED: &str = "(^&self,^limits: planus_views::Limits^) -> \
+     %Result<$TView<'a>, planus_views::Fault>
+        ensures {~VerifiesTable~(λ (view : $TView). view_table view.0)~verified_schema~$a~limits~\
+     self.now.0~result }
+    {
+        planus_views::verify_table(self.0, limits)
+    }
+}
+";
+
 /// The type of a verified field. `total`: the read of an item can't fail.
 pub(crate) fn verified(kind: FieldType, total: bool) -> &'static str {
     match (kind.base, kind.vector) {
@@ -235,6 +252,21 @@ impl<'a> Printer<'a> {
         self.put_str("\n");
         self.join(&methods);
         self.put_shown(plan, SHOWN);
+        self.put_verify(plan, order);
+    }
+
+    // Adds the method of the view that tests what it reads which returns the verified one.
+    fn put_verify(&mut self, plan: &Plan<'_>, order: &Order) {
+        let at = At::declaration(plan.table);
+        let mut method = Printer::new(self.context);
+        method.put_str(VERIFY_DOC);
+        method.put_str("    pub fn verify");
+        method.put_marks(plan.table, VERIFY.as_bytes(), &[]);
+        method.put(AS_VERIFIED, at);
+        self.put("\nimpl<'a> $TRef<'a> {\n", at);
+        self.put_method_uses(method.as_str(), order);
+        self.put_str("\n");
+        self.join(&method);
     }
 }
 

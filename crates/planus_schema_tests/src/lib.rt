@@ -8,6 +8,8 @@ mod digits;
 #[cfg(test)]
 mod facts;
 #[cfg(test)]
+mod located;
+#[cfg(test)]
 mod meaning;
 #[cfg(test)]
 mod meaning_rows;

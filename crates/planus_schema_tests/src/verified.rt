@@ -8,7 +8,7 @@ mod same;
 use crate::digits::bytes_of;
 use crate::orc::ORC;
 use crate::printed::{FIX, FLATC_ANNA, HOME};
-use harbour::{Kind, Level, OwnerView, ShipView, verify_as_root};
+use harbour::{Kind, Level, OwnerView, ShipView, read_as_root, verify_as_root};
 use monsters::{EquipmentView, MonsterView, WeaponView};
 use planus_views::Limits;
 
@@ -87,6 +87,25 @@ fn is_anna(bytes: &[u8]) -> bool {
 #[test]
 fn ship_of_flatc_is_read_without_errors(rt: HostRuntime) {
     assert!(rt; matches!(bytes_of(rt.alloc(), FLATC_ANNA), Some(bytes) if is_anna(&bytes)));
+}
+
+fn mate_is_verified(bytes: &[u8]) -> bool {
+    let Ok(ship) = read_as_root(bytes) else {
+        return false;
+    };
+    match ship.mate() {
+        Ok(Some(mate)) => {
+            matches!(mate.verify(Limits::default()), Ok(mate) if is_plain(&mate, "Bo"))
+        }
+        _ => false,
+    }
+}
+
+#[test]
+fn checked_view_is_verified(rt: HostRuntime) {
+    assert!(rt;
+        matches!(bytes_of(rt.alloc(), FLATC_ANNA), Some(bytes) if mate_is_verified(&bytes))
+    );
 }
 
 fn is_axe(weapon: &WeaponView<'_>) -> bool {

@@ -12,7 +12,8 @@ use Rattle.planus_tie.specs.Bare.{bare}
 use Rattle.planus_plan.specs.declared.plan.Line.{Line}
 use Rattle.planus_tie.specs.Files.{text_at, view_path_of, IsViewTextTied, IsBodyViewTied}
 use Rattle.planus_tie.specs.declared.files.PrintedFile.{PrintedFile}
-use Rattle.planus_tie.specs.Shapes.{IsSchemaTied, AreLines, is_schema_text}
+use Rattle.planus_tie.specs.SchemaTies.{IsSchemaTied, is_schema_text}
+use Rattle.planus_tie.specs.Shapes.{AreLines}
 use Rattle.planus_tie.specs.Ties.{IsTableTied, is_plan_tied}
 use Rattle.planus_tie.specs.Views.{IsViewTied, is_view_tied}
 use Rattle.planus_tie.specs.declared.groups.Entry.{Entry}
@@ -35,13 +36,13 @@ viewed_by n ranks totals i one text without plan (Ok b) p w h = λ t. record {
   tied = ap (is_view_tied n ranks totals plan) (sym w) ∙ sym h ∙ t;
 }
 
-pub schema_by : {E : Type 0} (ds : List Declared) (ranks text without : List ℕ) (given lines : List Line) (r : Result Bool E) → given ≡ lines → AreLines ds 0 ds lines → without ≡ bare text → IfOk r (λ b. b ≡ is_schema_text ds ranks given without) → IfOk r (λ b. IsTrue b → IsSchemaTied ds ranks text)
-schema_by ds ranks text without given lines (Err e) g a w h = tt
-schema_by ds ranks text without given lines (Ok b) g a w h = λ t. record {
+pub schema_by : {E : Type 0} (n : Naming) (ranks text without : List ℕ) (given lines : List Line) (r : Result Bool E) → given ≡ lines → AreLines n.declared.now 0 n.declared.now lines → without ≡ bare text → IfOk r (λ b. b ≡ is_schema_text n ranks given without) → IfOk r (λ b. IsTrue b → IsSchemaTied n ranks text)
+schema_by n ranks text without given lines (Err e) g a w h = tt
+schema_by n ranks text without given lines (Ok b) g a w h = λ t. record {
   lines = lines;
   are = a;
-  tied = ap (λ ls. is_schema_text ds ranks ls (bare text)) (sym g)
-      ∙ ap (is_schema_text ds ranks given) (sym w) ∙ sym h ∙ t;
+  tied = ap (λ ls. is_schema_text n ranks ls (bare text)) (sym g)
+      ∙ ap (is_schema_text n ranks given) (sym w) ∙ sym h ∙ t;
 }
 
 pub body_viewed : {E : Type 0} (n : Naming) (ranks : List ℕ) (totals : List Bool) (files : List PrintedFile) (i : ℕ) (one : Table) (b : Body) (path : List ℕ) (found : Option (List ℕ)) (r : Result Bool E) → b ≡ body.Table one → path ≡ view_path_of n i → found ≡ text_at path files → IfOk r (λ v. IsTrue v → IsViewTextTied n ranks totals i one found) → IfOk r (λ v. IsTrue v → IsBodyViewTied n ranks totals files i b)

@@ -9,7 +9,7 @@ use Rattle.planus_layout.specs.declared.schema.Body.TheVariants as body
 use Rattle.planus_layout.specs.declared.schema.Declared.{Declared}
 use Rattle.planus_layout.specs.declared.schema.Table.{Table}
 use Rattle.planus_tie.specs.Ranks.{is_table, ranks_of, totals_of}
-use Rattle.planus_tie.specs.Shapes.{IsSchemaTied}
+use Rattle.planus_tie.specs.SchemaTies.{IsSchemaTied}
 use Rattle.planus_tie.specs.Ties.{IsTableTied}
 use Rattle.planus_tie.specs.Views.{IsViewTied}
 use Rattle.planus_tie.specs.Wanted.{module_of}
@@ -61,21 +61,21 @@ AreViewsTied n ranks totals files i [] = ⊤
 AreViewsTied n ranks totals files i (d ∷ ds) = IsBodyViewTied n ranks totals files i d.body
     × AreViewsTied n ranks totals files (i + 1) ds
 
-abbrev pub IsSchemaTextTied : List Declared → List ℕ → Option (List ℕ) → Type 0
-IsSchemaTextTied ds ranks None = ⊥
-IsSchemaTextTied ds ranks (Some text) = IsSchemaTied ds ranks text
+abbrev pub IsSchemaTextTied : Naming → List ℕ → Option (List ℕ) → Type 0
+IsSchemaTextTied n ranks None = ⊥
+IsSchemaTextTied n ranks (Some text) = IsSchemaTied n ranks text
 
 abbrev pub has_tables : List Declared → Bool
 has_tables ds = list_any (λ d. is_table d.body) ds
 
 -- where there are tables, the schema's value is there
-abbrev pub HasSchema : List Declared → List ℕ → List PrintedFile → Type 0
-HasSchema ds ranks files = IsTrue (has_tables ds)
-    → IsSchemaTextTied ds ranks (text_at (codes "src/verified.rt") files)
+abbrev pub HasSchema : Naming → List ℕ → List PrintedFile → Type 0
+HasSchema n ranks files = IsTrue (has_tables n.declared.now)
+    → IsSchemaTextTied n ranks (text_at (codes "src/verified.rt") files)
 
 -- Each table has its file and that of its view, and there is the schema's value.
 pub record AreTied (n : Naming) (files : List PrintedFile) : Type 0 where
   pub tables : AreTablesTied n files 0 n.declared.now
   pub views : AreViewsTied n (ranks_of n.declared.now) (totals_of n.declared.now) files 0
       n.declared.now
-  pub schema : HasSchema n.declared.now (ranks_of n.declared.now) files
+  pub schema : HasSchema n (ranks_of n.declared.now) files

@@ -1,7 +1,9 @@
 pub mod Bare
 pub mod Files
+pub mod NameLists
 pub mod Ranks
 pub mod Reading
+pub mod SchemaTies
 pub mod Shapes
 pub mod Ties
 pub mod Views

@@ -17,7 +17,6 @@ use Rattle.planus_layout.specs.declared.schema.UnionMember.{UnionMember}
 use Rattle.planus_plan.specs.Plans.{LineV, line_of, IsPlan}
 use Rattle.planus_plan.specs.declared.plan.Line.{Line}
 use Rattle.planus_plan.specs.declared.plan.Plan.{Plan}
-use Rattle.planus_tie.specs.Bare.{bare}
 use Rattle.planus_tie.specs.Ranks.{rank_in}
 use Rattle.planus_tie.specs.Reading.{after, begins, body_of}
 use Rattle.planus_tie.specs.Wanted.{is_bytes, read_slot}
@@ -178,13 +177,3 @@ has_tagged ds ranks text = begins (after (codes "pub const VARIANTS:[Variant;") 
 abbrev pub has_schema : List ℕ → Bool
 has_schema text = begins (body_of (codes "fn schema()->") text)
     (codes "Schema{fields:&FIELDS,tables:&TABLES,variants:&VARIANTS}}")
-
-abbrev pub is_schema_text : List Declared → List ℕ → List Line → List ℕ → Bool
-is_schema_text ds ranks ls text = has_fields ds ranks ls text && has_ranges ds text
-    && has_tagged ds ranks text && has_schema text
-
--- The text has the fields, the tables and the unions' members of these declarations, in order.
-pub record IsSchemaTied (ds : List Declared) (ranks text : List ℕ) : Type 0 where
-  pub lines : List Line
-  pub are : AreLines ds 0 ds lines
-  pub tied : is_schema_text ds ranks lines (bare text) ≡ true

@@ -174,17 +174,17 @@ fn has_tables(declared: &[Declared]) -> bool
 
 fn has_schema(
     alloc: Global,
-    declared: &[Declared],
+    naming: &Naming<'_>,
     ranks: &[usize],
     files: &[PrintedFile],
 ) -> Result<bool, AllocError>
-    ensures { IfOk result (λ b. IsTrue b → HasSchema declared.now ranks.now files.now) }
+    ensures { IfOk result (λ b. IsTrue b → HasSchema naming.now ranks.now files.now) }
 {
-    if !has_tables(declared) {
+    if !has_tables(naming.declared) {
         return Ok(true);
     }
     match text_at(files, b"src/verified.rt") {
-        Some(text) => is_schema_tied(alloc, declared, ranks, text),
+        Some(text) => is_schema_tied(alloc, naming, ranks, text),
         None => Ok(false),
     }
 }
@@ -206,5 +206,5 @@ pub fn are_tied(
     if !are_views_tied(alloc, naming, &ranks, &totals, files)? {
         return Ok(false);
     }
-    has_schema(alloc, naming.declared, &ranks, files)
+    has_schema(alloc, naming, &ranks, files)
 }

@@ -9,6 +9,7 @@ mod entries;
 mod files;
 mod groups;
 mod kinds;
+mod name_lists;
 mod naming;
 mod pieces;
 mod ranks;

@@ -15,10 +15,12 @@ ghost use Rattle.planus_tie.specs.Shapes.{has_fields as has_fields_lem};
 ghost use Rattle.planus_tie.specs.Shapes.{has_ranges as has_ranges_lem};
 ghost use Rattle.planus_tie.specs.Shapes.{has_tagged as has_tagged_lem};
 ghost use Rattle.planus_tie.specs.Shapes.{has_schema as has_schema_lem};
-ghost use Rattle.planus_tie.specs.Shapes.{is_schema_text as is_schema_text_lem, IsSchemaTied};
+ghost use Rattle.planus_tie.specs.SchemaTies.{is_schema_text as is_schema_text_lem, IsSchemaTied};
 
 use crate::bare::bare;
 use crate::kinds::{is_bytes, read_slot};
+use crate::name_lists::is_names_text;
+use crate::naming::Naming;
 use crate::pieces::{push_number, push_str};
 use crate::ranks::rank_in;
 use crate::reading::{after, begins, body_of};
@@ -237,13 +239,13 @@ fn push_members(out: &mut Vec<u8>, comma: &str, members: &[Tagged]) -> Result<()
     Ok(())
 }
 
-fn comma_of(count: usize) -> &'static str
+pub(crate) fn comma_of(count: usize) -> &'static str
     ensures { result.now ≡ comma_of_lem count }
 {
     if count == 1 { "" } else { "," }
 }
 
-fn list_start(alloc: Global, count: usize) -> Result<Vec<u8>, AllocError>
+pub(crate) fn list_start(alloc: Global, count: usize) -> Result<Vec<u8>, AllocError>
     ensures { IfOk result (λ out. out.items ≡ decimal count ++ codes "]=[") }
 {
     let mut out = Vec::new(alloc);
@@ -331,36 +333,39 @@ fn has_schema(text: &[u8]) -> bool
 
 fn is_schema_text(
     alloc: Global,
-    declared: &[Declared],
+    naming: &Naming<'_>,
     ranks: &[usize],
     lines: &[Line<'_>],
     text: &[u8],
 ) -> Result<bool, AllocError>
     ensures { IfOk result (λ b. b
-        ≡ is_schema_text_lem declared.now ranks.now lines.now text.now) }
+        ≡ is_schema_text_lem naming.now ranks.now lines.now text.now) }
 {
-    if !has_fields(alloc, declared, ranks, lines, text)? {
+    if !has_fields(alloc, naming.declared, ranks, lines, text)? {
         return Ok(false);
     }
-    if !has_ranges(alloc, declared, text)? {
+    if !has_ranges(alloc, naming.declared, text)? {
         return Ok(false);
     }
-    if !has_tagged(alloc, declared, ranks, text)? {
+    if !has_tagged(alloc, naming.declared, ranks, text)? {
         return Ok(false);
     }
-    Ok(has_schema(text))
+    if !has_schema(text) {
+        return Ok(false);
+    }
+    is_names_text(alloc, naming, ranks, lines, text)
 }
 
-/// Returns whether this is the text of the schema as a value.
+/// Returns whether this is the text of the schema as a value, and of its names.
 pub(crate) fn is_schema_tied(
     alloc: Global,
-    declared: &[Declared],
+    naming: &Naming<'_>,
     ranks: &[usize],
     text: &[u8],
 ) -> Result<bool, AllocError>
-    ensures { IfOk result (λ b. IsTrue b → IsSchemaTied declared.now ranks.now text.now) }
+    ensures { IfOk result (λ b. IsTrue b → IsSchemaTied naming.now ranks.now text.now) }
 {
-    let lines = lines_of(alloc, declared)?;
+    let lines = lines_of(alloc, naming.declared)?;
     let without = bare(alloc, text)?;
-    is_schema_text(alloc, declared, ranks, &lines, &without)
+    is_schema_text(alloc, naming, ranks, &lines, &without)
 }

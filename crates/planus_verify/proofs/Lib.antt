@@ -4,3 +4,8 @@ pub mod Tables
 pub mod Fields
 pub mod Unions
 pub mod Passing
+pub mod Searches
+pub mod FieldReadings
+pub mod FieldSearches
+pub mod RootTrails
+pub mod FailingItems

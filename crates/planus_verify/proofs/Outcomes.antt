@@ -11,7 +11,7 @@ use Rattle.planus_verify.specs.Walks.{DoesTable, StepDoes, InOrder, Walks}
 use Rattle.planus_verify.specs.declared.fault.Fault.{Fault}
 use Rattle.planus_verify.specs.declared.fault.Fault.TheVariants as fault
 
-broken : (clauses : List Clause) (e : ErrorKind) → FirstBroken clauses e → AllHold clauses → ⊥
+pub broken : (clauses : List Clause) (e : ErrorKind) → FirstBroken clauses e → AllHold clauses → ⊥
 broken [] e fails all = fails
 broken (first ∷ rest) e (inl (not, error)) all = not all.0
 broken (first ∷ rest) e (inr (holds, later)) all = broken rest e later all.1

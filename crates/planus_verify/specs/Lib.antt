@@ -5,4 +5,7 @@ pub mod Verified
 pub mod Laws
 pub mod Whole
 pub mod Passes
+pub mod Trails
+pub mod Soughts
+pub mod Searches
 pub mod lemmas

@@ -1,6 +1,7 @@
 //! Verification of all that a schema's accessors read, after which fields are read without tests.
 #![tactic(auto)]
 
+mod ends;
 mod entered;
 mod fault;
 mod kind;
@@ -10,8 +11,12 @@ mod passes;
 mod readings;
 mod root;
 mod schema;
+mod search;
+mod search_end;
+mod sought;
 #[cfg(test)]
 mod tests;
+mod trails;
 mod union_kind;
 mod verify_table;
 mod verify_union;
@@ -22,8 +27,10 @@ pub use fault::{Fault, FieldPlace};
 pub use kind::VerifiedKind;
 pub use laws::{passed_is_verified, verified_passes};
 pub use limits::Limits;
-pub use root::{verify, verify_kind};
+pub use root::{verify, verify_kind, verify_read};
 pub use schema::{FieldKind, FieldShape, Schema, TableShape, ValueKind, Variant};
+pub use sought::Sought;
+pub use trails::trail;
 pub use union_kind::UnionKind;
 pub use verify_table::Verify;
 pub use verify_union::{VerifyUnion, member_passes};

@@ -3,9 +3,9 @@
 ghost use Rattle.std.specs.Prelude.{ℕ, IfOk, IfErr, IfSome, Ok, Err};
 ghost use Rattle.planus_read.specs.Clauses.{Answer, shown};
 ghost use Rattle.planus_read.specs.Reading.{table_reading};
-ghost use Rattle.planus_read.specs.Tables.{ShowsTable};
+ghost use Rattle.planus_read.specs.Tables.{ShowsTable, table_object, table_slots, table_start};
 ghost use Rattle.planus_verify.specs.Schemas.{shapes};
-ghost use Rattle.planus_verify.specs.Walks.{RootWalks};
+ghost use Rattle.planus_verify.specs.Walks.{RootWalks, Walks};
 
 use crate::fault::Fault;
 use crate::limits::Limits;
@@ -70,4 +70,23 @@ pub fn verify_kind<'b, K: Verify>(bytes: &'b [u8], limits: Limits) -> Result<Tab
         return Ok(table);
     }
     verify(&K::schema(), K::index(), bytes, limits)
+}
+
+/// As [`verify_kind`], of a table that was read, wherever it is in a buffer. The limits are those of
+/// this table and what it leads to.
+pub fn verify_read<K: Verify>(table: Table<'_>, limits: Limits) -> Result<(), Fault>
+    ensures passed { IfOk result (λ _. (left : ℕ) × Walks K.schema limits.depth K.index
+        (table_object table.entry) (table_slots table.entry) (table_start table.entry)
+        limits.tables (Ok left)) }
+    ensures fault { IfErr result (λ found. Walks K.schema limits.depth K.index
+        (table_object table.entry) (table_slots table.entry) (table_start table.entry)
+        limits.tables (Err found)) }
+{
+    if let Some(_) = K::pass(table, limits.depth, limits.tables) {
+        return Ok(());
+    }
+    match verify_table(&K::schema(), K::index(), table, limits.depth, limits.tables) {
+        Ok(_) => Ok(()),
+        Err(fault) => Err(fault),
+    }
 }

@@ -1,6 +1,7 @@
 //! A buffer as it is, cut short, and with each byte changed, beside a plain verifier's answers.
 
 mod ship;
+mod trails;
 
 use crate::{Fault, FieldPlace, Limits, Schema, verify};
 use planus_read::errors::ErrorKind;

@@ -32,7 +32,7 @@ fn some_fields(all: &[FieldShape], first: usize, count: usize) -> &[FieldShape]
     &rest[..count]
 }
 
-fn fields_at<'s>(schema: &Schema<'s>, index: usize) -> &'s [FieldShape]
+pub(crate) fn fields_at<'s>(schema: &Schema<'s>, index: usize) -> &'s [FieldShape]
     ensures { result.now ≡ fields_of (shapes schema.now) index }
 {
     match schema.tables.get(index) {
@@ -41,7 +41,7 @@ fn fields_at<'s>(schema: &Schema<'s>, index: usize) -> &'s [FieldShape]
     }
 }
 
-fn variant_table(variants: &[Variant], union: usize, tag: u8) -> Option<usize>
+pub(crate) fn variant_table(variants: &[Variant], union: usize, tag: u8) -> Option<usize>
     ensures { result ≡ variant_in variants.now union tag }
 {
     for variant in variants {
@@ -71,7 +71,7 @@ fn absent(required: bool, place: FieldPlace, left: usize) -> Result<usize, Fault
 }
 
 impl FieldPlace {
-    fn at(self, item: usize) -> FieldPlace
+    pub(crate) fn at(self, item: usize) -> FieldPlace
         ensures { result ≡ record {
           table = self.table;
           start = self.start;

@@ -9,3 +9,4 @@ pub mod ByteFields
 pub mod WrittenValues
 pub mod WrittenUnions
 pub mod WrittenTables
+pub mod FoundPaths

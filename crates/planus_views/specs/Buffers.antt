@@ -8,7 +8,8 @@ use Rattle.planus_read.specs.SizePrefixed.{Prefixed, PrefixedThere, prefixed_cla
 use Rattle.planus_read.specs.declared.errors.ErrorKind.{ErrorKind}
 use Rattle.planus_read.specs.declared.table_reader.Table.{Table}
 use Rattle.planus_verify.specs.Schemas.{Shapes}
-use Rattle.planus_verify.specs.Walks.{RootWalks}
+use Rattle.planus_read.specs.Tables.{table_object, table_slots, table_start}
+use Rattle.planus_verify.specs.Walks.{RootWalks, Walks}
 use Rattle.planus_verify.specs.declared.fault.Fault.{Fault}
 use Rattle.planus_verify.specs.declared.limits.Limits.{Limits}
 use Rattle.planus_views.specs.declared.buffer_fault.BufferFault.{BufferFault}
@@ -22,6 +23,16 @@ VerifiesRoot K table_of schema index limits B (Ok view) =
     × ((left : ℕ) × RootWalks schema index limits.depth limits.tables B (Ok left))
 VerifiesRoot K table_of schema index limits B (Err found) =
     RootWalks schema index limits.depth limits.tables B (Err found)
+
+-- This table is verified within the limits, and this is its view; or else this is the first fault.
+abbrev pub VerifiesTable :
+    {V : Type 0} → (V → Table) → Shapes → ℕ → Limits → Table → Result V Fault → Type 0
+VerifiesTable table_of schema index limits table (Ok view) =
+    (table_of view ≡ table) × ((left : ℕ) × Walks schema limits.depth index (table_object table)
+    (table_slots table) (table_start table) limits.tables (Ok left))
+VerifiesTable table_of schema index limits table (Err found) =
+    Walks schema limits.depth index (table_object table) (table_slots table) (table_start table)
+    limits.tables (Err found)
 
 -- The format: a file identifier is the four bytes after the root's reference.
 abbrev pub IsIdentified : Option (List ℕ) → List ℕ → Type 0

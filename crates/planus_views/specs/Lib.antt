@@ -5,8 +5,10 @@ pub mod Vectors
 pub mod CheckedVectors
 pub mod Members
 pub mod Items
+pub mod Names
 pub mod Nested
 pub mod Printed
 pub mod References
+pub mod Wheres
 pub mod Written
 pub use Rattle.planus_verify.specs as verify

@@ -3,13 +3,14 @@
 ghost use Rattle.std.specs.Prelude.{ℕ, List, Ok, Err, IfOk, IfErr};
 ghost use Rattle.planus.specs.Roots.{IsRoot};
 ghost use Rattle.planus_verify.specs.Walks.{RootWalks};
+ghost use Rattle.planus_views.specs.Buffers.{VerifiesTable};
 ghost use Rattle.planus_views.specs.Fields.{TableHolds};
 ghost use Rattle.planus_views.specs.Nested.{ReturnsRoot};
 
 use crate::view_of::ViewOf;
 use planus::SliceWithStartOffset;
 use planus::table_reader::Table;
-use planus_verify::{Fault, Limits, VerifiedKind, verify_kind};
+use planus_verify::{Fault, Limits, VerifiedKind, verify_kind, verify_read};
 
 /// Verifies the root of a whole buffer with all that it leads to, and returns its view.
 pub fn verify_root<'a, V: ViewOf<'a>>(bytes: &'a [u8], limits: Limits) -> Result<V, Fault>
@@ -22,6 +23,17 @@ pub fn verify_root<'a, V: ViewOf<'a>>(bytes: &'a [u8], limits: Limits) -> Result
 {
     match verify_kind::<V::Kind>(bytes, limits) {
         Ok(table) => Ok(V::of_verified(table)),
+        Err(fault) => Err(fault),
+    }
+}
+
+/// Verifies a table that was read with all that it leads to, and returns its view. The limits are
+/// those of this table and what it leads to.
+pub fn verify_table<'a, V: ViewOf<'a>>(table: Table<'a>, limits: Limits) -> Result<V, Fault>
+    ensures { VerifiesTable V.table V.Kind.schema V.Kind.index limits table.entry result }
+{
+    match verify_read::<V::Kind>(table, limits) {
+        Ok(()) => Ok(V::of_verified(table)),
         Err(fault) => Err(fault),
     }
 }

@@ -85,3 +85,21 @@ impl<'a> std::fmt::Debug for CompanyView<'a> {
         shown.finish()
     }
 }
+
+impl<'a> CompanyRef<'a> {
+    ghost use Rattle.planus_views.specs.Printed.{view_table, VerifiesTable};
+    ghost use Rattle.harbour.specs.Verified.{verified_schema};
+    ghost use Rattle.harbour.specs.declared.verified.company.CompanyView.{CompanyView};
+
+    /// Verifies this table with all that it leads to, within limits, and returns its view, whose
+    /// accessors don't fail.
+    pub fn verify(
+        &self,
+        limits: planus_views::Limits,
+    ) -> Result<CompanyView<'a>, planus_views::Fault>
+        ensures { VerifiesTable (λ (view : CompanyView). view_table view.0) verified_schema 1
+            limits self.now.0 result }
+    {
+        planus_views::verify_table(self.0, limits)
+    }
+}

@@ -139,3 +139,18 @@ impl<'a> std::fmt::Debug for EntryView<'a> {
         shown.finish()
     }
 }
+
+impl<'a> EntryRef<'a> {
+    ghost use Rattle.planus_views.specs.Printed.{view_table, VerifiesTable};
+    ghost use Rattle.harbour.specs.Verified.{verified_schema};
+    ghost use Rattle.harbour.specs.declared.verified.entry.EntryView.{EntryView};
+
+    /// Verifies this table with all that it leads to, within limits, and returns its view, whose
+    /// accessors don't fail.
+    pub fn verify(&self, limits: planus_views::Limits) -> Result<EntryView<'a>, planus_views::Fault>
+        ensures { VerifiesTable (λ (view : EntryView). view_table view.0) verified_schema 6 limits
+            self.now.0 result }
+    {
+        planus_views::verify_table(self.0, limits)
+    }
+}

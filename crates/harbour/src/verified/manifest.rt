@@ -519,3 +519,21 @@ impl<'a> std::fmt::Debug for ManifestView<'a> {
         shown.finish()
     }
 }
+
+impl<'a> ManifestRef<'a> {
+    ghost use Rattle.planus_views.specs.Printed.{view_table, VerifiesTable};
+    ghost use Rattle.harbour.specs.Verified.{verified_schema};
+    ghost use Rattle.harbour.specs.declared.verified.manifest.ManifestView.{ManifestView};
+
+    /// Verifies this table with all that it leads to, within limits, and returns its view, whose
+    /// accessors don't fail.
+    pub fn verify(
+        &self,
+        limits: planus_views::Limits,
+    ) -> Result<ManifestView<'a>, planus_views::Fault>
+        ensures { VerifiesTable (λ (view : ManifestView). view_table view.0) verified_schema 4
+            limits self.now.0 result }
+    {
+        planus_views::verify_table(self.0, limits)
+    }
+}

@@ -160,3 +160,18 @@ impl<'a> std::fmt::Debug for PortView<'a> {
         shown.finish()
     }
 }
+
+impl<'a> PortRef<'a> {
+    ghost use Rattle.planus_views.specs.Printed.{view_table, VerifiesTable};
+    ghost use Rattle.harbour.specs.Verified.{verified_schema};
+    ghost use Rattle.harbour.specs.declared.verified.port.PortView.{PortView};
+
+    /// Verifies this table with all that it leads to, within limits, and returns its view, whose
+    /// accessors don't fail.
+    pub fn verify(&self, limits: planus_views::Limits) -> Result<PortView<'a>, planus_views::Fault>
+        ensures { VerifiesTable (λ (view : PortView). view_table view.0) verified_schema 3 limits
+            self.now.0 result }
+    {
+        planus_views::verify_table(self.0, limits)
+    }
+}

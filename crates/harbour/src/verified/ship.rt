@@ -356,3 +356,18 @@ impl<'a> std::fmt::Debug for ShipView<'a> {
         shown.finish()
     }
 }
+
+impl<'a> ShipRef<'a> {
+    ghost use Rattle.planus_views.specs.Printed.{view_table, VerifiesTable};
+    ghost use Rattle.harbour.specs.Verified.{verified_schema};
+    ghost use Rattle.harbour.specs.declared.verified.ship.ShipView.{ShipView};
+
+    /// Verifies this table with all that it leads to, within limits, and returns its view, whose
+    /// accessors don't fail.
+    pub fn verify(&self, limits: planus_views::Limits) -> Result<ShipView<'a>, planus_views::Fault>
+        ensures { VerifiesTable (λ (view : ShipView). view_table view.0) verified_schema 2 limits
+            self.now.0 result }
+    {
+        planus_views::verify_table(self.0, limits)
+    }
+}

@@ -136,3 +136,21 @@ impl<'a> std::fmt::Debug for MonsterView<'a> {
         shown.finish()
     }
 }
+
+impl<'a> MonsterRef<'a> {
+    ghost use Rattle.planus_views.specs.Printed.{view_table, VerifiesTable};
+    ghost use Rattle.monsters.specs.Verified.{verified_schema};
+    ghost use Rattle.monsters.specs.declared.verified.monster.MonsterView.{MonsterView};
+
+    /// Verifies this table with all that it leads to, within limits, and returns its view, whose
+    /// accessors don't fail.
+    pub fn verify(
+        &self,
+        limits: planus_views::Limits,
+    ) -> Result<MonsterView<'a>, planus_views::Fault>
+        ensures { VerifiesTable (λ (view : MonsterView). view_table view.0) verified_schema 1
+            limits self.now.0 result }
+    {
+        planus_views::verify_table(self.0, limits)
+    }
+}

@@ -85,3 +85,21 @@ impl<'a> std::fmt::Debug for WeaponView<'a> {
         shown.finish()
     }
 }
+
+impl<'a> WeaponRef<'a> {
+    ghost use Rattle.planus_views.specs.Printed.{view_table, VerifiesTable};
+    ghost use Rattle.monsters.specs.Verified.{verified_schema};
+    ghost use Rattle.monsters.specs.declared.verified.weapon.WeaponView.{WeaponView};
+
+    /// Verifies this table with all that it leads to, within limits, and returns its view, whose
+    /// accessors don't fail.
+    pub fn verify(
+        &self,
+        limits: planus_views::Limits,
+    ) -> Result<WeaponView<'a>, planus_views::Fault>
+        ensures { VerifiesTable (λ (view : WeaponView). view_table view.0) verified_schema 0 limits
+            self.now.0 result }
+    {
+        planus_views::verify_table(self.0, limits)
+    }
+}

@@ -1,0 +1,11 @@
+use Rattle.planus_tie.proofs.Parts.{text_added}
+use Rattle.planus_plan.specs.Plans.{line_of}
+use Rattle.planus_tie.specs.NameLists.{field_name_text}
+use Rattle.planus_tie.proofs.name_lists.push_field_names.Goals as goal
+
+pub loop-line-preserved : goal.loop-line-preserved
+loop-line-preserved c =
+    text_added (λ l. field_name_text c.args.ranks.now c.args.comma.now (line_of l))
+    c.args.lines.now c.loop-line.line-index _ c.line-item.result c.args.out.now.items
+    c.loop-line.out.items c.push_field_name.new.out.items c.loop-line-test.true c.line-item.is
+    c.in_ok-push_field_name.ensures c.loop-line.invariant
