@@ -1,12 +1,14 @@
 #!/bin/sh
 # Makes a repository of your own for a schema, or brings the runtime in one up to date.
-#   sh new.sh FOLDER SCHEMA          FOLDER is new or empty
+#   sh new.sh [--no-verified] FOLDER SCHEMA          FOLDER is new or empty
 #   sh new.sh --update FOLDER
 #
 # In FOLDER are then crates.txt, HANDLES, .gitignore, the schema, crates/planus* (the runtime, copied without the edits
 # that try its contracts), crates/NAME (the code of SCHEMA.fbs, by `planus rattle`) and crates/app: a program that writes
 # a record to the file that its call names, reads it back and prints it, with a test.
-# An update replaces the runtime and prints the schema's code again; it says what changed, and leaves crates/app alone.
+# With --no-verified the code has no views of verified buffers, so that less is to be proved.
+# An update replaces the runtime and prints the schema's code again, as the comment in crates.txt says; it says what
+# changed, and leaves crates/app alone.
 # Needs `rt`, python3 (which rt needs too), and `planus`, which it builds by install.sh, or takes from PLANUS.
 set -eu
 
@@ -19,6 +21,8 @@ usage() {
     sed -n 's/^#   //p' "$0"
 }
 [ "${1:-}" != --help ] || { usage; exit 0; }
+options=
+[ "${1:-}" != --no-verified ] || { options="--no-verified "; shift; }
 [ $# = 2 ] || { usage >&2; exit 2; }
 case $2 in -*) usage >&2; exit 2 ;; esac
 here=$(CDPATH='' cd -- "$(dirname -- "$0")" && pwd)
@@ -48,8 +52,10 @@ runtime_lines() {
     echo "# the runtime, copied by new.sh, of commit $(git -C "$here" rev-parse --short HEAD 2>/dev/null || echo "none")"
     for crate in $RUNTIME; do grep "^$crate:" "$here/crates.txt"; done
 }
-print_code() { # in the folder: schema, crate
-    said=$("$planus" rattle "$1" -o "$2" 2>&1) || fail "$1 isn't printed: $said"
+print_code() { # in the folder: crate, options, schema
+    crate=$1
+    shift
+    said=$("$planus" rattle "$@" -o "$crate" 2>&1) || fail "the code of $* isn't printed: $said"
 }
 
 if [ "$1" = --update ]; then
@@ -60,10 +66,11 @@ if [ "$1" = --update ]; then
     copy_runtime "$room"
     find_planus
     # The code of each schema, as the comment above its line says.
-    sed -n 's/^# printed by: planus rattle \(.*\) -o crates\/\(.*\)$/\1 \2/p' "$folder/crates.txt" >"$room/schemas"
+    sed -n 's/^# printed by: planus rattle \(.*\) -o crates\/\(.*\)$/\2 \1/p' "$folder/crates.txt" >"$room/schemas"
     mkdir "$room/printed"
-    while read -r schema crate; do
-        (cd "$folder" && print_code "$schema" "$room/printed/$crate")
+    while read -r name words; do
+        # shellcheck disable=SC2086 # options and a schema
+        (cd "$folder" && print_code "$room/printed/$name" $words)
     done <"$room/schemas"
     changed=
     replace() { # folder of the new crate, name: the crate's files but what is built
@@ -77,7 +84,7 @@ if [ "$1" = --update ]; then
         done
     }
     for crate in $RUNTIME; do replace "$room" "$crate"; done
-    while read -r schema crate; do replace "$room/printed" "$crate"; done <"$room/schemas"
+    while read -r name words; do replace "$room/printed" "$name"; done <"$room/schemas"
     grep -v -e '^# the runtime, copied' $(printf ' -e ^%s:' $RUNTIME) "$folder/crates.txt" >"$room/rest" || :
     runtime_lines >"$room/crates.txt"
     sed '/./,$!d' "$room/rest" >"$room/own"
@@ -91,18 +98,19 @@ folder=$1 schema=$2
 [ -f "$schema" ] || fail "there is no file $schema"
 [ ! -e "$folder" ] || { [ -d "$folder" ] && [ -z "$(ls -A "$folder")" ]; } || fail "$folder is there already, and isn't an empty folder"
 
-# the crate's name: that of the schema's file, in small letters, digits and _
-name=$(basename "$schema" .fbs | tr 'A-Z' 'a-z' | tr -c 'a-z0-9_\n' '_' | sed 's/^[^a-z]/s_&/')
-kit=$(dirname "$(rt doc)")
-case " $RUNTIME app core std " in *" $name "*) name=${name}_schema ;; esac
-[ ! -d "$kit/rlibs/$name.rlib" ] || name=${name}_schema
-
+# the crate's name: that of the schema's file, in small letters, digits and _, or else with _schema after it
 find_planus
+name=$(basename "$schema" .fbs | tr 'A-Z' 'a-z' | tr -c 'a-z0-9_\n' '_' | sed 's/^[^a-z]/s_&/')
+status=0
+"$planus" rattle --check - -o "$name" </dev/null >/dev/null 2>&1 || status=$?
+if [ "$status" = 2 ] || [ "$name" = app ]; then name=${name}_schema; fi
+
 "$planus" check "$schema" || fail "mend $schema first"
 file=$(basename "$schema")
 room=$(mktemp -d)
 trap 'rm -rf "$room"' EXIT
-(cd "$(dirname "$schema")" && print_code "$file" "$room/$name")
+# shellcheck disable=SC2086 # none or one
+(cd "$(dirname "$schema")" && print_code "$room/$name" $options "$file")
 
 mkdir -p "$folder/crates"
 copy_runtime "$folder/crates"
@@ -114,7 +122,7 @@ done
 {
     runtime_lines
     echo
-    echo "# printed by: planus rattle $file -o crates/$name"
+    echo "# printed by: planus rattle $options$file -o crates/$name"
     echo "$name: planus planus_views"
 } >"$folder/crates.txt"
 echo "Handles allowed: none." >"$folder/HANDLES"

@@ -7,9 +7,10 @@ ghost use Rattle.planus.specs.Printed.{BytesStand, IsPrefixed, FinishGives, Size
 ghost use Rattle.planus.specs.Printed.{EndsAs, FinishLeaves, SizedFinishLeaves, IsIn, IsPrepared};
 ghost use Rattle.planus.specs.Printed.{IsRoot, IsSizedRoot};
 ghost use Rattle.planus_views.specs.Printed.{view_table, RootWalks, IsVerifiedBuffer};
-ghost use Rattle.planus_views.specs.Printed.{IsVerifiedSized, VerifiesRoot, IsWhere, IsWhereFault};
-ghost use Rattle.planus_views.specs.Printed.{default_limits, NamesV};
+ghost use Rattle.planus_views.specs.Printed.{IsVerifiedSized, VerifiesRoot, IsWhereBy};
+ghost use Rattle.planus_views.specs.Printed.{IsWhereFaultBy, default_limits};
 ghost use Rattle.harbour.specs.Verified.{verified_schema};
+ghost use Rattle.harbour.specs.Verified.{verified_names};
 ghost use Rattle.harbour.specs.declared.ship.Ship.{Ship};
 ghost use Rattle.harbour.specs.declared.verified.ship.ShipView.{ShipView};
 
@@ -89,7 +90,7 @@ pub fn where_is(
     error: &planus::Error,
     bytes: &[u8],
 ) -> Result<Option<planus_views::FieldPath>, std::alloc::AllocError>
-    ensures { (names : NamesV) × IsWhere verified_schema names 2 default_limits error.now bytes.now
+    ensures { IsWhereBy verified_schema verified_names 2 default_limits error.now bytes.now
         result }
 {
     let names = crate::verified::names();
@@ -103,8 +104,8 @@ pub fn where_fault_is(
     fault: &planus_views::Fault,
     bytes: &[u8],
 ) -> Result<Option<planus_views::FieldPath>, std::alloc::AllocError>
-    ensures { (names : NamesV) × IsWhereFault verified_schema names 2 default_limits fault.now
-        bytes.now result }
+    ensures { IsWhereFaultBy verified_schema verified_names 2 default_limits fault.now bytes.now
+        result }
 {
     let names = crate::verified::names();
     let limits = planus_views::Limits::default();

@@ -10,9 +10,9 @@ pub(crate) mod person;
 pub(crate) mod port;
 pub(crate) mod ship;
 
-ghost use Rattle.std.specs.Prelude.{◌≡◌, length};
-ghost use Rattle.planus_views.specs.Printed.{shapes};
-ghost use Rattle.harbour.specs.Verified.{verified_schema};
+ghost use Rattle.std.specs.Prelude.{◌≡◌};
+ghost use Rattle.planus_views.specs.Printed.{shapes, names_of, name_texts};
+ghost use Rattle.harbour.specs.Verified.{verified_schema, verified_names};
 
 use planus_views::{
     FieldKind, FieldName, FieldShape, Names, Schema, TableName, TableShape, ValueKind, Variant,
@@ -986,8 +986,7 @@ pub const FIELD_NAMES: [FieldName<'static>; 87] = [
 
 /// Returns the names of the schema's tables and fields.
 pub(crate) fn names() -> Names<'static>
-    ensures tables { length result.tables.now ≡ 7 }
-    ensures fields { length result.fields.now ≡ 87 }
+    ensures { name_texts (names_of result) ≡ verified_names }
 {
     Names {
         tables: &TABLE_NAMES,

@@ -3,8 +3,9 @@
 ghost use Rattle.std.specs.Prelude.{ℕ, List, codes, IfOk, IfErr, None, Ok, Err};
 ghost use Rattle.planus.specs.Printed.{IsRoot, IsSizedRoot};
 ghost use Rattle.planus_views.specs.Printed.{view_table, RootWalks, IsVerifiedSized, VerifiesRoot};
-ghost use Rattle.planus_views.specs.Printed.{IsWhere, IsWhereFault, default_limits, NamesV};
+ghost use Rattle.planus_views.specs.Printed.{IsWhereBy, IsWhereFaultBy, default_limits};
 ghost use Rattle.monsters.specs.Verified.{verified_schema};
+ghost use Rattle.monsters.specs.Verified.{verified_names};
 ghost use Rattle.monsters.specs.declared.monster.Monster.{Monster};
 ghost use Rattle.monsters.specs.declared.verified.monster.MonsterView.{MonsterView};
 
@@ -61,7 +62,7 @@ pub fn where_is(
     error: &planus::Error,
     bytes: &[u8],
 ) -> Result<Option<planus_views::FieldPath>, std::alloc::AllocError>
-    ensures { (names : NamesV) × IsWhere verified_schema names 1 default_limits error.now bytes.now
+    ensures { IsWhereBy verified_schema verified_names 1 default_limits error.now bytes.now
         result }
 {
     let names = crate::verified::names();
@@ -75,8 +76,8 @@ pub fn where_fault_is(
     fault: &planus_views::Fault,
     bytes: &[u8],
 ) -> Result<Option<planus_views::FieldPath>, std::alloc::AllocError>
-    ensures { (names : NamesV) × IsWhereFault verified_schema names 1 default_limits fault.now
-        bytes.now result }
+    ensures { IsWhereFaultBy verified_schema verified_names 1 default_limits fault.now bytes.now
+        result }
 {
     let names = crate::verified::names();
     let limits = planus_views::Limits::default();

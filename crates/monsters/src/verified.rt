@@ -4,9 +4,9 @@ pub(crate) mod equipment;
 pub(crate) mod monster;
 pub(crate) mod weapon;
 
-ghost use Rattle.std.specs.Prelude.{◌≡◌, length};
-ghost use Rattle.planus_views.specs.Printed.{shapes};
-ghost use Rattle.monsters.specs.Verified.{verified_schema};
+ghost use Rattle.std.specs.Prelude.{◌≡◌};
+ghost use Rattle.planus_views.specs.Printed.{shapes, names_of, name_texts};
+ghost use Rattle.monsters.specs.Verified.{verified_schema, verified_names};
 
 use planus_views::{
     FieldKind, FieldName, FieldShape, Names, Schema, TableName, TableShape, ValueKind, Variant,
@@ -133,8 +133,7 @@ pub const FIELD_NAMES: [FieldName<'static>; 8] = [
 
 /// Returns the names of the schema's tables and fields.
 pub(crate) fn names() -> Names<'static>
-    ensures tables { length result.tables.now ≡ 2 }
-    ensures fields { length result.fields.now ≡ 8 }
+    ensures { name_texts (names_of result) ≡ verified_names }
 {
     Names {
         tables: &TABLE_NAMES,

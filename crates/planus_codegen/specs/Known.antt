@@ -45,7 +45,8 @@ in_clauses =
     ∷ (codes "view_table checked_texts checked_tables checked_unions Returns ReturnsAs "
     ++ (codes "checked_option Checked unknown option_map IsNestedField IsNestedRequired RootWalks "
     ++ (codes "IsMember member_tag member_bytes member_start member_offset IsVerifiedBuffer "
-    ++ codes "IsVerifiedSized VerifiesRoot IsWhere IsWhereFault VerifiesTable default_limits NamesV")))
+    ++ (codes "IsVerifiedSized VerifiesRoot IsWhereBy IsWhereFaultBy VerifiesTable "
+    ++ codes "default_limits"))))
     ∷ []
 
 -- what code imports of `planus`

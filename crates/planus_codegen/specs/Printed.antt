@@ -1,5 +1,5 @@
 -- Printed code that is its schema's.
-use Rattle.std.specs.Prelude.{◌≡◌, true, List, length, map}
+use Rattle.std.specs.Prelude.{◌≡◌, Bool, true, List, length, map}
 use Rattle.planus_layout.specs.declared.schema.Declared.{Declared}
 use Rattle.planus_plan.specs.Names.{are_names, are_scopes}
 use Rattle.planus_plan.specs.Spelling.{all_member_names, names_in}
@@ -27,11 +27,11 @@ pub record IsNamingOf (ds : List Declared) (names : Names) (n : Naming) : Type 0
   pub modules : n.modules.now ≡ names.modules.items
   pub members : n.members.now ≡ names.members.items
 
--- With names that are fit, the files have the code of each table and of its verified view, and
--- the schema as a value.
-pub record IsPrinted (ds : List Declared) (files : List PrintedFile) : Type 0 where
+-- With names that are fit, the files have the code of each table, and where verified reading is
+-- printed, that of its verified view, and the schema as a value.
+pub record IsPrinted (verified : Bool) (ds : List Declared) (files : List PrintedFile) : Type 0 where
   pub names : Names
   pub naming : Naming
   pub fit : AreFit ds names
   pub named : IsNamingOf ds names naming
-  pub tied : AreTied naming files
+  pub tied : AreTied verified naming files

@@ -18,6 +18,8 @@ use std::alloc::{AllocError, Global};
 pub(crate) struct Context<'a> {
     pub(crate) alloc: Global,
     pub(crate) crate_name: &'a str,
+    /// Whether verified reading is printed.
+    pub(crate) verified: bool,
     pub(crate) declared: &'a [Declared],
     /// Its bytes.
     pub(crate) identifier: Option<&'a [u8]>,
@@ -146,6 +148,7 @@ impl<'a> Context<'a> {
         alloc: Global,
         schema: &'a Schema,
         crate_name: &'a str,
+        verified: bool,
     ) -> Result<Context<'a>, Refusal>
         ensures declared { IfOk result (λ c. c.declared.now ≡ schema.now.declarations.items) }
         ensures names { IfOk result (λ c. AreFit schema.now.declarations.items c.names) }
@@ -154,6 +157,7 @@ impl<'a> Context<'a> {
         Ok(Context {
             alloc,
             crate_name,
+            verified,
             declared,
             identifier: match &schema.statements.identifier {
                 Some(identifier) => Some(identifier.as_slice()),
@@ -252,11 +256,10 @@ impl<'a> Context<'a> {
         self.ranks.get(index).copied().unwrap_or(0)
     }
 
-    /// Whether there is a table.
-    pub(crate) fn has_tables(&self) -> bool {
-        self.declared
-            .iter()
-            .any(|one| matches!(one.body, Body::Table(_)))
+    /// Whether there is a table whose verified view is printed.
+    pub(crate) fn has_views(&self) -> bool {
+        let mut tables = self.declared.iter();
+        self.verified && tables.any(|one| matches!(one.body, Body::Table(_)))
     }
 
     /// Whether the read of a value can't fail once its bytes are there.

@@ -52,6 +52,17 @@ pub use root::{
 };
 ";
 
+const CHECKED_ROOT: &str = "
+pub use root::{
+    finish_root, finish_root_size_prefixed, has_identifier, read_as_root,
+    read_size_prefixed_as_root,
+};
+";
+
+const CHECKED_ROOT_ALONE: &str = "
+pub use root::{read_as_root, read_size_prefixed_as_root};
+";
+
 /// What a namespace has of its declarations, by the place of their modules to this one.
 #[derive(Clone, Copy)]
 struct Uses<'a> {
@@ -155,7 +166,10 @@ impl<'a> Files<'a> {
         let plan = Plan::of(context.alloc, context.declared, at.index, one)?;
         let code = print_table(context, &plan, declared)?;
         self.put_code("//! Tables `$T`.\n", at, &code);
-        self.add_table_view(&plan, one)
+        if context.verified {
+            self.add_table_view(&plan, one)?;
+        }
+        Ok(())
     }
 
     fn put_struct(&mut self, at: At, declared: &Declared, one: &Struct) {
@@ -200,7 +214,9 @@ impl<'a> Files<'a> {
         let context = self.context;
         let code = print_union(context, at, declared, one);
         self.put_code("//! Unions `$T`.\n", at, &code);
-        self.put_union_view(at, one);
+        if context.verified {
+            self.put_union_view(at, one);
+        }
         let variants = print_variants(context, at, one);
         self.put_definitions("-- The variants of `$T`.\n", at, &variants);
     }
@@ -283,10 +299,8 @@ impl<'a> Files<'a> {
 
     // Whether the declaration has a verified view.
     fn has_view(&self, index: usize) -> bool {
-        matches!(
-            self.context.body(index),
-            Some(Body::Table(_) | Body::Union(_))
-        )
+        let body = self.context.body(index);
+        self.context.verified && matches!(body, Some(Body::Table(_) | Body::Union(_)))
     }
 
     // Adds the verified views in a namespace.
@@ -313,13 +327,13 @@ impl<'a> Files<'a> {
         }
         text.join_apart(&print_schema(context)?);
         self.put("src/verified.rt", At::declaration(0), &text);
-        let definition = print_schema_definition(context);
+        let definition = print_schema_definition(context)?;
         self.put("specs/Verified.antt", At::declaration(0), &definition);
         Ok(())
     }
 
     fn put_verified(&mut self) {
-        if self.context.has_tables() && self.add_verified().is_err() {
+        if self.context.has_views() && self.add_verified().is_err() {
             self.failed = true;
         }
     }
@@ -342,13 +356,14 @@ impl<'a> Files<'a> {
         self.put_outermost(&mut text);
         if context.root.is_some() {
             text.put_str("\nmod root;\n");
-            text.put_str(if context.identifier.is_some() {
-                ROOT
-            } else {
-                ROOT_ALONE
+            text.put_str(match (context.identifier, context.verified) {
+                (Some(_), true) => ROOT,
+                (None, true) => ROOT_ALONE,
+                (Some(_), false) => CHECKED_ROOT,
+                (None, false) => CHECKED_ROOT_ALONE,
             });
         }
-        if context.has_tables() {
+        if context.has_views() {
             text.put_str("\nmod verified;\n");
         }
         let mut views = Printer::new(context);
@@ -367,7 +382,7 @@ impl<'a> Files<'a> {
                 text.put("pub mod $T\n", At::declaration(index));
             }
         }
-        if self.context.has_tables() {
+        if self.context.has_views() {
             text.put_str("pub mod Verified\n");
         }
         self.put("specs/Lib.antt", At::declaration(0), &text);
@@ -412,19 +427,25 @@ fn files_of(context: &Context<'_>) -> Result<Vec<PrintedFile>, AllocError> {
     Ok(files.files)
 }
 
-/// Returns the files of a crate of this name with the code of a schema.
+/// Returns the files of a crate of this name with the code of a schema, verified reading with it or
+/// without.
 ///
 /// They are read again before: each table has its accessors and its lines, its verified view has
 /// its accessors, and there is the schema as a value.
 /// [`Refusal::Unsupported`] where something in it has no form in code, [`Refusal::Untied`] where
 /// the printed code isn't the schema's.
-pub fn print_crate(alloc: Global, schema: &Schema, name: &str) -> Result<Vec<PrintedFile>, Refusal>
-    ensures { IfOk result (λ files. IsPrinted schema.now.declarations.items files.items) }
+pub fn print_crate(
+    alloc: Global,
+    schema: &Schema,
+    name: &str,
+    verified: bool,
+) -> Result<Vec<PrintedFile>, Refusal>
+    ensures { IfOk result (λ files. IsPrinted verified schema.now.declarations.items files.items) }
 {
     refuse_unsupported(alloc, &schema.declarations)?;
-    let context = Context::new(alloc, schema, name)?;
+    let context = Context::new(alloc, schema, name, verified)?;
     let files = files_of(&context)?;
-    if !are_tied(alloc, &context.naming(), &files)? {
+    if !are_tied(alloc, &context.naming(), &files, verified)? {
         return Err(Refusal::Untied);
     }
     Ok(files)

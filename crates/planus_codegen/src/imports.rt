@@ -37,8 +37,7 @@ pub(crate) const WORDS: [(&str, &str); 6] = [
         "view_table checked_texts checked_tables checked_unions Returns ReturnsAs checked_option \
          Checked unknown option_map IsNestedField IsNestedRequired RootWalks IsMember member_tag \
          member_bytes member_start member_offset IsVerifiedBuffer IsVerifiedSized VerifiesRoot \
-         IsWhere IsWhereFault VerifiesTable \
-         default_limits NamesV",
+         IsWhereBy IsWhereFaultBy VerifiesTable default_limits",
     ),
 ];
 
@@ -97,7 +96,7 @@ const OWN_VARIANTS: [(&str, &str); 3] = [
 ];
 
 /// The names of the schema as a value, and their imports.
-const SCHEMA_WORDS: [(&str, &str); 2] = [
+const SCHEMA_WORDS: [(&str, &str); 3] = [
     (
         "verified_schema",
         " Rattle.$c.specs.Verified.{verified_schema}",
@@ -105,6 +104,10 @@ const SCHEMA_WORDS: [(&str, &str); 2] = [
     (
         "verified_whole",
         " Rattle.$c.specs.Verified.{verified_whole}",
+    ),
+    (
+        "verified_names",
+        " Rattle.$c.specs.Verified.{verified_names}",
     ),
 ];
 

@@ -73,7 +73,7 @@ fn is_imported(name: &[u8]) -> bool
     is_in_clauses(name) || is_in_code(name) || is_error_in_code(name) || is_in_proofs(name)
 }
 
-/// Whether a record's field has this name only if it is escaped.
+/// Whether a record's field of this name must be written in «».
 pub(crate) fn is_escaped(name: &[u8]) -> bool {
     has_word(ESCAPED, name)
 }

@@ -29,9 +29,15 @@ pub(crate) enum Piece {
 
 /// A text to which more is added until memory is refused, and which then says so.
 ///
-/// Templates are added: in one `$` and a letter stand for what `holes.rt` says, `~` for a blank
-/// where the line may end, `^` for where a call may be broken, `@` for where a line ends and goes
-/// on; `%` is before a name that no import brings.
+/// Templates are added to it. In a template
+///
+/// | Letters | Stand for |
+/// |---|---|
+/// | `$` and a letter | what `holes.rt` says |
+/// | `~` | a blank where the line may end |
+/// | `^` | a place where a call may be broken |
+/// | `@` | the end of a line that goes on in the next |
+/// | `%` | nothing: the name after it is brought by no import |
 #[derive(Drop)]
 pub(crate) struct Printer<'a> {
     pub(crate) context: &'a Context<'a>,

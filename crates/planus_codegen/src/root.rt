@@ -44,8 +44,8 @@ const WHERE: &str = "
 /// accessors is of, as `crew[3].name`, or `None` if none do within the default limits.
 pub fn where_is(^alloc: std::alloc::Global,^error: &planus::Error,^bytes: &[u8]^) -> \
      %Result<Option<planus_views::FieldPath>, std::alloc::AllocError>
-    ensures {~(names : NamesV) ×~IsWhere~verified_schema~names~$a~default_limits~error.now~\
-     bytes.now~result }
+    ensures {~IsWhereBy~verified_schema~verified_names~$a~default_limits~error.now~bytes.now~\
+     result }
 {
     let names = crate::verified::names();
     let limits = planus_views::Limits::default();
@@ -55,8 +55,8 @@ pub fn where_is(^alloc: std::alloc::Global,^error: &planus::Error,^bytes: &[u8]^
 /// The same of a fault of verification.
 pub fn where_fault_is(^alloc: std::alloc::Global,^fault: &planus_views::Fault,^bytes: &[u8]^) -> \
      %Result<Option<planus_views::FieldPath>, std::alloc::AllocError>
-    ensures {~(names : NamesV) ×~IsWhereFault~verified_schema~names~$a~default_limits~fault.now~\
-     bytes.now~result }
+    ensures {~IsWhereFaultBy~verified_schema~verified_names~$a~default_limits~fault.now~bytes.now~\
+     result }
 {
     let names = crate::verified::names();
     let limits = planus_views::Limits::default();
@@ -104,9 +104,12 @@ pub fn has_identifier(bytes: &[u8]) -> bool
 /// Prints the functions that read and finish a buffer by its root.
 pub(crate) fn print_root<'a>(context: &'a Context<'a>, at: At) -> Printer<'a> {
     let mut printer = Printer::new(context);
-    printer.put_pieces(&[Once(READ), Once(READ_SIZED), Once(VERIFY)], at);
-    printer.put_verified_buffers(at);
-    printer.put(WHERE, at);
+    printer.put_pieces(&[Once(READ), Once(READ_SIZED)], at);
+    if context.verified {
+        printer.put(VERIFY, at);
+        printer.put_verified_buffers(at);
+        printer.put(WHERE, at);
+    }
     if context.identifier.is_some() {
         printer.put_pieces(&[Once(FINISH), Once(FINISH_SIZED), Once(CHECK)], at);
     }

@@ -7,35 +7,26 @@ use crate::printer::{Piece, Printer};
 use planus_layout::TableField;
 use planus_plan::{Line, Plan};
 
-/// Of which view it is.
-#[derive(Clone, Copy)]
-pub(crate) struct Shown {
-    head: &'static str,
-    /// A field that leads back, by its reference alone.
-    unread: &'static str,
-    /// The same of a vector.
-    unread_vector: &'static str,
-}
-
-pub(crate) const CHECKED: Shown = Shown {
-    head: "
+const CHECKED: &str = "
 impl<'a> std::fmt::Debug for $TRef<'a> {
     fn fmt<%W: std::fmt::Write>(^&self,^f: &mut std::fmt::Formatter<%W>^) -> std::fmt::Result {
         let mut shown = f.debug_struct(\"$TRef\");
-",
-    unread: "&planus_views::Unread::new(self.0, $o, \"%$tRef\")",
-    unread_vector: "&planus_views::Unread::new(self.0, $o, \"[%$tRef]\")",
-};
+";
 
-pub(crate) const VERIFIED: Shown = Shown {
-    head: "
+/// A field that leads back is shown by its reference alone.
+const UNREAD: &str = "&planus_views::Unread::new(self.0, $o, \"%$tRef\")";
+
+/// The same of a vector.
+const UNREAD_VECTOR: &str = "&planus_views::Unread::new(self.0, $o, \"[%$tRef]\")";
+
+const VERIFIED: &str = "
 impl<'a> std::fmt::Debug for $TView<'a> {
     fn fmt<%W: std::fmt::Write>(^&self,^f: &mut std::fmt::Formatter<%W>^) -> std::fmt::Result {
-        let mut shown = f.debug_struct(\"$TView\");
-",
-    unread: "&planus_views::Unread::new(self.0.table(), $o, \"%$tView\")",
-    unread_vector: "&planus_views::Unread::new(self.0.table(), $o, \"[%$tView]\")",
-};
+        let checked: $TRef<'a> = planus::TableView::of_table(self.0.table());
+        f.debug_tuple(\"$TView\").field(&checked).finish()
+    }
+}
+";
 
 /// The place of the declaration is how many there are.
 const FLAGS: &str = "
@@ -60,23 +51,28 @@ const END: &str = "        shown.finish()
 ";
 
 impl<'a> Printer<'a> {
-    fn put_shown_field(&mut self, line: Line<'_>, shown: Shown) {
+    fn put_shown_field(&mut self, line: Line<'_>) {
         let at = At::line(&line);
         let context = self.context;
         self.put("        shown.field(^\"$s\",^", at);
         let reads_on = shows_on(&context.left, context.declared, line.table, line.field);
-        self.put(value_of(line.field, reads_on, shown), at);
+        self.put(value_of(line.field, reads_on), at);
         self.put("^);\n", at);
     }
 
     /// Adds `Debug` of a table's view.
-    pub(crate) fn put_shown(&mut self, plan: &Plan<'_>, shown: Shown) {
+    pub(crate) fn put_shown(&mut self, plan: &Plan<'_>) {
         let at = At::declaration(plan.table);
-        self.put(shown.head, at);
+        self.put(CHECKED, at);
         for line in &plan.lines {
-            self.put_shown_field(*line, shown);
+            self.put_shown_field(*line);
         }
         self.put(END, at);
+    }
+
+    /// Adds that of its verified view: the other one's.
+    pub(crate) fn put_shown_verified(&mut self, at: At) {
+        self.put(VERIFIED, at);
     }
 
     /// Adds `Debug` of flags.
@@ -86,12 +82,12 @@ impl<'a> Printer<'a> {
     }
 }
 
-fn value_of(field: &TableField, reads_on: bool, shown: Shown) -> &'static str {
+fn value_of(field: &TableField, reads_on: bool) -> &'static str {
     if reads_on {
         "&self.$n()"
     } else if field.kind.vector {
-        shown.unread_vector
+        UNREAD_VECTOR
     } else {
-        shown.unread
+        UNREAD
     }
 }

@@ -4,7 +4,6 @@ use crate::at::At;
 use crate::context::Context;
 use crate::defaults::{default_value, has_constant, is_named_in_clauses, is_zero};
 use crate::printer::Printer;
-use crate::shown::CHECKED;
 use crate::types::{has_default, is_optional, is_union};
 use planus_layout::{Base, Declared, TableField};
 use planus_plan::{Line, Plan};
@@ -287,6 +286,6 @@ pub(crate) fn print_table<'a>(
     printer.put_create(plan, &entries);
     printer.put_view(plan);
     printer.put(KIND, at.member(plan.vtable_size));
-    printer.put_shown(plan, CHECKED);
+    printer.put_shown(plan);
     Ok(printer)
 }

@@ -214,6 +214,8 @@ pub(crate) fn print_variants<'a>(context: &'a Context<'a>, at: At, one: &Union) 
     } else {
         printer.put_pieces(&LISTED_VARIANTS, at);
     }
-    printer.put_verified_variants(at, one);
+    if context.verified {
+        printer.put_verified_variants(at, one);
+    }
     printer
 }

@@ -26,18 +26,31 @@ const FIELD_NAME: [&str; 5] = [
 const NAMES: &str = "
 /// Returns the names of the schema's tables and fields.
 pub(crate) fn names() -> Names<'static>
-    ensures tables { length result.tables.now ≡ ";
-
-const FIELDS: &str = " }
-    ensures fields { length result.fields.now ≡ ";
-
-const BODY: &str = " }
+    ensures { name_texts (names_of result) ≡ verified_names }
 {
     Names {
         tables: &TABLE_NAMES,
         fields: &FIELD_NAMES,
     }
 }
+";
+
+const TABLE_TEXTS: &str = "
+-- the tables' names by their indices
+abbrev pub table_names : List (ℕ × List ℕ)
+table_names =";
+
+const FIELD_TEXTS: &str = "~[]
+
+-- the fields' names by the indices of their tables and by their slots
+abbrev pub field_names : List (ℕ × ℕ × List ℕ)
+field_names =";
+
+const TEXTS: &str = "~[]
+
+-- the names of both
+abbrev pub verified_names : NameTexts
+verified_names = record { tables = table_names; fields = field_names }
 ";
 
 impl<'a> Entries<'a> {
@@ -66,9 +79,32 @@ pub(crate) fn put_names<'a>(
     printer.put_constant("TABLE_NAMES", "TableName<'static>", &tables);
     printer.put_constant("FIELD_NAMES", "FieldName<'static>", &fields);
     printer.put_str(NAMES);
-    printer.put_number(tables.count as u64);
-    printer.put_str(FIELDS);
-    printer.put_number(fields.count as u64);
-    printer.put_str(BODY);
     Ok(())
+}
+
+impl<'a> Printer<'a> {
+    fn put_field_texts(&mut self, at: At, one: &Table) -> Result<(), AllocError> {
+        for place in places_by_slot(self.context, one)? {
+            self.put("~($a, $r, codes \"$s\") ∷", at.member(place));
+        }
+        Ok(())
+    }
+
+    /// Adds the definition of the names, in the same order.
+    pub(crate) fn put_name_texts(&mut self) -> Result<(), AllocError> {
+        let context = self.context;
+        let mut fields = Printer::new(context);
+        self.put_str(TABLE_TEXTS);
+        for (index, declared) in context.declared.iter().enumerate() {
+            if let Body::Table(one) = &declared.body {
+                let at = At::declaration(index);
+                self.put("~($a, codes \"$T\") ∷", at);
+                fields.put_field_texts(at, one)?;
+            }
+        }
+        self.put(FIELD_TEXTS, At::declaration(0));
+        self.join(&fields);
+        self.put(TEXTS, At::declaration(0));
+        Ok(())
+    }
 }

@@ -10,9 +10,9 @@ use planus_layout::{Base, Body, Table, TableField, Union};
 use std::alloc::AllocError;
 
 const USES: &str = "\
-ghost use Rattle.std.specs.Prelude.{◌≡◌, length};
-ghost use Rattle.planus_views.specs.Printed.{shapes};
-ghost use Rattle.$c.specs.Verified.{verified_schema};
+ghost use Rattle.std.specs.Prelude.{◌≡◌};
+ghost use Rattle.planus_views.specs.Printed.{shapes, names_of, name_texts};
+ghost use Rattle.$c.specs.Verified.{verified_schema, verified_names};
 
 use planus_views::{
     FieldKind, FieldName, FieldShape, Names, Schema, TableName, TableShape, ValueKind, Variant,
@@ -33,10 +33,10 @@ pub(crate) fn schema() -> Schema<'static>
 ";
 
 const DEFINITIONS: &str = "\
--- The schema as a value.
-use Rattle.std.specs.Prelude.{◌≡◌, true}
+-- The schema as a value, and its names.
+use Rattle.std.specs.Prelude.{◌≡◌, ◌∷◌, [], ℕ, List, codes, true}
 use Rattle.std.proofs.Common.{refl}
-use Rattle.planus_views.specs.Printed.{Shapes, is_whole}
+use Rattle.planus_views.specs.Printed.{Shapes, is_whole, NameTexts}
 use Rattle.$c.specs.declared.verified.TheConstants.{FIELDS, TABLES, VARIANTS}
 
 abbrev pub verified_schema : Shapes
@@ -174,9 +174,12 @@ pub(crate) fn print_schema<'a>(context: &'a Context<'a>) -> Result<Printer<'a>, 
     Ok(printer)
 }
 
-/// Prints its definition.
-pub(crate) fn print_schema_definition<'a>(context: &'a Context<'a>) -> Printer<'a> {
+/// Prints its definition, with that of its names.
+pub(crate) fn print_schema_definition<'a>(
+    context: &'a Context<'a>,
+) -> Result<Printer<'a>, AllocError> {
     let mut printer = Printer::new(context);
     printer.put(DEFINITIONS, At::declaration(0));
-    printer
+    printer.put_name_texts()?;
+    Ok(printer)
 }

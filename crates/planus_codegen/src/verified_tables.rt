@@ -5,7 +5,6 @@ use crate::context::Context;
 use crate::defaults::{default_value, has_constant};
 use crate::order::Order;
 use crate::printer::Printer;
-use crate::shown::VERIFIED as SHOWN;
 use crate::table_views::{value_clause, vector_clause};
 use crate::types::{has_default, is_bytes, is_union};
 use planus_layout::{Base, FieldType, TableField};
@@ -251,7 +250,7 @@ impl<'a> Printer<'a> {
         self.put_constant_uses(plan);
         self.put_str("\n");
         self.join(&methods);
-        self.put_shown(plan, SHOWN);
+        self.put_shown_verified(At::declaration(plan.table));
         self.put_verify(plan, order);
     }
 

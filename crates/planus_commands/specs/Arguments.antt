@@ -18,6 +18,7 @@ use Rattle.planus_commands.specs.declared.arguments.Choice.TheVariants.{Folder, 
 use Rattle.planus_commands.specs.declared.arguments.Choice.TheVariants.{Root, SizePrefixed, Lines}
 use Rattle.planus_commands.specs.declared.arguments.Choice.TheVariants.{Bytes, Output}
 use Rattle.planus_commands.specs.declared.arguments.Choice.TheVariants.{Check as CheckChoice}
+use Rattle.planus_commands.specs.declared.arguments.Choice.TheVariants.{NoVerified}
 use Rattle.planus_commands.specs.declared.arguments.Choice.TheVariants.{Help as HelpChoice}
 use Rattle.planus_commands.specs.declared.arguments.Joined.{Joined}
 use Rattle.planus_commands.specs.declared.arguments.Words.{Words}
@@ -34,6 +35,7 @@ pub record WordsV : Type 0 where
   pub bytes : Option (List ℕ)
   pub output : Option (List ℕ)
   pub check : Bool
+  pub no_verified : Bool
   pub help : Bool
   pub only_files : Bool
   pub wants : Option Choice
@@ -50,6 +52,7 @@ no_words = record {
   bytes = None;
   output = None;
   check = false;
+  no_verified = false;
   help = false;
   only_files = false;
   wants = None;
@@ -67,6 +70,7 @@ words_of w = record {
   bytes = option_map (λ s. s.now) w.bytes;
   output = option_map (λ s. s.now) w.output;
   check = w.check;
+  no_verified = w.no_verified;
   help = w.help;
   only_files = w.only_files;
   wants = w.wants;
@@ -87,7 +91,8 @@ view_option w = if bytes_eq w (codes "-I") then Some Folder
 abbrev pub rattle_option : List ℕ → Option Choice
 rattle_option w = if bytes_eq w (codes "-I") then Some Folder
     else if bytes_eq w (codes "-o") then Some Output
-    else if bytes_eq w (codes "--check") then Some CheckChoice else None
+    else if bytes_eq w (codes "--check") then Some CheckChoice
+    else if bytes_eq w (codes "--no-verified") then Some NoVerified else None
 
 -- `--help`, or `-h`
 abbrev pub is_help : List ℕ → Bool
@@ -145,6 +150,7 @@ with_choice ws Bytes = record ws { wants = Some Bytes }
 with_choice ws Output = record ws { wants = Some Output }
 with_choice ws SizePrefixed = record ws { size_prefixed = true }
 with_choice ws CheckChoice = record ws { check = true }
+with_choice ws NoVerified = record ws { no_verified = true }
 with_choice ws Write = record ws { write = true }
 with_choice ws HelpChoice = record ws { help = true }
 
@@ -158,6 +164,7 @@ with_value ws Output w = record ws { output = Some w }
 with_value ws Write w = ws
 with_value ws SizePrefixed w = ws
 with_value ws CheckChoice w = ws
+with_value ws NoVerified w = ws
 with_value ws HelpChoice w = ws
 
 abbrev pub with_joined : WordsV → List ℕ → Option JoinedV → WordsV

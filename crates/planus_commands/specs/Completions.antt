@@ -78,8 +78,8 @@ option_words Check = codes "-I" ∷ codes "--help" ∷ codes "-h" ∷ []
 option_words Format = codes "--write" ∷ codes "--check" ∷ codes "--help" ∷ codes "-h" ∷ []
 option_words View = codes "-I" ∷ codes "--root" ∷ codes "--size-prefixed" ∷ codes "--lines"
     ∷ codes "--bytes" ∷ codes "--help" ∷ codes "-h" ∷ []
-option_words RattleCommand =
-    codes "-I" ∷ codes "-o" ∷ codes "--check" ∷ codes "--help" ∷ codes "-h" ∷ []
+option_words RattleCommand = codes "-I" ∷ codes "-o" ∷ codes "--check" ∷ codes "--no-verified"
+    ∷ codes "--help" ∷ codes "-h" ∷ []
 option_words Dot = codes "-I" ∷ codes "--help" ∷ codes "-h" ∷ []
 option_words Completions = codes "--help" ∷ codes "-h" ∷ []
 

@@ -157,31 +157,33 @@ SaysLine true name unsaid said = said ≡ unsaid
 SaysLine false name unsaid said = Appends unsaid said (crates_line name)
 
 -- All files of a crate with the code of a schema have their texts or were written.
-pub record PrintsCrate (disk : Disk) (folder name : List ℕ) (check : Bool) (schema : Schema)
-    (unsaid said : Option (List ℕ)) : Type 0 where
+pub record PrintsCrate (disk : Disk) (folder name : List ℕ) (check verified : Bool)
+    (schema : Schema) (unsaid said : Option (List ℕ)) : Type 0 where
   pub files : List PrintedFile
-  pub are : IsPrinted schema.declarations.items files
+  pub are : IsPrinted verified schema.declarations.items files
   pub told : Option (List ℕ)
   pub prints : PrintsAll disk folder check files 0 0 unsaid told
   pub says : SaysLine check name told said
 
 -- A crate has the code of what the named file means.
-pub record PrintsNamed (places : Places) (word folder name : List ℕ) (check : Bool)
+pub record PrintsNamed (places : Places) (word folder name : List ℕ) (check verified : Bool)
     (unsaid said : Option (List ℕ)) : Type 0 where
   pub schema : Schema
   pub told : Option (List ℕ)
   pub means : MeansAll places (file_named word) (Some schema) unsaid told
-  pub prints : PrintsCrate places.disk folder name check schema told said
+  pub prints : PrintsCrate places.disk folder name check verified schema told said
 
 -- The crate has a name that crates can have.
-pub record PrintsOne (places : Places) (check : Bool) (word : List ℕ)
+pub record PrintsOne (places : Places) (check verified : Bool) (word : List ℕ)
     (unsaid said : Option (List ℕ)) : Type 0 where
   pub folder : List ℕ
   pub name : List ℕ
   pub is : is_crate_name name ≡ true
-  pub prints : PrintsNamed places word folder name check unsaid said
+  pub prints : PrintsNamed places word folder name check verified unsaid said
 
 -- `rattle` has one schema.
-abbrev pub PrintsCode : Places → Bool → List (List ℕ) → Option (List ℕ) → Option (List ℕ) → Type 0
-PrintsCode places check (word ∷ []) unsaid said = PrintsOne places check word unsaid said
-PrintsCode places check other unsaid said = ⊥
+abbrev pub PrintsCode : Places → Bool → Bool → List (List ℕ) → Option (List ℕ) → Option (List ℕ)
+    → Type 0
+PrintsCode places check verified (word ∷ []) unsaid said =
+    PrintsOne places check verified word unsaid said
+PrintsCode places check verified several unsaid said = ⊥

@@ -1,5 +1,5 @@
 -- What a call does with files.
-use Rattle.std.specs.Prelude.{◌≡◌, ◌⊎◌, ⊤, ℕ, Bool, true, false, List, [], ◌∷◌, max, Option, Some, None}
+use Rattle.std.specs.Prelude.{◌≡◌, ◌⊎◌, ⊤, ℕ, Bool, true, false, not, List, [], ◌∷◌, max, Option, Some, None}
 use Rattle.std.specs.Io.KnownBytes.{Keeps}
 use Rattle.planus_layout.specs.declared.schema.Schema.{Schema}
 use Rattle.planus_commands.specs.Arguments.{WordsV, Asked, run}
@@ -77,7 +77,8 @@ abbrev pub RunsCommand : Disk → Command → WordsV → Does
 RunsCommand disk View words status before after unsaid said =
     ViewsFiles disk words words.files status before after unsaid said
 RunsCommand disk RattleCommand words status before after unsaid said =
-    (after ≡ before) × (status ≡ 0 → PrintsCode (places_in disk words) words.check words.files unsaid said)
+    (after ≡ before) × (status ≡ 0 → PrintsCode (places_in disk words) words.check
+    (not words.no_verified) words.files unsaid said)
 RunsCommand disk Check words status before after unsaid said =
     RunsFiles (RunsFile disk false words) words.files 0 status before after unsaid said
 RunsCommand disk Format words status before after unsaid said =

@@ -19,7 +19,7 @@ use planus_syntax::Declaration;
 use std::alloc::{AllocError, Global};
 use std::io::Write;
 
-/// A file, as reports call it.
+/// A file's text, and its name in reports.
 #[derive(Drop)]
 pub struct File {
     pub name: String,

@@ -1,6 +1,6 @@
 //! The command `rattle`: the code of a schema as a crate's files.
 
-ghost use Rattle.std.specs.Prelude.{◌≡◌, true, IfOk, OnOk, MatchOption};
+ghost use Rattle.std.specs.Prelude.{◌≡◌, true, not, IfOk, OnOk, MatchOption};
 ghost use Rattle.std.specs.Io.KnownBytes.{Appends};
 ghost use Rattle.planus_commands.specs.Arguments.{words_of};
 ghost use Rattle.planus_commands.specs.Loading.{places_of};
@@ -34,6 +34,8 @@ struct Folder<'a> {
     name: &'a str,
     /// Whether its files are compared and none is written.
     check: bool,
+    /// Whether it has verified reading.
+    verified: bool,
 }
 
 fn last_word(path: &str) -> &str {
@@ -101,17 +103,23 @@ fn folder_or_report<'a, X: Write>(
     alloc: Global,
     path: &'a str,
     check: bool,
+    verified: bool,
     errors: &mut X,
 ) -> Result<Option<Folder<'a>>, RunError>
     ensures { IfOk result (λ found. MatchOption found
         (RefusesName (X.contents errors.old) (X.contents errors.new))
         (λ folder. (is_crate_name_lem folder.name.now ≡ true) × (folder.check ≡ check)
-        × (X.contents errors.new ≡ X.contents errors.old))) }
+        × (folder.verified ≡ verified) × (X.contents errors.new ≡ X.contents errors.old))) }
 {
     let path = path.trim_end_matches('/');
     let name = last_word(path);
     if is_crate_name(name.as_bytes()) {
-        return Ok(Some(Folder { path, name, check }));
+        return Ok(Some(Folder {
+            path,
+            name,
+            check,
+            verified,
+        }));
     }
     let why = name_fault(name.as_bytes());
     say(alloc, errors, "no crate can have the name `", name, why)?;
@@ -254,9 +262,10 @@ fn print_to<F: Files, X: Write>(
 ) -> Result<u8, RunError>
     requires { is_crate_name_lem folder.name.now ≡ true }
     ensures { IfOk result (λ status. status ≡ 0 → PrintsCrate (F.disk files.now)
-        folder.entry.path.now folder.entry.name.now folder.entry.check schema.now (X.contents errors.old) (X.contents errors.new)) }
+        folder.entry.path.now folder.entry.name.now folder.entry.check
+        folder.entry.verified schema.now (X.contents errors.old) (X.contents errors.new)) }
 {
-    match print_crate(alloc, schema, folder.name) {
+    match print_crate(alloc, schema, folder.name, folder.verified) {
         Ok(printed) => {
             let status = print_files(files, alloc, folder, &printed, errors)?;
             if status == CLEAN && !folder.check {
@@ -288,7 +297,7 @@ fn print_named<F: Files, X: Write>(
     requires { is_crate_name_lem folder.name.now ≡ true }
     ensures { IfOk result (λ status. status ≡ 0 → PrintsNamed
         (places_of (F.disk files.now) folders.now) word.now folder.entry.path.now folder.entry.name.now folder.entry.check
-        (X.contents errors.old) (X.contents errors.new)) }
+        folder.entry.verified (X.contents errors.old) (X.contents errors.new)) }
 {
     let found = schema_at(files, alloc, folders, word, errors)?;
     match &found {
@@ -306,11 +315,12 @@ pub fn print_code<F: Files, X: Write>(
 ) -> Result<u8, RunError>
     ensures { IfOk result (λ status. status ≡ 0 → PrintsCode
         (places_of (F.disk files.now) words.now.folders.items) words.now.check
-        (words_of words.now).files
+        (not words.now.no_verified) (words_of words.now).files
         (X.contents errors.old) (X.contents errors.new)) }
 {
     let path = words.output.unwrap_or("");
-    let Some(folder) = folder_or_report(alloc, path, words.check, errors)? else {
+    let verified = !words.no_verified;
+    let Some(folder) = folder_or_report(alloc, path, words.check, verified, errors)? else {
         return Ok(FAILED);
     };
     match words.files.as_slice() {

@@ -1,4 +1,4 @@
-//! What is written of a call that names no schema.
+//! Help, version, and messages for wrong calls.
 
 ghost use Rattle.std.specs.Prelude.{◌≡◌, ◌++◌, codes, map, true, false, IfOk};
 ghost use Rattle.planus_commands.specs.Outcomes.{line_of};
@@ -36,7 +36,7 @@ planus reads schemas of flatbuffers, shows buffers by them, and prints their cod
 usage: planus check [-I FOLDER].. SCHEMA..
        planus format [--write | --check] SCHEMA..
        planus view [OPTION].. SCHEMA BUFFER
-       planus rattle [--check] [-I FOLDER].. SCHEMA -o FOLDER
+       planus rattle [--check] [--no-verified] [-I FOLDER].. SCHEMA -o FOLDER
        planus dot [-I FOLDER].. SCHEMA
        planus completions bash|zsh|fish
        planus help [COMMAND], planus [COMMAND] --help, planus --version
@@ -85,7 +85,8 @@ Ends with 0 where all is shown, with 1 where something is wrong with the buffer 
 more follows, and with 2 where the call is wrong or a file can't be read.
 ";
 
-const USAGE_OF_RATTLE: &str = "usage: planus rattle [--check] [-I FOLDER].. SCHEMA -o FOLDER\n";
+const USAGE_OF_RATTLE: &str =
+    "usage: planus rattle [--check] [--no-verified] [-I FOLDER].. SCHEMA -o FOLDER\n";
 
 const DETAILS_OF_RATTLE: &str = "
 Prints the code of a schema as a crate: its files in FOLDER, whose last word is the
@@ -93,6 +94,7 @@ crate's name. A file that has its text already is left alone.
 
   -o FOLDER        the folder of the crate, which is made if it isn't there
   --check          writes nothing, and says which files aren't what is printed
+  --no-verified    prints no views of verified buffers, so that less is to be proved
   -I FOLDER        included files are sought in this folder too
 
 Ends with 0 where all is printed, with 1 where the schema has a fault or something
@@ -202,7 +204,7 @@ pub(crate) fn option_words(command: Command) -> &'static [&'static str]
                 "-h",
             ]
         }
-        Command::Rattle => &["-I", "-o", "--check", "--help", "-h"],
+        Command::Rattle => &["-I", "-o", "--check", "--no-verified", "--help", "-h"],
         Command::Dot => &["-I", "--help", "-h"],
         Command::Completions => &["--help", "-h"],
     }

@@ -16,7 +16,7 @@ use planus_syntax::{SchemaError, format_text};
 use std::alloc::{AllocError, Global};
 use std::io::Write;
 
-/// The error must not be refused memory.
+/// Fails for `OutOfMemory`, which has no place.
 pub(crate) fn error_report(
     alloc: Global,
     name: &str,

@@ -73,9 +73,14 @@ abbrev pub HasSchema : Naming → List ℕ → List PrintedFile → Type 0
 HasSchema n ranks files = IsTrue (has_tables n.declared.now)
     → IsSchemaTextTied n ranks (text_at (codes "src/verified.rt") files)
 
--- Each table has its file and that of its view, and there is the schema's value.
-pub record AreTied (n : Naming) (files : List PrintedFile) : Type 0 where
+-- the file of each table's view, and the schema's value
+abbrev pub AreVerifiedTied : Naming → List PrintedFile → Type 0
+AreVerifiedTied n files =
+    AreViewsTied n (ranks_of n.declared.now) (totals_of n.declared.now) files 0 n.declared.now
+    × HasSchema n (ranks_of n.declared.now) files
+
+-- Each table has its file, and where verified reading is printed, that of its view, and there is the
+-- schema's value.
+pub record AreTied (verified : Bool) (n : Naming) (files : List PrintedFile) : Type 0 where
   pub tables : AreTablesTied n files 0 n.declared.now
-  pub views : AreViewsTied n (ranks_of n.declared.now) (totals_of n.declared.now) files 0
-      n.declared.now
-  pub schema : HasSchema n (ranks_of n.declared.now) files
+  pub views : IsTrue verified → AreVerifiedTied n files

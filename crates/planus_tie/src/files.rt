@@ -6,7 +6,7 @@ ghost use Rattle.planus_tie.specs.Files.{path_of as path_of_lem, text_at as text
 ghost use Rattle.planus_tie.specs.Files.{newer as newer_lem, IsBodyTied, AreTablesTied};
 ghost use Rattle.planus_tie.specs.Files.{view_path_of as view_path_of_lem, IsBodyViewTied};
 ghost use Rattle.planus_tie.specs.Files.{AreViewsTied, has_tables as has_tables_lem, HasSchema};
-ghost use Rattle.planus_tie.specs.Files.{AreTied, IsViewTextTied};
+ghost use Rattle.planus_tie.specs.Files.{AreTied, AreVerifiedTied, IsViewTextTied};
 
 use crate::naming::Naming;
 use crate::pieces::push_str;
@@ -189,22 +189,36 @@ fn has_schema(
     }
 }
 
-/// Returns whether the files of each table and of its view are the table's, and the schema's value
-/// is the schema's.
-pub fn are_tied(
+fn are_verified_tied(
     alloc: Global,
     naming: &Naming<'_>,
     files: &[PrintedFile],
 ) -> Result<bool, AllocError>
-    ensures { IfOk result (λ b. IsTrue b → AreTied naming.now files.now) }
+    ensures { IfOk result (λ b. IsTrue b → AreVerifiedTied naming.now files.now) }
 {
     let ranks = ranks_of(alloc, naming.declared)?;
     let totals = totals_of(alloc, naming.declared)?;
-    if !are_tables_tied(alloc, naming, files)? {
-        return Ok(false);
-    }
     if !are_views_tied(alloc, naming, &ranks, &totals, files)? {
         return Ok(false);
     }
     has_schema(alloc, naming, &ranks, files)
+}
+
+/// Returns whether the file of each table is the table's, and where verified reading is printed,
+/// that of its view is, and the schema's value is the schema's.
+pub fn are_tied(
+    alloc: Global,
+    naming: &Naming<'_>,
+    files: &[PrintedFile],
+    verified: bool,
+) -> Result<bool, AllocError>
+    ensures { IfOk result (λ b. IsTrue b → AreTied verified naming.now files.now) }
+{
+    if !are_tables_tied(alloc, naming, files)? {
+        return Ok(false);
+    }
+    if !verified {
+        return Ok(true);
+    }
+    are_verified_tied(alloc, naming, files)
 }

@@ -1,18 +1,18 @@
-//! How much the checker takes of a list of fields.
+//! The cost of each field to the checker. A list above [`MOST`] is split into groups.
 
 use crate::kinds::has_default;
 use planus_layout::{Base, TableField};
 use planus_plan::Line;
 
-/// What it takes of a list, in the shares of its entries.
+/// The greatest cost of a list.
 pub(crate) const MOST: usize = 1000;
 
-/// The share of a group of fields: twelve are taken with four numbers beside them.
+/// The cost of a group of fields: a list of 12 groups and 4 numbers still passes.
 pub(crate) const GROUP: usize = 74;
 
-/// The share of a field: 38 numbers with a default are taken, 47 without, 27 enums with a default,
-/// 35 enums or structs without, 27 strings, 25 tables, 24 unions, 22 vectors of numbers, 20 of
-/// strings, or 16 of tables or unions, each of a type of its own.
+/// The cost of a field. In one list pass 38 numbers with a default, 47 without, 27 enums with a
+/// default, 35 enums or structs without, 27 strings, 25 tables, 24 unions, 22 vectors of numbers, 20
+/// of strings, or 16 of tables or unions, each of a type of its own.
 pub(crate) fn share_of(field: &TableField) -> usize {
     let default = has_default(field);
     match (field.kind.base, field.kind.vector) {
@@ -29,7 +29,7 @@ pub(crate) fn share_of(field: &TableField) -> usize {
     }
 }
 
-/// Whether these fields are more than it takes in one list.
+/// Whether these fields cost more than one list may.
 pub(crate) fn are_many(lines: &[Line<'_>]) -> bool {
     let mut shares = 0usize;
     for line in lines {

@@ -1,5 +1,5 @@
 -- The names of a schema.
-use Rattle.std.specs.Prelude.{ℕ, ◌==◌, ◌&&◌, List, [], ◌∷◌, ◌++◌, codes, decimal}
+use Rattle.std.specs.Prelude.{ℕ, ◌==◌, ◌&&◌, List, [], ◌∷◌, ◌++◌, map, codes, decimal}
 use Rattle.std.specs.Prelude.{Option, Some, None, if◌then◌else◌}
 use Rattle.std.specs.Str.{bytes_eq}
 use Rattle.planus_verify.specs.declared.fault.FieldPlace.{FieldPlace}
@@ -13,6 +13,22 @@ pub record NamesV : Type 0 where
 
 abbrev pub names_of : Names → NamesV
 names_of names = record { tables = names.tables.now; fields = names.fields.now }
+
+-- The same without references: the name of each table after its index, and that of each field after
+-- the index of its table and its slot.
+pub record NameTexts : Type 0 where
+  pub tables : List (ℕ × List ℕ)
+  pub fields : List (ℕ × ℕ × List ℕ)
+
+abbrev pub table_text : TableName → ℕ × List ℕ
+table_text one = (one.index, one.table.now)
+
+abbrev pub field_text : FieldName → ℕ × ℕ × List ℕ
+field_text one = (one.table, one.slot, one.field.now)
+
+abbrev pub name_texts : NamesV → NameTexts
+name_texts names = record
+    { tables = map table_text names.tables; fields = map field_text names.fields }
 
 -- the index of the first table of this name
 abbrev pub table_named : List TableName → List ℕ → Option ℕ

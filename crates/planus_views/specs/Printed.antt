@@ -8,9 +8,9 @@ pub use Rattle.planus_views.specs.CheckedVectors.{checked_texts, checked_tables,
 pub use Rattle.planus_views.specs.Fields.{IsMember}
 pub use Rattle.planus_views.specs.Members.{ReturnsAs, checked_option, Checked, unknown}
 pub use Rattle.planus_views.specs.Members.{member_tag, member_bytes, member_start, member_offset}
-pub use Rattle.planus_views.specs.Names.{NamesV, names_of}
+pub use Rattle.planus_views.specs.Names.{NameTexts, name_texts, names_of}
 pub use Rattle.planus_views.specs.Nested.{IsNestedField, IsNestedRequired}
 pub use Rattle.planus_views.specs.Vectors.{Returns}
 pub use Rattle.planus_views.specs.Views.{view_table}
-pub use Rattle.planus_views.specs.Wheres.{IsWhere, IsWhereFault, default_limits}
+pub use Rattle.planus_views.specs.Wheres.{IsWhereBy, IsWhereFaultBy, default_limits}
 pub use Rattle.planus_verify.specs.Whole.{is_whole}

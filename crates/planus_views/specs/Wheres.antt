@@ -12,7 +12,8 @@ use Rattle.planus_verify.specs.declared.fault.FieldPlace.{FieldPlace}
 use Rattle.planus_verify.specs.declared.limits.Limits.{Limits}
 use Rattle.planus_verify.specs.declared.sought.Sought.{Sought}
 use Rattle.planus_verify.specs.declared.sought.Sought.TheVariants as sought
-use Rattle.planus_views.specs.Names.{NamesV, table_named, slot_named, trail_text}
+use Rattle.planus_views.specs.Names.{NamesV, NameTexts, name_texts, table_named, slot_named}
+use Rattle.planus_views.specs.Names.{trail_text}
 use Rattle.planus_views.specs.declared.field_path.FieldPath.{FieldPath}
 
 -- what it shows
@@ -61,3 +62,15 @@ module _ (schema : Shapes) (names : NamesV) (t : ℕ) (limits : Limits) where
 pub record IsWhere {E : Type 0} (schema : Shapes) (names : NamesV) (t : ℕ) (limits : Limits)
     (error : Error) (S : List ℕ) (result : Result (Option FieldPath) E) : Type 0 where
   pub there : IsWhereAt schema names t limits (sought_named names error.source_location) S result
+
+-- The same by names of which only the texts are told.
+
+abbrev pub IsWhereBy : {E : Type 0} → Shapes → NameTexts → ℕ → Limits → Error → List ℕ
+    → Result (Option FieldPath) E → Type 0
+IsWhereBy schema texts t limits error S result = (names : NamesV) × (name_texts names ≡ texts)
+    × IsWhere schema names t limits error S result
+
+abbrev pub IsWhereFaultBy : {E : Type 0} → Shapes → NameTexts → ℕ → Limits → Fault → List ℕ
+    → Result (Option FieldPath) E → Type 0
+IsWhereFaultBy schema texts t limits fault S result = (names : NamesV)
+    × (name_texts names ≡ texts) × IsWhereFault schema names t limits fault S result

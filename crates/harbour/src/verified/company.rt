@@ -79,10 +79,8 @@ impl<'a> CompanyView<'a> {
 
 impl<'a> std::fmt::Debug for CompanyView<'a> {
     fn fmt<W: std::fmt::Write>(&self, f: &mut std::fmt::Formatter<W>) -> std::fmt::Result {
-        let mut shown = f.debug_struct("CompanyView");
-        shown.field("title", &self.title());
-        shown.field("vat", &self.vat());
-        shown.finish()
+        let checked: CompanyRef<'a> = planus::TableView::of_table(self.0.table());
+        f.debug_tuple("CompanyView").field(&checked).finish()
     }
 }
 

@@ -124,19 +124,8 @@ impl<'a> EntryView<'a> {
 
 impl<'a> std::fmt::Debug for EntryView<'a> {
     fn fmt<W: std::fmt::Write>(&self, f: &mut std::fmt::Formatter<W>) -> std::fmt::Result {
-        let mut shown = f.debug_struct("EntryView");
-        shown.field("at", &self.at());
-        shown.field("text", &self.text());
-        shown.field("origin", &self.origin());
-        shown.field(
-            "cause",
-            &planus_views::Unread::new(self.0.table(), 4, "CauseView"),
-        );
-        shown.field(
-            "parents",
-            &planus_views::Unread::new(self.0.table(), 5, "[EntryView]"),
-        );
-        shown.finish()
+        let checked: EntryRef<'a> = planus::TableView::of_table(self.0.table());
+        f.debug_tuple("EntryView").field(&checked).finish()
     }
 }
 

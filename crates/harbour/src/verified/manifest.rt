@@ -467,56 +467,8 @@ impl<'a> ManifestView<'a> {
 
 impl<'a> std::fmt::Debug for ManifestView<'a> {
     fn fmt<W: std::fmt::Write>(&self, f: &mut std::fmt::Formatter<W>) -> std::fmt::Result {
-        let mut shown = f.debug_struct("ManifestView");
-        shown.field("number", &self.number());
-        shown.field("issued", &self.issued());
-        shown.field("weight", &self.weight());
-        shown.field("worth", &self.worth());
-        shown.field("boxes", &self.boxes());
-        shown.field("debt", &self.debt());
-        shown.field("pages", &self.pages());
-        shown.field("shift", &self.shift());
-        shown.field("tier", &self.tier());
-        shown.field("lean", &self.lean());
-        shown.field("sealed", &self.sealed());
-        shown.field("opened", &self.opened());
-        shown.field("kind", &self.kind());
-        shown.field("level", &self.level());
-        shown.field("needs", &self.needs());
-        shown.field("signal", &self.signal());
-        shown.field("rank", &self.rank());
-        shown.field("margin", &self.margin());
-        shown.field("dues", &self.dues());
-        shown.field("paid", &self.paid());
-        shown.field("grade", &self.grade());
-        shown.field("berth", &self.berth());
-        shown.field("gauge", &self.gauge());
-        shown.field("title", &self.title());
-        shown.field("note", &self.note());
-        shown.field("scan", &self.scan());
-        shown.field("stamp", &self.stamp());
-        shown.field("weights", &self.weights());
-        shown.field("counts", &self.counts());
-        shown.field("offsets", &self.offsets());
-        shown.field("marks", &self.marks());
-        shown.field("kinds", &self.kinds());
-        shown.field("track", &self.track());
-        shown.field("labels", &self.labels());
-        shown.field("holders", &self.holders());
-        shown.field("ship", &self.ship());
-        shown.field(
-            "next",
-            &planus_views::Unread::new(self.0.table(), 36, "ManifestView"),
-        );
-        shown.field("persons", &self.persons());
-        shown.field(
-            "parts",
-            &planus_views::Unread::new(self.0.table(), 38, "[ManifestView]"),
-        );
-        shown.field("owner", &self.owner());
-        shown.field("payer", &self.payer());
-        shown.field("owners", &self.owners());
-        shown.finish()
+        let checked: ManifestRef<'a> = planus::TableView::of_table(self.0.table());
+        f.debug_tuple("ManifestView").field(&checked).finish()
     }
 }
 

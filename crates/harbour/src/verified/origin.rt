@@ -79,10 +79,8 @@ impl<'a> OriginView<'a> {
 
 impl<'a> std::fmt::Debug for OriginView<'a> {
     fn fmt<W: std::fmt::Write>(&self, f: &mut std::fmt::Formatter<W>) -> std::fmt::Result {
-        let mut shown = f.debug_struct("OriginView");
-        shown.field("host", &self.host());
-        shown.field("port", &self.port());
-        shown.finish()
+        let checked: OriginRef<'a> = planus::TableView::of_table(self.0.table());
+        f.debug_tuple("OriginView").field(&checked).finish()
     }
 }
 

@@ -79,10 +79,8 @@ impl<'a> PersonView<'a> {
 
 impl<'a> std::fmt::Debug for PersonView<'a> {
     fn fmt<W: std::fmt::Write>(&self, f: &mut std::fmt::Formatter<W>) -> std::fmt::Result {
-        let mut shown = f.debug_struct("PersonView");
-        shown.field("name", &self.name());
-        shown.field("age", &self.age());
-        shown.finish()
+        let checked: PersonRef<'a> = planus::TableView::of_table(self.0.table());
+        f.debug_tuple("PersonView").field(&checked).finish()
     }
 }
 

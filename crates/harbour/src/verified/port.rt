@@ -148,16 +148,8 @@ impl<'a> PortView<'a> {
 
 impl<'a> std::fmt::Debug for PortView<'a> {
     fn fmt<W: std::fmt::Write>(&self, f: &mut std::fmt::Formatter<W>) -> std::fmt::Result {
-        let mut shown = f.debug_struct("PortView");
-        shown.field("owner", &self.owner());
-        shown.field("ships", &self.ships());
-        shown.field("berths", &self.berths());
-        shown.field("shares", &self.shares());
-        shown.field("soundings", &self.soundings());
-        shown.field("chart", &self.chart());
-        shown.field("gauge", &self.gauge());
-        shown.field("hoisted", &self.hoisted());
-        shown.finish()
+        let checked: PortRef<'a> = planus::TableView::of_table(self.0.table());
+        f.debug_tuple("PortView").field(&checked).finish()
     }
 }
 

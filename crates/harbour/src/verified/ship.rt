@@ -320,40 +320,8 @@ impl<'a> ShipView<'a> {
 
 impl<'a> std::fmt::Debug for ShipView<'a> {
     fn fmt<W: std::fmt::Write>(&self, f: &mut std::fmt::Formatter<W>) -> std::fmt::Result {
-        let mut shown = f.debug_struct("ShipView");
-        shown.field("name", &self.name());
-        shown.field("hull", &self.hull());
-        shown.field("cargo", &self.cargo());
-        shown.field("kind", &self.kind());
-        shown.field("level", &self.level());
-        shown.field("needs", &self.needs());
-        shown.field("home", &self.home());
-        shown.field("track", &self.track());
-        shown.field("heat", &self.heat());
-        shown.field("depth", &self.depth());
-        shown.field("open", &self.open());
-        shown.field("shut", &self.shut());
-        shown.field("maybe", &self.maybe());
-        shown.field("photo", &self.photo());
-        shown.field("names", &self.names());
-        shown.field(
-            "mate",
-            &planus_views::Unread::new(self.0.table(), 15, "ShipView"),
-        );
-        shown.field(
-            "consorts",
-            &planus_views::Unread::new(self.0.table(), 16, "[ShipView]"),
-        );
-        shown.field("kinds", &self.kinds());
-        shown.field("owner", &self.owner());
-        shown.field("shares", &self.shares());
-        shown.field("tall", &self.tall());
-        shown.field("temps", &self.temps());
-        shown.field("deltas", &self.deltas());
-        shown.field("fix", &self.fix());
-        shown.field("which", &self.which());
-        shown.field("flags", &self.flags());
-        shown.finish()
+        let checked: ShipRef<'a> = planus::TableView::of_table(self.0.table());
+        f.debug_tuple("ShipView").field(&checked).finish()
     }
 }
 

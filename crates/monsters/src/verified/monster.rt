@@ -126,14 +126,8 @@ impl<'a> MonsterView<'a> {
 
 impl<'a> std::fmt::Debug for MonsterView<'a> {
     fn fmt<W: std::fmt::Write>(&self, f: &mut std::fmt::Formatter<W>) -> std::fmt::Result {
-        let mut shown = f.debug_struct("MonsterView");
-        shown.field("hp", &self.hp());
-        shown.field("name", &self.name());
-        shown.field("inventory", &self.inventory());
-        shown.field("weapons", &self.weapons());
-        shown.field("equipped", &self.equipped());
-        shown.field("loot", &self.loot());
-        shown.finish()
+        let checked: MonsterRef<'a> = planus::TableView::of_table(self.0.table());
+        f.debug_tuple("MonsterView").field(&checked).finish()
     }
 }
 

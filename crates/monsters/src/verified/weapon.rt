@@ -79,10 +79,8 @@ impl<'a> WeaponView<'a> {
 
 impl<'a> std::fmt::Debug for WeaponView<'a> {
     fn fmt<W: std::fmt::Write>(&self, f: &mut std::fmt::Formatter<W>) -> std::fmt::Result {
-        let mut shown = f.debug_struct("WeaponView");
-        shown.field("name", &self.name());
-        shown.field("damage", &self.damage());
-        shown.finish()
+        let checked: WeaponRef<'a> = planus::TableView::of_table(self.0.table());
+        f.debug_tuple("WeaponView").field(&checked).finish()
     }
 }
 
