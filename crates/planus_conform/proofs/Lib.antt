@@ -1,0 +1,4 @@
+pub mod Parts
+pub mod Alike
+pub mod Witnesses
+pub mod AsRead

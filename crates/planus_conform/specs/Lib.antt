@@ -1,0 +1,11 @@
+pub mod Found
+pub mod Values
+pub mod Reads
+pub mod Matching
+pub mod Alike
+pub mod Types
+pub mod Defaults
+pub mod Breaks
+pub mod Conforms
+pub mod Witnesses
+pub mod AsRead

@@ -1,0 +1,30 @@
+//! Laws of breaks. Each function is a theorem.
+
+ghost use Rattle.std.specs.Prelude.{ℕ, List, Option};
+ghost use Rattle.planus_layout.specs.declared.schema.Declared as declared;
+ghost use Rattle.planus_conform.specs.declared.breaks.Way as ways;
+ghost use Rattle.planus_conform.specs.Witnesses.{ChangesShow};
+ghost use Rattle.planus_conform.specs.AsRead.{TextsAreFound, TablesAreFound};
+
+use planus_dump::laws::readings_are_said;
+
+/// A field that is removed, required by other code or has another default is read differently from
+/// a buffer of twelve bytes, an empty table.
+pub fn changes_have_witnesses()
+    ensures { (way : ways.Way) (matches : List (Option ℕ)) (old new : List declared.Declared)
+        → ChangesShow way matches old new }
+{}
+
+/// The accessor of a string that may be absent returns what is said to be found.
+pub fn texts_are_found()
+    ensures { TextsAreFound }
+{
+    readings_are_said();
+}
+
+/// So does that of a table.
+pub fn tables_are_found()
+    ensures { TablesAreFound }
+{
+    readings_are_said();
+}

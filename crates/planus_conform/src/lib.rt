@@ -1,0 +1,20 @@
+//! Whether code of a new schema reads as that of an old one: see [`conforms`].
+#![tactic(auto)]
+
+mod breaks;
+mod conform;
+mod defaults;
+mod enums;
+mod fields;
+pub mod laws;
+mod matching;
+mod rename;
+mod statements;
+mod structs;
+mod types;
+mod unions;
+mod ways;
+
+pub use breaks::{Break, Change, Place, Way};
+pub use conform::conforms;
+pub use rename::Rename;

@@ -1,0 +1,93 @@
+//! What breaks at structs.
+
+ghost use Rattle.std.specs.Prelude.{◌≡◌, ◌++◌, OnOk};
+ghost use Rattle.std.specs.Option.{option_map};
+ghost use Rattle.planus_conform.specs.Reads.{part_in as part_in_lem};
+ghost use Rattle.planus_conform.specs.Breaks.{is_part_moved as is_part_moved_lem};
+ghost use Rattle.planus_conform.specs.Breaks.{part_change_to as part_change_to_lem};
+ghost use Rattle.planus_conform.specs.Breaks.{part_change as part_change_lem};
+ghost use Rattle.planus_conform.specs.Breaks.{part_breaks, struct_breaks};
+
+use crate::breaks::{Break, Change, Place};
+use crate::types::same_base;
+use crate::ways::{change_if, note};
+use planus_layout::{Struct, StructField};
+use std::alloc::AllocError;
+
+fn part_in(fields: &[StructField], distance: usize) -> Option<&StructField>
+    ensures { option_map (λ f. f.now) result ≡ part_in_lem fields.now distance }
+{
+    'fields: for field in fields {
+        if field.distance == distance {
+            return Some(field);
+        }
+    }
+    None
+}
+
+fn is_part_moved(fields: &[StructField], f: &StructField) -> bool
+    ensures { result ≡ is_part_moved_lem fields.now f.now }
+{
+    fields.iter().any(|g| g.name.as_slice() == f.name.as_slice() && g.distance != f.distance)
+}
+
+fn part_change_to(
+    matches: &[Option<usize>],
+    f: &StructField,
+    g: Option<&StructField>,
+) -> Option<Change>
+    ensures { result ≡ part_change_to_lem matches.now f.now (option_map (λ f. f.now) g.entry) }
+{
+    match g {
+        Some(g) => change_if(!same_base(matches, f.base, g.base), Change::TypeChanged),
+        None => Some(Change::FieldRemoved),
+    }
+}
+
+fn part_change(matches: &[Option<usize>], fields: &[StructField], f: &StructField) -> Option<Change>
+    ensures { result ≡ part_change_lem matches.now fields.now f.now }
+{
+    if is_part_moved(fields, f) {
+        Some(Change::Moved)
+    } else {
+        part_change_to(matches, f, part_in(fields, f.distance))
+    }
+}
+
+fn add_parts(
+    breaks: &mut Vec<Break>,
+    matches: &[Option<usize>],
+    declaration: usize,
+    fields: &[StructField],
+    before: &[StructField],
+) -> Result<(), AllocError>
+    ensures { OnOk result (breaks.new.items ≡ breaks.old.items
+        ++ part_breaks matches.now declaration fields.now before.now) }
+{
+    'fields: for f in before {
+        note(
+            breaks,
+            Place::Part(declaration, f.distance),
+            part_change(matches, fields, f),
+        )?;
+    }
+    Ok(())
+}
+
+pub(crate) fn add_struct(
+    breaks: &mut Vec<Break>,
+    matches: &[Option<usize>],
+    declaration: usize,
+    before: &Struct,
+    after: &Struct,
+) -> Result<(), AllocError>
+    ensures { OnOk result (breaks.new.items ≡ breaks.old.items
+        ++ struct_breaks matches.now declaration before.now after.now) }
+{
+    add_parts(breaks, matches, declaration, &after.fields, &before.fields)?;
+    note(
+        breaks,
+        Place::Declaration(declaration),
+        change_if(before.size != after.size, Change::SizeChanged),
+    )
+}

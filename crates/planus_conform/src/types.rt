@@ -1,0 +1,60 @@
+//! Whether types are the same.
+
+ghost use Rattle.std.specs.Prelude.{◌≡◌, ◌==◌};
+ghost use Rattle.planus_conform.specs.Types.{scalar_code as code_lem};
+ghost use Rattle.planus_conform.specs.Types.{same_base as same_base_lem};
+ghost use Rattle.planus_conform.specs.Types.{same_truth as same_truth_lem};
+ghost use Rattle.planus_conform.specs.Types.{same_type as same_type_lem};
+
+use crate::matching::are_matched;
+use planus_layout::{Base, FieldType, Scalar};
+
+fn scalar_code(scalar: Scalar) -> u8
+    ensures { result ≡ code_lem scalar }
+{
+    match scalar {
+        Scalar::Bool => 0,
+        Scalar::Byte => 1,
+        Scalar::UByte => 2,
+        Scalar::Short => 3,
+        Scalar::UShort => 4,
+        Scalar::Int => 5,
+        Scalar::UInt => 6,
+        Scalar::Long => 7,
+        Scalar::ULong => 8,
+        Scalar::Float => 9,
+        Scalar::Double => 10,
+    }
+}
+
+pub(crate) fn same_scalar(a: Scalar, b: Scalar) -> bool
+    ensures { result ≡ (code_lem a == code_lem b) }
+{
+    scalar_code(a) == scalar_code(b)
+}
+
+pub(crate) fn same_base(matches: &[Option<usize>], a: Base, b: Base) -> bool
+    ensures { result ≡ same_base_lem matches.now a b }
+{
+    match (a, b) {
+        (Base::Scalar(s), Base::Scalar(t)) => same_scalar(s, t),
+        (Base::Text, Base::Text) => true,
+        (Base::Enum(i), Base::Enum(j)) => are_matched(matches, i, j),
+        (Base::Struct(i), Base::Struct(j)) => are_matched(matches, i, j),
+        (Base::Table(i), Base::Table(j)) => are_matched(matches, i, j),
+        (Base::Union(i), Base::Union(j)) => are_matched(matches, i, j),
+        _ => false,
+    }
+}
+
+pub(crate) fn same_truth(a: bool, b: bool) -> bool
+    ensures { result ≡ same_truth_lem a b }
+{
+    if a { b } else { !b }
+}
+
+pub(crate) fn same_type(matches: &[Option<usize>], t: FieldType, u: FieldType) -> bool
+    ensures { result ≡ same_type_lem matches.now t u }
+{
+    same_truth(t.vector, u.vector) && same_base(matches, t.base, u.base)
+}

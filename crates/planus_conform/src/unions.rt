@@ -1,0 +1,144 @@
+//! What breaks at unions.
+
+ghost use Rattle.std.specs.Prelude.{◌≡◌, ◌++◌, OnOk};
+ghost use Rattle.std.specs.Option.{option_map};
+ghost use Rattle.planus_conform.specs.Values.{member_in as member_in_lem};
+ghost use Rattle.planus_conform.specs.Breaks.{is_member_moved as is_member_moved_lem};
+ghost use Rattle.planus_conform.specs.Breaks.{member_change_to as member_change_to_lem};
+ghost use Rattle.planus_conform.specs.Breaks.{member_change as member_change_lem};
+ghost use Rattle.planus_conform.specs.Breaks.{is_member, member_breaks, added_members};
+ghost use Rattle.planus_conform.specs.Breaks.{union_breaks};
+
+use crate::breaks::{Break, Change, Place, Way};
+use crate::matching::are_matched;
+use crate::ways::{change_if, meets_new, meets_old, note};
+use planus_layout::{Union, UnionMember};
+use std::alloc::AllocError;
+
+fn member_in(members: &[UnionMember], tag: u8) -> Option<&UnionMember>
+    ensures { option_map (λ m. m.now) result ≡ member_in_lem members.now tag }
+{
+    'members: for member in members {
+        if member.tag == tag {
+            return Some(member);
+        }
+    }
+    None
+}
+
+fn has_tag(members: &[UnionMember], tag: u8) -> bool
+    ensures { result ≡ is_member (member_in_lem members.now tag) }
+{
+    match member_in(members, tag) {
+        Some(_) => true,
+        None => false,
+    }
+}
+
+fn is_member_moved(members: &[UnionMember], a: &UnionMember) -> bool
+    ensures { result ≡ is_member_moved_lem members.now a.now }
+{
+    members.iter().any(|b| b.name.as_slice() == a.name.as_slice() && b.tag != a.tag)
+}
+
+fn member_change_to(
+    met: bool,
+    matches: &[Option<usize>],
+    a: &UnionMember,
+    b: Option<&UnionMember>,
+) -> Option<Change>
+    ensures { result
+        ≡ member_change_to_lem met matches.now a.now (option_map (λ m. m.now) b.entry) }
+{
+    match b {
+        Some(b) => change_if(
+            !are_matched(matches, a.table, b.table),
+            Change::MemberChanged,
+        ),
+        None => change_if(met, Change::MemberRemoved),
+    }
+}
+
+fn member_change(
+    met: bool,
+    matches: &[Option<usize>],
+    members: &[UnionMember],
+    a: &UnionMember,
+) -> Option<Change>
+    ensures { result ≡ member_change_lem met matches.now members.now a.now }
+{
+    if is_member_moved(members, a) {
+        Some(Change::Moved)
+    } else {
+        member_change_to(met, matches, a, member_in(members, a.tag))
+    }
+}
+
+fn add_members(
+    breaks: &mut Vec<Break>,
+    met: bool,
+    matches: &[Option<usize>],
+    declaration: usize,
+    members: &[UnionMember],
+    before: &[UnionMember],
+) -> Result<(), AllocError>
+    ensures { OnOk result (breaks.new.items ≡ breaks.old.items
+        ++ member_breaks met matches.now declaration members.now before.now) }
+{
+    'members: for a in before {
+        note(
+            breaks,
+            Place::Member(declaration, a.tag),
+            member_change(met, matches, members, a),
+        )?;
+    }
+    Ok(())
+}
+
+fn add_added_members(
+    breaks: &mut Vec<Break>,
+    met: bool,
+    declaration: usize,
+    before: &[UnionMember],
+    members: &[UnionMember],
+) -> Result<(), AllocError>
+    ensures { OnOk result (breaks.new.items ≡ breaks.old.items
+        ++ added_members met declaration before.now members.now) }
+{
+    'members: for b in members {
+        note(
+            breaks,
+            Place::Member(declaration, b.tag),
+            change_if(met && !has_tag(before, b.tag), Change::MemberAdded),
+        )?;
+    }
+    Ok(())
+}
+
+pub(crate) fn add_union(
+    breaks: &mut Vec<Break>,
+    way: Way,
+    matches: &[Option<usize>],
+    declaration: usize,
+    before: &Union,
+    after: &Union,
+) -> Result<(), AllocError>
+    ensures { OnOk result (breaks.new.items ≡ breaks.old.items
+        ++ union_breaks way matches.now declaration before.now after.now) }
+{
+    add_members(
+        breaks,
+        meets_old(way),
+        matches,
+        declaration,
+        &after.members,
+        &before.members,
+    )?;
+    add_added_members(
+        breaks,
+        meets_new(way),
+        declaration,
+        &before.members,
+        &after.members,
+    )
+}
