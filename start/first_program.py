@@ -74,7 +74,7 @@ class Record:
                 return f"{type_}::{found[1]}", found[1]
             if f"pub const NOTHING: {type_} " in text:
                 self.used.add(type_)
-                return f"{type_}::NOTHING", f"{type_} {{ bits: 0 }}"
+                return f"{type_}::NOTHING", f"{type_}(NOTHING)"
         fields = fields_of(type_)
         if fields is None:
             raise Missing(type_)
