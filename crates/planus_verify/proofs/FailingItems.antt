@@ -1,6 +1,6 @@
 -- What a search of a vector's items says.
 use Prim.Native.Nat.{zero, suc}
-use Rattle.std.proofs.Common.{◌≡◌, ℕ, ◌+◌, ◌*◌, ◌≤◌, ◌<◌, ◌⊎◌, List, ◌∷◌, drop, length, get_or, drop-cons, add-one, sym, subst, ap, ◌∙◌, arith, refl, inl, inr, Ok}
+use Rattle.std.proofs.Common.{◌≡◌, ℕ, ◌+◌, ◌*◌, ◌<◌, ◌⊎◌, List, ◌∷◌, drop, length, get_or, drop-cons, add-one, sym, subst, ap, ◌∙◌, arith, refl, inl, inr, Ok}
 use Rattle.planus_read.specs.Clauses.{Answer, AllHold, shown}
 use Rattle.planus_read.specs.Reading.{vector_reading, vector_clauses, items_at, count_at}
 use Rattle.planus_read.proofs.Reading.{vector_holds}

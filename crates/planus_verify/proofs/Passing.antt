@@ -1,10 +1,15 @@
 -- From what functions answer to the steps that pass.
 use Rattle.std.proofs.Common.{◌≡◌, ℕ, List, [], ◌∷◌, refl, sym, subst, ◌∙◌, inl, Bool, true, false, Option, Some, None, Result, Ok, Err}
-use Rattle.std.specs.Prelude.{is_ok}
+use denote.Ref.{Bor}
+use Rattle.std.specs.Prelude.{is_ok, is_some, IfSome}
 use Rattle.planus_read.specs.Places.{place_bytes, place_start, place_offset}
 use Rattle.planus_read.specs.declared.place.Place.{Place}
-use Rattle.planus_read.specs.Clauses.{Clause, Answer, shown}
-use Rattle.planus_read.specs.Reading.{table_reading, ByteListThere}
+use Rattle.planus_read.specs.Clauses.{Clause, AllHold, Answer, shown}
+use Rattle.planus_read.specs.Heads.{IsTextOf}
+use Rattle.planus_read.specs.Reading.{table_reading, ByteListThere, text_clauses}
+use Rattle.planus_read.specs.Slices.{slice_bytes}
+use Rattle.planus_read.specs.declared.slice_helpers.SliceWithStartOffset.{SliceWithStartOffset}
+use Rattle.planus_read.proofs.Reading.{Head, text_answer, text_holds}
 use Rattle.planus_read.specs.Tables.{Slot, ShowsTable, table_object, table_slots, table_start}
 use Rattle.planus_read.specs.declared.errors.ErrorKind.{ErrorKind}
 use Rattle.planus_read.specs.declared.table_reader.Table.{Table}
@@ -32,6 +37,17 @@ pub one_passes :
     → InOrder NoTable (Tests here clauses ∷ []) left (Ok left)
 one_passes here clauses left (Ok x) ok h is good = inl (left, (h, refl), refl)
 one_passes here clauses left (Err e) ok h is good = not_both (sym is ∙ good)
+
+-- a string, by its bytes if they were found
+pub text_passed :
+    (S : List ℕ) (start f count : ℕ) (items : SliceWithStartOffset) (bytes : List ℕ)
+    (found : Option (Bor (List ℕ))) → Head S start f items count → bytes ≡ slice_bytes items
+    → IfSome found (λ text. IsTextOf bytes count text.now) → is_some found ≡ true
+    → AllHold (text_clauses S f)
+text_passed S start f count items bytes None head same h good = not_both good
+text_passed S start f count items bytes (Some text) head same h good =
+    let there = text_answer S start f count items bytes (Ok text) head same h tt in
+    (text_holds S f there.0 there.1).0
 
 -- a table to which a reference leads
 pub reference_passed :

@@ -16,6 +16,7 @@ mod search_end;
 mod sought;
 #[cfg(test)]
 mod tests;
+mod text_test;
 mod trails;
 mod union_kind;
 mod verify_table;
@@ -27,7 +28,7 @@ pub use fault::{Fault, FieldPlace};
 pub use kind::VerifiedKind;
 pub use laws::{passed_is_verified, verified_passes};
 pub use limits::Limits;
-pub use root::{verify, verify_kind, verify_read};
+pub use root::{root_passes, verify, verify_kind, verify_read};
 pub use schema::{FieldKind, FieldShape, Schema, TableShape, ValueKind, Variant};
 pub use sought::Sought;
 pub use trails::trail;

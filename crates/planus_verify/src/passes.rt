@@ -11,8 +11,9 @@ ghost use Rattle.planus_verify.specs.Walks.{NoTable, InOrder, Walks};
 ghost use Rattle.planus_verify.specs.declared.fault.Fault.{Fault};
 ghost use Rattle.planus_verify.specs.declared.schema.ValueKind.TheVariants as value;
 
-use crate::readings::{bytes_are_there, plain_is_there, plains_are_there, text_is_there};
+use crate::readings::{bytes_are_there, plain_is_there, plains_are_there};
 use crate::schema::ValueKind;
+use crate::text_test::{TextTest, text_passes};
 use crate::verify_table::Verify;
 use crate::verify_union::VerifyUnion;
 use planus_read::table_reader::Table;
@@ -24,12 +25,12 @@ fn texts_pass(buffer: SliceWithStartOffset<'_>, offset: usize) -> bool
     ensures { result ≡ true → ((at : Faults) (left : ℕ) → InOrder NoTable (value_steps at
         value.Texts (slice_bytes buffer.entry) (slice_start buffer.entry) offset) left (Ok left)) }
 {
-    let items = match <Vector<'_, Place<'_>> as TableRead<'_>>::from_buffer(buffer, offset) {
+    let items = match <Vector<'_, TextTest> as TableRead<'_>>::from_buffer(buffer, offset) {
         Ok(items) => items,
         Err(_) => return false,
     };
     for i in 0..items.len() {
-        if text_is_there(items.get_unchecked(i)).is_err() {
+        if !items.get_unchecked(i).passes {
             return false;
         }
     }
@@ -44,7 +45,7 @@ pub(crate) fn value_passes(kind: ValueKind, buffer: SliceWithStartOffset<'_>, of
 {
     match kind {
         ValueKind::Plain(size) => plain_is_there(buffer, offset, size).is_ok(),
-        ValueKind::Text => text_is_there(Place::new(buffer, offset)).is_ok(),
+        ValueKind::Text => text_passes(buffer, offset),
         ValueKind::Bytes => bytes_are_there(Place::new(buffer, offset)).is_ok(),
         ValueKind::Plains(size) => plains_are_there(buffer, offset, size).is_ok(),
         ValueKind::Texts => texts_pass(buffer, offset),

@@ -8,6 +8,7 @@ ghost use Rattle.planus_verify.specs.Schemas.{shapes};
 ghost use Rattle.planus_verify.specs.Walks.{RootWalks, Walks};
 
 use crate::fault::Fault;
+use crate::kind::VerifiedKind;
 use crate::limits::Limits;
 use crate::schema::Schema;
 use crate::verify_table::Verify;
@@ -40,7 +41,10 @@ pub fn verify<'b>(
     Ok(table)
 }
 
-fn root_passes<'b, K: Verify>(bytes: &'b [u8], limits: Limits) -> Option<Table<'b>>
+/// As [`verify`], of a kind by [`Verify::pass`]: returns the root's table if it passes. `None` says
+/// nothing, and [`verify_kind`] then finds whether there is a fault.
+#[inline(always)]
+pub fn root_passes<'b, K: Verify>(bytes: &'b [u8], limits: Limits) -> Option<Table<'b>>
     ensures root { IfSome result (λ table. Answer (shown (ShowsTable bytes.entry.now 0)
         (table_reading bytes.entry.now 0)) (Ok table)) }
     ensures passed { IfSome result (λ table. (left : ℕ)
@@ -57,8 +61,8 @@ fn root_passes<'b, K: Verify>(bytes: &'b [u8], limits: Limits) -> Option<Table<'
     }
 }
 
-/// As [`verify`], of a kind, first by [`Verify::pass`].
-pub fn verify_kind<'b, K: Verify>(bytes: &'b [u8], limits: Limits) -> Result<Table<'b>, Fault>
+/// As [`verify`], of a kind.
+pub fn verify_kind<'b, K: VerifiedKind>(bytes: &'b [u8], limits: Limits) -> Result<Table<'b>, Fault>
     ensures root { IfOk result (λ table. Answer (shown (ShowsTable bytes.entry.now 0)
         (table_reading bytes.entry.now 0)) (Ok table)) }
     ensures passed { IfOk result (λ table. (left : ℕ)
@@ -66,13 +70,10 @@ pub fn verify_kind<'b, K: Verify>(bytes: &'b [u8], limits: Limits) -> Result<Tab
     ensures fault { IfErr result (λ found.
         RootWalks K.schema K.index limits.depth limits.tables bytes.entry.now (Err found)) }
 {
-    if let Some(table) = root_passes::<K>(bytes, limits) {
-        return Ok(table);
-    }
     verify(&K::schema(), K::index(), bytes, limits)
 }
 
-/// As [`verify_kind`], of a table that was read, wherever it is in a buffer. The limits are those of
+/// As [`verify_kind`], first by [`Verify::pass`], of a table that was read, wherever it is in a buffer. The limits are those of
 /// this table and what it leads to.
 pub fn verify_read<K: Verify>(table: Table<'_>, limits: Limits) -> Result<(), Fault>
     ensures passed { IfOk result (λ _. (left : ℕ) × Walks K.schema limits.depth K.index

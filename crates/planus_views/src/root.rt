@@ -10,10 +10,28 @@ ghost use Rattle.planus_views.specs.Nested.{ReturnsRoot};
 use crate::view_of::ViewOf;
 use planus::SliceWithStartOffset;
 use planus::table_reader::Table;
-use planus_verify::{Fault, Limits, VerifiedKind, verify_kind, verify_read};
+use planus_verify::{Fault, Limits, VerifiedKind, root_passes, verify_kind, verify_read};
 
 /// Verifies the root of a whole buffer with all that it leads to, and returns its view.
+#[inline(always)]
 pub fn verify_root<'a, V: ViewOf<'a>>(bytes: &'a [u8], limits: Limits) -> Result<V, Fault>
+    ensures root { (name : List ℕ)
+        → IfOk result (λ view. IsRoot V.Kind name V.table bytes.entry.now (Ok view)) }
+    ensures passed { IfOk result (λ view. (left : ℕ) × RootWalks V.Kind.schema V.Kind.index
+        limits.depth limits.tables bytes.entry.now (Ok left)) }
+    ensures fault { IfErr result (λ found. RootWalks V.Kind.schema V.Kind.index limits.depth
+        limits.tables bytes.entry.now (Err found)) }
+{
+    match root_passes::<V::Kind>(bytes, limits) {
+        Some(table) => Ok(V::of_verified(table)),
+        None => walked_root(bytes, limits),
+    }
+}
+
+/// As [`verify_root`], by a walk over the schema, which finds the fault.
+#[cold]
+#[inline(never)]
+fn walked_root<'a, V: ViewOf<'a>>(bytes: &'a [u8], limits: Limits) -> Result<V, Fault>
     ensures root { (name : List ℕ)
         → IfOk result (λ view. IsRoot V.Kind name V.table bytes.entry.now (Ok view)) }
     ensures passed { IfOk result (λ view. (left : ℕ) × RootWalks V.Kind.schema V.Kind.index

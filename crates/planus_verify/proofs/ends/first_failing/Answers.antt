@@ -1,5 +1,5 @@
-use Rattle.std.proofs.Common.{◌≡◌, ◌∙◌, ◌*◌, ◌<◌, arith, sym, subst}
-use Rattle.planus_read.specs.Places.{place_bytes, place_offset}
+use Rattle.std.proofs.Common.{◌∙◌, ◌*◌, ◌<◌, arith, sym, subst}
+use Rattle.planus_read.specs.Places.{place_bytes}
 use Rattle.planus_read.specs.Slices.{slice_bytes, slice_start}
 use Rattle.planus_view.specs.VectorView.{view_of}
 use Rattle.planus_verify.specs.Soughts.{ItemFails}

@@ -1,14 +1,9 @@
-use Rattle.std.proofs.Common.{◌≡◌, ◌*◌, Some, Ok, refl, rules, true}
-use Rattle.std.specs.Prelude.{is_ok}
-use Rattle.planus_read.specs.Places.{place_bytes, place_offset}
-use Rattle.planus_read.specs.Reading.{text_clauses}
+use Rattle.std.proofs.Common.{◌≡◌, ◌*◌, Some, Ok, refl, rules, true, inl}
 use Rattle.planus_read.specs.Slices.{slice_bytes, slice_start}
 use Rattle.planus_view.specs.VectorView.{view_of, count_of}
 use Rattle.planus_verify.specs.Steps.{text_steps}
-use Rattle.planus_verify.specs.Walks.{NoTable, InOrder}
+use Rattle.planus_verify.specs.Walks.{NoTable}
 use Rattle.planus_verify.proofs.Loops.{vector_is, items_begin, item_passes, items_end}
-use Rattle.planus_verify.proofs.Passing.{one_passes}
-use Rattle.planus_verify.proofs.Tables.{place_is}
 use Rattle.planus_verify.proofs.passes.texts_pass.Goals as goal
 
 pub loop-i-init : goal.loop-i-init
@@ -19,16 +14,10 @@ loop-i-init c = λ at left.
 pub loop-i-preserved : goal.loop-i-preserved
 loop-i-preserved c = λ at left.
     let items = view_of c.in-Ok.items in
-    let place = c.get_unchecked.result in
-    let good : is_ok c.text_is_there.result ≡ true = search rules in
-    let one = one_passes (at (Some c.loop-i.i))
-    (text_clauses (place_bytes place) (place_offset place)) left c.text_is_there.result
-    (is_ok c.text_is_there.result) c.text_is_there.ensures refl good in
+    let good : c.get_unchecked.result.passes ≡ true = search rules in
     item_passes NoTable items.count (λ i. text_steps (at (Some i)) items.bytes (i * 4)) c.loop-i.i
     left left left (search rules) (c.loop-i.invariant at left)
-    (place_is (λ S start f. InOrder NoTable (text_steps (at (Some c.loop-i.i)) S f) left (Ok left))
-    _ _ _ _ _ _ c.get_unchecked.ensures.bytes c.get_unchecked.ensures.begin
-    c.get_unchecked.ensures.offset one)
+    (inl (left, (c.get_unchecked.ensures good, refl), refl))
 
 pub returns : goal.returns
 returns c = λ is at left.

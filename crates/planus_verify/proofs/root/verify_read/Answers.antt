@@ -1,4 +1,4 @@
-use Rattle.std.proofs.Common.{ℕ, Ok, Err}
+use Rattle.std.proofs.Common.{Ok, Err}
 use Rattle.planus_read.specs.Tables.{table_object, table_slots, table_start}
 use Rattle.planus_verify.specs.Schemas.{shapes}
 use Rattle.planus_verify.specs.Walks.{Walks}
