@@ -56,8 +56,6 @@ print_code() { # in the folder: crate, options, schema
     crate=$1
     shift
     said=$("$planus" rattle "$@" -o "$crate" 2>&1) || fail "the code of $* isn't printed: $said"
-    # The gate wants the layout of rt fmt, which the order of a few printed imports isn't in.
-    (cd "$crate" && rt fmt >/dev/null) || fail "the code of $* isn't laid out"
 }
 
 if [ "$1" = --update ]; then

@@ -13,8 +13,8 @@ use std::alloc::AllocError;
 const PASS: &str = "
 impl planus_views::%Verify for $T {
     fn pass(table: Table<'_>, depth: u8, left: usize) -> Option<usize> {
-        let fields = planus_views::%Entered::<$T>::new(table, depth)?;
-        let left = fields.counted(left)?;
+        let %fields = planus_views::%Entered::<$T>::new(table, depth)?;
+        let left = %fields.counted(left)?;
 ";
 
 const PASSED: &str = "        Some(left)
@@ -95,7 +95,7 @@ fn kind_of(field: &TableField) -> &'static str {
 
 impl<'a> Printer<'a> {
     fn put_passing(&mut self, field: &TableField, leads_on: bool, at: At) {
-        self.put("        let left = fields.", at);
+        self.put("        let left = %fields.", at);
         self.put(if leads_on { method_of(field) } else { "walked" }, at);
         self.put("(^$r,^", at);
         self.put(if field.required { "true,^" } else { "false,^" }, at);

@@ -8,7 +8,6 @@ use crate::entry::{Entry, EntryRef};
 use crate::origin::Origin;
 use crate::verified::cause::CauseView;
 use crate::verified::origin::OriginView;
-use planus::fields;
 use planus::table_reader::Table;
 
 impl planus_views::VerifiedKind for Entry {

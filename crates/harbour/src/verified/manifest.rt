@@ -17,9 +17,9 @@ use crate::signal::Signal;
 use crate::verified::owner::OwnerView;
 use crate::verified::person::PersonView;
 use crate::verified::ship::ShipView;
+use planus::Vector;
 use planus::errors::ErrorKind;
 use planus::table_reader::Table;
-use planus::{Vector, fields};
 
 impl planus_views::VerifiedKind for Manifest {
     ghost schema = { verified_schema };

@@ -5,7 +5,6 @@ ghost use Rattle.harbour.specs.Verified.{verified_schema};
 ghost use Rattle.harbour.specs.Verified.{verified_whole};
 
 use crate::origin::{Origin, OriginRef};
-use planus::fields;
 use planus::table_reader::Table;
 
 impl planus_views::VerifiedKind for Origin {

@@ -11,9 +11,9 @@ use crate::ship::Ship;
 use crate::signal::Signal;
 use crate::verified::owner::OwnerView;
 use crate::verified::ship::ShipView;
+use planus::Vector;
 use planus::errors::ErrorKind;
 use planus::table_reader::Table;
-use planus::{Vector, fields};
 
 impl planus_views::VerifiedKind for Port {
     ghost schema = { verified_schema };

@@ -12,9 +12,9 @@ use crate::owner::Owner;
 use crate::pos::Pos;
 use crate::ship::{Ship, ShipRef};
 use crate::verified::owner::OwnerView;
+use planus::Vector;
 use planus::errors::ErrorKind;
 use planus::table_reader::Table;
-use planus::{Vector, fields};
 
 impl planus_views::VerifiedKind for Ship {
     ghost schema = { verified_schema };

@@ -9,7 +9,6 @@ use crate::monster::{Monster, MonsterRef};
 use crate::verified::equipment::EquipmentView;
 use crate::verified::weapon::WeaponView;
 use crate::weapon::Weapon;
-use planus::fields;
 use planus::table_reader::Table;
 
 impl planus_views::VerifiedKind for Monster {

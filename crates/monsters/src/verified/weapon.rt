@@ -5,7 +5,6 @@ ghost use Rattle.monsters.specs.Verified.{verified_schema};
 ghost use Rattle.monsters.specs.Verified.{verified_whole};
 
 use crate::weapon::{Weapon, WeaponRef};
-use planus::fields;
 use planus::table_reader::Table;
 
 impl planus_views::VerifiedKind for Weapon {
