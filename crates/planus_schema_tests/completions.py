@@ -19,8 +19,8 @@ OTHER = re.compile(r"\| dot .*")
 
 # The words of a call up to where it is completed, and what may stand there.
 COMPLETED = {
-    ("",): "check format view rattle dot completions help",
-    ("c",): "check completions",
+    ("",): "check format view rattle dot conform completions help",
+    ("c",): "check conform completions",
     ("--v",): "--version",
     ("view", ""): "",
     ("view", "--l"): "--lines",

@@ -13,3 +13,4 @@ mod Failing
 mod Led
 pub mod Listed
 mod Rows
+pub mod Conformed

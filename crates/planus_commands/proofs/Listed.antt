@@ -4,7 +4,7 @@ use Rattle.std.specs.Prelude.{◌||◌, is_some, codes}
 use Rattle.std.specs.List.{list_any}
 use Rattle.std.specs.Str.{bytes_eq}
 use Rattle.planus_commands.specs.declared.arguments.Command.{Command}
-use Rattle.planus_commands.specs.declared.arguments.Command.TheVariants.{Check, Format, View, Dot, Completions}
+use Rattle.planus_commands.specs.declared.arguments.Command.TheVariants.{Check, Format, View, Dot, Conform, Completions}
 use Rattle.planus_commands.specs.declared.arguments.Command.TheVariants.{Rattle as RattleCommand}
 use Rattle.planus_commands.specs.Arguments.{option_of, command_of}
 use Rattle.planus_commands.specs.Completions.{option_words, names}
@@ -49,17 +49,19 @@ options_listed View w = simp some_of (move5 (bytes_eq w (codes "-I")) (bytes_eq 
     (bytes_eq w (codes "--help")) (bytes_eq w (codes "-h")))
 options_listed RattleCommand w = simp some_of (move4 (bytes_eq w (codes "-I")) (bytes_eq w (codes "-o")) (bytes_eq w (codes "--check")) (bytes_eq w (codes "--no-verified")) (bytes_eq w (codes "--help")) (bytes_eq w (codes "-h")))
 options_listed Dot w = simp some_of (move1 (bytes_eq w (codes "-I")) (bytes_eq w (codes "--help")) (bytes_eq w (codes "-h")))
+options_listed Conform w = simp some_of (move4 (bytes_eq w (codes "-I")) (bytes_eq w (codes "--backward")) (bytes_eq w (codes "--forward")) (bytes_eq w (codes "--rename")) (bytes_eq w (codes "--help")) (bytes_eq w (codes "-h")))
 options_listed Completions w = simp some_of (move0 (bytes_eq w (codes "--help")) (bytes_eq w (codes "-h")))
 
-last6 : (a b c d e f h : Bool) → (a || (b || (c || (d || (e || (f || (h || false))))))) ≡ ((a || (b || (c || (d || (e || (f || false)))))) || h)
-last6 true b c d e f h = refl
-last6 false true c d e f h = refl
-last6 false false true d e f h = refl
-last6 false false false true e f h = refl
-last6 false false false false true f h = refl
-last6 false false false false false true h = refl
-last6 false false false false false false true = refl
-last6 false false false false false false false = refl
+last7 : (a b c d e f g h : Bool) → (a || (b || (c || (d || (e || (f || (g || (h || false)))))))) ≡ ((a || (b || (c || (d || (e || (f || (g || false))))))) || h)
+last7 true b c d e f g h = refl
+last7 false true c d e f g h = refl
+last7 false false true d e f g h = refl
+last7 false false false true e f g h = refl
+last7 false false false false true f g h = refl
+last7 false false false false false true g h = refl
+last7 false false false false false false true h = refl
+last7 false false false false false false false true = refl
+last7 false false false false false false false false = refl
 
 pub commands_listed : (w : List ℕ) → list_any (bytes_eq w) names ≡ (is_some (command_of w) || bytes_eq w (codes "help"))
-commands_listed w = simp some_of (last6 (bytes_eq w (codes "check")) (bytes_eq w (codes "format")) (bytes_eq w (codes "view")) (bytes_eq w (codes "rattle")) (bytes_eq w (codes "dot")) (bytes_eq w (codes "completions")) (bytes_eq w (codes "help")))
+commands_listed w = simp some_of (last7 (bytes_eq w (codes "check")) (bytes_eq w (codes "format")) (bytes_eq w (codes "view")) (bytes_eq w (codes "rattle")) (bytes_eq w (codes "dot")) (bytes_eq w (codes "conform")) (bytes_eq w (codes "completions")) (bytes_eq w (codes "help")))

@@ -11,12 +11,13 @@ use Rattle.planus_syntax.specs.declared.value.Item.{Item}
 use Rattle.planus_syntax.specs.declared.value.Item.TheVariants as item
 use Rattle.planus_layout.specs.declared.schema.Schema.{Schema}
 use Rattle.planus_commands.specs.declared.checking.File.{File}
+use Rattle.planus_commands.specs.declared.meaning.Meaning.{Meaning}
 use Rattle.planus_commands.specs.declared.sources.Sources.{Sources}
 use Rattle.planus_commands.specs.Checks.{ResolvesFiles}
 use Rattle.planus_commands.specs.Files.{AreRead, EndsWith}
 use Rattle.planus_commands.specs.Including.{text_or_empty}
 use Rattle.planus_commands.specs.Loading.{Places, Step, IncludesItem, IncludesAll, IfBegun, Once, Loads, enter}
-use Rattle.planus_commands.specs.Sources.{AreNone, AreLoaded, MeansAll, most_includes}
+use Rattle.planus_commands.specs.Sources.{AreNone, AreLoaded, HasMeaning, MeansAll, most_includes}
 
 pub kept_appends : (a b c : Option (List ℕ)) (bs : List ℕ) → Keeps a b → Appends b c bs → Appends a c bs
 kept_appends None b c bs p q = tt
@@ -120,6 +121,31 @@ means_all places name sources unsaid told said found files declarations loaded f
   told = told;
   loaded = loaded;
   means = subst (λ ds. ResolvesFiles sources.files.items ds found told said) d (subst (λ fs. ResolvesFiles fs declarations found told said) f resolves);
+}
+
+-- what files mean that are kept with it
+pub has_meaning : (places : Places) (name : List ℕ) (sources : Sources) (unsaid told said : Option (List ℕ)) (meaning : Meaning)
+    (files : List File) (declarations : List (Vec Declaration)) → AreLoaded places name unsaid sources told
+    → files ≡ sources.files.items → declarations ≡ sources.declarations.items → meaning.files ≡ sources.files
+    → meaning.declarations ≡ sources.declarations → ResolvesFiles files declarations (Some meaning.schema) told said
+    → HasMeaning places name meaning unsaid said
+has_meaning places name sources unsaid told said meaning files declarations loaded f d fs ds resolves = record {
+  sources = sources;
+  told = told;
+  loaded = loaded;
+  means = subst (λ xs. ResolvesFiles sources.files.items xs (Some meaning.schema) told said) d
+      (subst (λ xs. ResolvesFiles xs declarations (Some meaning.schema) told said) f resolves);
+  files = fs;
+  declarations = ds;
+}
+
+pub schema_meant : (places : Places) (name : List ℕ) (meaning : Meaning) (unsaid said : Option (List ℕ))
+    → HasMeaning places name meaning unsaid said → MeansAll places name (Some meaning.schema) unsaid said
+schema_meant places name meaning unsaid said h = record {
+  sources = h.sources;
+  told = h.told;
+  loaded = h.loaded;
+  means = h.means;
 }
 
 pub text_is : (text bytes : List ℕ) → text ≡ bytes → IsUtf8 bytes → text ≡ text_or_empty bytes

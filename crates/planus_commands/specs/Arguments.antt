@@ -1,16 +1,16 @@
 -- What the words after the program's name ask for.
 use Rattle.std.specs.Prelude.{ℕ, Bool, true, false, ◌&&◌, ◌||◌, ◌==◌, nat_lt, List, [], ◌∷◌, ◌++◌}
-use Rattle.std.specs.Prelude.{fold, map, length, codes, slice_index, Option, Some, None}
+use Rattle.std.specs.Prelude.{fold, map, length, codes, slice_index, Option, Some, None, take}
 use Rattle.std.specs.Prelude.{if◌then◌else◌, not, nat_eq, drop}
 use Rattle.std.specs.Option.{option_map, option_or, unwrap_or}
-use Rattle.std.specs.List.{list_any, starts_with}
+use Rattle.std.specs.List.{list_any, position_or_len, starts_with}
 use Rattle.std.specs.Str.{bytes_eq}
 use Rattle.planus_layout.specs.Numbers.{integer_said, without_mark, without_sign}
 use Rattle.planus_layout.specs.declared.number.Number.{Number}
 use Rattle.planus_commands.specs.declared.arguments.Command.{Command}
 use Rattle.planus_commands.specs.declared.arguments.Command.TheVariants.{Check, Format, View}
 use Rattle.planus_commands.specs.declared.arguments.Command.TheVariants.{Rattle as RattleCommand}
-use Rattle.planus_commands.specs.declared.arguments.Command.TheVariants.{Dot, Completions}
+use Rattle.planus_commands.specs.declared.arguments.Command.TheVariants.{Dot, Conform, Completions}
 use Rattle.planus_commands.specs.declared.arguments.Shell.{Shell}
 use Rattle.planus_commands.specs.declared.arguments.Shell.TheVariants.{Bash, Zsh, Fish}
 use Rattle.planus_commands.specs.declared.arguments.Choice.{Choice}
@@ -18,7 +18,8 @@ use Rattle.planus_commands.specs.declared.arguments.Choice.TheVariants.{Folder, 
 use Rattle.planus_commands.specs.declared.arguments.Choice.TheVariants.{Root, SizePrefixed, Lines}
 use Rattle.planus_commands.specs.declared.arguments.Choice.TheVariants.{Bytes, Output}
 use Rattle.planus_commands.specs.declared.arguments.Choice.TheVariants.{Check as CheckChoice}
-use Rattle.planus_commands.specs.declared.arguments.Choice.TheVariants.{NoVerified}
+use Rattle.planus_commands.specs.declared.arguments.Choice.TheVariants.{NoVerified, Backward, Forward}
+use Rattle.planus_commands.specs.declared.arguments.Choice.TheVariants.{Rename}
 use Rattle.planus_commands.specs.declared.arguments.Choice.TheVariants.{Help as HelpChoice}
 use Rattle.planus_commands.specs.declared.arguments.Joined.{Joined}
 use Rattle.planus_commands.specs.declared.arguments.Words.{Words}
@@ -36,6 +37,9 @@ pub record WordsV : Type 0 where
   pub output : Option (List ℕ)
   pub check : Bool
   pub no_verified : Bool
+  pub backward : Bool
+  pub forward : Bool
+  pub renames : List (List ℕ)
   pub help : Bool
   pub only_files : Bool
   pub wants : Option Choice
@@ -53,6 +57,9 @@ no_words = record {
   output = None;
   check = false;
   no_verified = false;
+  backward = false;
+  forward = false;
+  renames = [];
   help = false;
   only_files = false;
   wants = None;
@@ -71,6 +78,9 @@ words_of w = record {
   output = option_map (λ s. s.now) w.output;
   check = w.check;
   no_verified = w.no_verified;
+  backward = w.backward;
+  forward = w.forward;
+  renames = map (λ s. s.now) w.renames.items;
   help = w.help;
   only_files = w.only_files;
   wants = w.wants;
@@ -94,6 +104,12 @@ rattle_option w = if bytes_eq w (codes "-I") then Some Folder
     else if bytes_eq w (codes "--check") then Some CheckChoice
     else if bytes_eq w (codes "--no-verified") then Some NoVerified else None
 
+abbrev pub conform_option : List ℕ → Option Choice
+conform_option w = if bytes_eq w (codes "-I") then Some Folder
+    else if bytes_eq w (codes "--backward") then Some Backward
+    else if bytes_eq w (codes "--forward") then Some Forward
+    else if bytes_eq w (codes "--rename") then Some Rename else None
+
 -- `--help`, or `-h`
 abbrev pub is_help : List ℕ → Bool
 is_help w = bytes_eq w (codes "--help") || bytes_eq w (codes "-h")
@@ -111,6 +127,7 @@ option_of command w = if is_help w then Some HelpChoice else option_in command
         else if bytes_eq w (codes "--check") then Some CheckChoice else None
     option_in View = view_option w
     option_in RattleCommand = rattle_option w
+    option_in Conform = conform_option w
     option_in Dot = if bytes_eq w (codes "-I") then Some Folder else None
     option_in Completions = None
 
@@ -137,6 +154,8 @@ joined_in View w = option_or (joined_by Folder (codes "-I") w)
     (option_or (joined_by Lines (codes "--lines=") w) (joined_by Bytes (codes "--bytes=") w)))
 joined_in RattleCommand w = option_or (joined_by Folder (codes "-I") w)
     (joined_by Output (codes "-o") w)
+joined_in Conform w = option_or (joined_by Folder (codes "-I") w)
+    (joined_by Rename (codes "--rename=") w)
 
 abbrev pub or_first : Option (List ℕ) → List ℕ → Option (List ℕ)
 or_first None w = Some w
@@ -148,6 +167,9 @@ with_choice ws Root = record ws { wants = Some Root }
 with_choice ws Lines = record ws { wants = Some Lines }
 with_choice ws Bytes = record ws { wants = Some Bytes }
 with_choice ws Output = record ws { wants = Some Output }
+with_choice ws Rename = record ws { wants = Some Rename }
+with_choice ws Backward = record ws { backward = true }
+with_choice ws Forward = record ws { forward = true }
 with_choice ws SizePrefixed = record ws { size_prefixed = true }
 with_choice ws CheckChoice = record ws { check = true }
 with_choice ws NoVerified = record ws { no_verified = true }
@@ -161,10 +183,13 @@ with_value ws Root w = record ws { root = Some w }
 with_value ws Lines w = record ws { lines = Some w }
 with_value ws Bytes w = record ws { bytes = Some w }
 with_value ws Output w = record ws { output = Some w }
+with_value ws Rename w = record ws { renames = ws.renames ++ w ∷ [] }
 with_value ws Write w = ws
 with_value ws SizePrefixed w = ws
 with_value ws CheckChoice w = ws
 with_value ws NoVerified w = ws
+with_value ws Backward w = ws
+with_value ws Forward w = ws
 with_value ws HelpChoice w = ws
 
 abbrev pub with_joined : WordsV → List ℕ → Option JoinedV → WordsV
@@ -206,6 +231,30 @@ empty_choice ws = if list_any is_empty_word ws.folders then Some Folder
     else if is_empty_value ws.bytes then Some Bytes
     else if is_empty_value ws.output then Some Output else None
 
+abbrev pub is_equals : ℕ → Bool
+is_equals b = b == 61
+
+-- what comes before the first `=`, or all
+abbrev pub before_equals : List ℕ → List ℕ
+before_equals w = take (position_or_len is_equals w) w
+
+abbrev pub after_first : List ℕ → List ℕ
+after_first [] = []
+after_first (b ∷ bs) = bs
+
+-- what follows the first `=`, or nothing
+abbrev pub after_equals : List ℕ → List ℕ
+after_equals w = after_first (drop (length (before_equals w)) w)
+
+-- two names with `=` between them
+abbrev pub is_rename : List ℕ → Bool
+is_rename w = not (is_empty_word (before_equals w)) && not (is_empty_word (after_equals w))
+
+-- the first that isn't
+abbrev pub wrong_rename : List (List ℕ) → Option (List ℕ)
+wrong_rename [] = None
+wrong_rename (w ∷ ws) = if is_rename w then wrong_rename ws else Some w
+
 abbrev pub not_negative : Option Number → Option ℕ
 not_negative None = None
 not_negative (Some n) = if n.negative then None else Some n.magnitude
@@ -245,6 +294,9 @@ pub data Asked : Type 0 where
   several_schemas : Command → Asked
   no_output : Asked
   write_and_check : Asked
+  no_pair : Asked
+  backward_and_forward : Asked
+  no_rename : List ℕ → Asked
   completions : Shell → Asked
   no_shell : Asked
 
@@ -265,6 +317,9 @@ asked (code.NoNumber choice w) = no_number choice w.now
 asked (code.SeveralSchemas command) = several_schemas command
 asked code.NoOutput = no_output
 asked code.WriteAndCheck = write_and_check
+asked code.NoPair = no_pair
+asked code.BackwardAndForward = backward_and_forward
+asked (code.NoRename w) = no_rename w.now
 asked (code.Completions shell) = completions shell
 asked code.NoShell = no_shell
 
@@ -296,6 +351,16 @@ dot_request ws = if length ws.files == 1 then run Dot ws else several_schemas Do
 abbrev pub format_request : WordsV → Asked
 format_request ws = if ws.write && ws.check then write_and_check else run Format ws
 
+abbrev pub run_renamed : Option (List ℕ) → WordsV → Asked
+run_renamed None ws = run Conform ws
+run_renamed (Some w) ws = no_rename w
+
+-- `conform` needs two schemas, looks in one direction or both, and renames one name to another
+abbrev pub conform_request : WordsV → Asked
+conform_request ws = if not (length ws.files == 2) then no_pair
+    else if ws.backward && ws.forward then backward_and_forward
+    else run_renamed (wrong_rename ws.renames) ws
+
 abbrev pub shell_of : List ℕ → Option Shell
 shell_of w = if bytes_eq w (codes "bash") then Some Bash
     else if bytes_eq w (codes "zsh") then Some Zsh
@@ -317,6 +382,7 @@ run_request Format ws = format_request ws
 run_request View ws = view_request ws
 run_request RattleCommand ws = rattle_request ws
 run_request Dot ws = dot_request ws
+run_request Conform ws = conform_request ws
 run_request Completions ws = completions_request ws.files
 
 abbrev pub request_by : Command → WordsV → Asked
@@ -341,6 +407,7 @@ command_of w = if bytes_eq w (codes "check") then Some Check
     else if bytes_eq w (codes "view") then Some View
     else if bytes_eq w (codes "rattle") then Some RattleCommand
     else if bytes_eq w (codes "dot") then Some Dot
+    else if bytes_eq w (codes "conform") then Some Conform
     else if bytes_eq w (codes "completions") then Some Completions else None
 
 abbrev pub request_after : List ℕ → List (List ℕ) → Option Command → Asked

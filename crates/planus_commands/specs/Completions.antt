@@ -6,7 +6,7 @@ use Rattle.planus_commands.specs.declared.arguments.Shell.TheVariants.{Bash, Zsh
 use Rattle.planus_commands.specs.declared.arguments.Command.{Command}
 use Rattle.planus_commands.specs.declared.arguments.Command.TheVariants.{Check, Format, View}
 use Rattle.planus_commands.specs.declared.arguments.Command.TheVariants.{Rattle as RattleCommand}
-use Rattle.planus_commands.specs.declared.arguments.Command.TheVariants.{Dot, Completions}
+use Rattle.planus_commands.specs.declared.arguments.Command.TheVariants.{Dot, Conform, Completions}
 use Rattle.planus_commands.specs.declared.completions.Frame.{Frame}
 
 -- what a script has round the words of a row, and round the words that a call may begin with
@@ -70,7 +70,7 @@ shells = codes "bash" ∷ codes "zsh" ∷ codes "fish" ∷ []
 -- the commands
 abbrev pub names : List (List ℕ)
 names = codes "check" ∷ codes "format" ∷ codes "view" ∷ codes "rattle" ∷ codes "dot"
-    ∷ codes "completions" ∷ codes "help" ∷ []
+    ∷ codes "conform" ∷ codes "completions" ∷ codes "help" ∷ []
 
 -- the options of a command
 abbrev pub option_words : Command → List (List ℕ)
@@ -81,6 +81,8 @@ option_words View = codes "-I" ∷ codes "--root" ∷ codes "--size-prefixed" �
 option_words RattleCommand = codes "-I" ∷ codes "-o" ∷ codes "--check" ∷ codes "--no-verified"
     ∷ codes "--help" ∷ codes "-h" ∷ []
 option_words Dot = codes "-I" ∷ codes "--help" ∷ codes "-h" ∷ []
+option_words Conform = codes "-I" ∷ codes "--backward" ∷ codes "--forward" ∷ codes "--rename"
+    ∷ codes "--help" ∷ codes "-h" ∷ []
 option_words Completions = codes "--help" ∷ codes "-h" ∷ []
 
 -- the options that a call may begin with
@@ -101,14 +103,15 @@ unfoldable pub other_rows : FrameV → List ℕ
 other_rows frame = row_text frame (codes "completions") (option_words Completions) shells
     ++ row_text frame (codes "help") [] names
 
--- a row for each command, with its options; files are the arguments of the first five
+-- a row for each command, with its options; files are the arguments of the first six
 unfoldable pub rows_text : FrameV → List ℕ
 rows_text frame = row_text frame (codes "check") (option_words Check) []
     ++ (row_text frame (codes "format") (option_words Format) []
     ++ (row_text frame (codes "view") (option_words View) []
     ++ (row_text frame (codes "rattle") (option_words RattleCommand) []
     ++ (row_text frame (codes "dot") (option_words Dot) []
-    ++ other_rows frame))))
+    ++ (row_text frame (codes "conform") (option_words Conform) []
+    ++ other_rows frame)))))
 
 unfoldable pub script_in : FrameV → List ℕ
 script_in frame = frame.head ++ (rows_text frame ++ (frame.first ++ (spaced first_options

@@ -18,5 +18,9 @@ pub mod Viewing
 pub mod Buffers
 pub mod Printing
 pub mod Drawing
+pub mod Changes
+pub mod Parts
+pub mod Spots
+pub mod Conforming
 pub mod Running
 pub mod Outputs

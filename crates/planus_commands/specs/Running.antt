@@ -4,6 +4,7 @@ use Rattle.std.specs.Io.KnownBytes.{Keeps}
 use Rattle.planus_layout.specs.declared.schema.Schema.{Schema}
 use Rattle.planus_commands.specs.Arguments.{WordsV, Asked, run}
 use Rattle.planus_commands.specs.Buffers.{ViewsBy}
+use Rattle.planus_commands.specs.Conforming.{ConformsFiles}
 use Rattle.planus_commands.specs.Disks.{Disk}
 use Rattle.planus_commands.specs.Drawing.{DrawsFiles}
 use Rattle.planus_commands.specs.Files.{SaysUnread}
@@ -16,7 +17,7 @@ use Rattle.planus_commands.specs.Sources.{ChecksFile, HasNoSchema, MeansAll}
 use Rattle.planus_commands.specs.declared.arguments.Command.{Command}
 use Rattle.planus_commands.specs.declared.arguments.Command.TheVariants.{Check, Format, View}
 use Rattle.planus_commands.specs.declared.arguments.Command.TheVariants.{Rattle as RattleCommand}
-use Rattle.planus_commands.specs.declared.arguments.Command.TheVariants.{Dot, Completions}
+use Rattle.planus_commands.specs.declared.arguments.Command.TheVariants.{Dot, Conform, Completions}
 
 -- A status, what was written before and after, and what was reported.
 abbrev pub Does : Type 1
@@ -85,6 +86,8 @@ RunsCommand disk Format words status before after unsaid said =
     RunsFiles (RunsFile disk true words) words.files 0 status before after unsaid said
 RunsCommand disk Dot words status before after unsaid said =
     DrawsFiles (places_in disk words) words.files status before after unsaid said
+RunsCommand disk Conform words status before after unsaid said = (after ≡ before)
+    × ConformsFiles (places_in disk words) words words.files status unsaid said
 RunsCommand disk Completions words status before after unsaid said = status ≡ 2
 
 -- what a call does with the files that it names

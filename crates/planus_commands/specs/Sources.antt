@@ -3,6 +3,7 @@ use Rattle.std.specs.Prelude.{◌≡◌, ◌≢◌, ◌⊎◌, ℕ, List, [], Op
 use Rattle.std.specs.Io.KnownBytes.{Keeps}
 use Rattle.planus_layout.specs.declared.schema.Schema.{Schema}
 use Rattle.planus_commands.specs.declared.sources.Sources.{Sources}
+use Rattle.planus_commands.specs.declared.meaning.Meaning.{Meaning}
 use Rattle.planus_commands.specs.Checks.{ResolvesFiles}
 use Rattle.planus_commands.specs.Files.{AreRead, EndsWith}
 use Rattle.planus_commands.specs.Loading.{Places, Loads}
@@ -38,6 +39,17 @@ pub record MeansAll (places : Places) (name : List ℕ) (found : Option Schema)
   pub told : Option (List ℕ)
   pub loaded : AreLoaded places name unsaid sources told
   pub means : ResolvesFiles sources.files.items sources.declarations.items found told said
+
+-- The files were loaded, and what they spell means this schema.
+pub record HasMeaning (places : Places) (name : List ℕ) (meaning : Meaning)
+    (unsaid said : Option (List ℕ)) : Type 0 where
+  pub sources : Sources
+  pub told : Option (List ℕ)
+  pub loaded : AreLoaded places name unsaid sources told
+  pub means : ResolvesFiles sources.files.items sources.declarations.items (Some meaning.schema)
+      told said
+  pub files : meaning.files ≡ sources.files
+  pub declarations : meaning.declarations ≡ sources.declarations
 
 -- Files weren't loaded, which was reported with this status.
 pub record FailsLoading (places : Places) (name : List ℕ) (status : ℕ) (unsaid said : Option (List ℕ))

@@ -104,6 +104,7 @@ fn names() -> &'static [&'static str]
         "view",
         "rattle",
         "dot",
+        "conform",
         "completions",
         "help",
     ]
@@ -185,6 +186,7 @@ fn put_rows(text: &mut Vec<u8>, frame: &Frame) -> Result<(), AllocError>
     put_command(text, frame, "view", Command::View)?;
     put_command(text, frame, "rattle", Command::Rattle)?;
     put_command(text, frame, "dot", Command::Dot)?;
+    put_command(text, frame, "conform", Command::Conform)?;
     put_other_rows(text, frame)
 }
 

@@ -1,11 +1,13 @@
-//! What the program `planus` does: it checks and formats schemas, views buffers by them, and prints
-//! their code and their graphs. Start at `program`.
+//! What the program `planus` does: it checks, formats and compares schemas, views buffers by them,
+//! and prints their code and their graphs. Start at `program`.
 #![tactic(auto)]
 
 mod arguments;
 mod buffers;
+mod changes;
 mod checking;
 mod completions;
+mod conforming;
 mod distance;
 mod drawing;
 mod file_error;
@@ -13,11 +15,13 @@ mod files;
 mod include;
 pub mod laws;
 mod libraries;
+mod meaning;
 mod message;
 mod near;
 mod outcome;
 mod output;
 mod parsed;
+mod parts;
 mod placed;
 mod printing;
 mod problem;
@@ -27,6 +31,7 @@ mod rewrite;
 mod said;
 mod shown;
 mod sources;
+mod spots;
 mod streams;
 mod texts;
 mod viewing;

@@ -9,6 +9,7 @@ ghost use Rattle.planus_commands.specs.Running.{RunsFile, RunsFiles, Runs, SaysO
 
 use crate::arguments::{Command, Request, Words, request_of};
 use crate::buffers::view_file;
+use crate::conforming::conform;
 use crate::drawing::draw_graph;
 use crate::files::{Files, HostFiles};
 use crate::output::Output;
@@ -82,6 +83,7 @@ fn run_request<F: Files, W: Write, X: Write>(
         Command::View => view_file(files, alloc, words, writer, errors),
         Command::Rattle => print_code(files, alloc, words, errors),
         Command::Dot => draw_graph(files, alloc, words, writer, errors),
+        Command::Conform => conform(files, alloc, words, errors),
         Command::Check => run_files(files, alloc, false, words, writer, errors),
         Command::Format => run_files(files, alloc, true, words, writer, errors),
         // Said before.
@@ -153,8 +155,8 @@ fn end<X: Write>(error: RunError, closed: bool, errors: &mut X) -> u8
 }
 
 /// Runs the program. Returns the exit status: 0 where all is well or what reads the output is gone,
-/// 1 where a schema or a buffer has a fault or a file isn't what is printed, 2 where the call is
-/// wrong, a file can't be read or written, or memory is refused.
+/// 1 where a schema or a buffer has a fault, something breaks or a file isn't what is printed, 2
+/// where the call is wrong, a file can't be read or written, or memory is refused.
 pub fn run_program<W: Write, X: Write>(rt: &HostRuntime, writer: &mut W, errors: &mut X) -> u8 {
     let mut output = Output {
         writer,

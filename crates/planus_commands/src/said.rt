@@ -6,10 +6,10 @@ ghost use Rattle.std.specs.Option.{option_map};
 ghost use Rattle.planus_commands.specs.Arguments.{asked};
 ghost use Rattle.planus_commands.specs.Arguments.{unknown_command as unknown_command_asked};
 ghost use Rattle.planus_commands.specs.Arguments.{unknown_option as unknown_option_asked};
+ghost use Rattle.planus_commands.specs.Arguments.{no_rename as no_rename_asked};
 ghost use Rattle.planus_commands.specs.Near.{nearest};
 ghost use Rattle.planus_commands.specs.Said.{command_words as command_words_lem, call_hint};
 ghost use Rattle.planus_commands.specs.Completions.{option_words as option_words_lem};
-ghost use Rattle.planus_commands.specs.Said.{before_equals as before_equals_lem};
 ghost use Rattle.planus_commands.specs.Said.{help_of as help_of_lem, help_text, no_value_text};
 ghost use Rattle.planus_commands.specs.Completions.{script_of};
 ghost use Rattle.planus_commands.specs.Said.{empty_value_text, no_number_text, no_schema_text};
@@ -20,7 +20,7 @@ ghost use Rattle.planus_commands.specs.Said.{said_of as said_of_lem, said_view, 
 ghost use Rattle.planus_commands.specs.Shown.{shown};
 ghost use Rattle.std.specs.Io.KnownBytes.{Appends, Keeps};
 
-use crate::arguments::{Choice, Command, Request, Shell};
+use crate::arguments::{Choice, Command, Request, Shell, before_equals};
 use crate::completions::script;
 use crate::near::nearest_word;
 use crate::shown::put_shown;
@@ -38,16 +38,17 @@ usage: planus check [-I FOLDER].. SCHEMA..
        planus view [OPTION].. SCHEMA BUFFER
        planus rattle [--check] [--no-verified] [-I FOLDER].. SCHEMA -o FOLDER
        planus dot [-I FOLDER].. SCHEMA
+       planus conform [OPTION].. OLD NEW
        planus completions bash|zsh|fish
        planus help [COMMAND], planus [COMMAND] --help, planus --version
 
-SCHEMA and BUFFER are files, or - for standard input; after --, each word is one. The
-value of an option may be in the same word: -IFOLDER, -oFOLDER, --root=NAME. -h is
---help, and -V is --version.
+SCHEMA, BUFFER, OLD and NEW are files, or - for standard input; after --, each word is
+one. The value of an option may be in the same word: -IFOLDER, -oFOLDER, --root=NAME.
+-h is --help, and -V is --version.
 ";
 
 const PROGRAM_USAGE: &str =
-    "usage: planus COMMAND ..; the commands are check, format, view, rattle, dot, completions and help\n";
+    "usage: planus COMMAND ..; the commands are check, format, view, rattle, dot, conform, completions and help\n";
 
 const USAGE_OF_CHECK: &str = "usage: planus check [-I FOLDER].. SCHEMA..\n";
 
@@ -113,6 +114,22 @@ Ends with 0 where the graph is printed, with 1 where the schema has a fault, and
 2 where the call is wrong or a file can't be read.
 ";
 
+const USAGE_OF_CONFORM: &str =
+    "usage: planus conform [--backward | --forward] [--rename OLD=NEW].. [-I FOLDER].. OLD NEW\n";
+
+const DETAILS_OF_CONFORM: &str = "
+Says on standard error what breaks where the schema NEW replaces OLD, or nothing: each
+change by which code of one reads data of the other otherwise, and what to do instead.
+
+  --backward        only what breaks new code that reads old data
+  --forward         only what breaks old code that reads new data
+  --rename OLD=NEW  what is OLD in the old schema is NEW in the new one
+  -I FOLDER         included files are sought in this folder too
+
+Ends with 0 where nothing breaks, with 1 where something does or a schema has a fault,
+and with 2 where the call is wrong or a file can't be read.
+";
+
 const USAGE_OF_COMPLETIONS: &str = "usage: planus completions bash|zsh|fish\n";
 
 const DETAILS_OF_COMPLETIONS: &str = "
@@ -133,6 +150,10 @@ const NO_BUFFER: &str = "planus: view has a schema and a buffer\n";
 const SEVERAL_SCHEMAS: &str = "planus: rattle has one schema\n";
 
 const SEVERAL_FOR_DOT: &str = "planus: dot has one schema\n";
+
+const NO_PAIR: &str = "planus: conform has an old schema and a new one\n";
+
+const BACKWARD_AND_FORWARD: &str = "planus: conform has --backward or --forward, and not both\n";
 
 const NO_OUTPUT: &str = "planus: no folder is given: -o FOLDER\n";
 
@@ -178,6 +199,7 @@ fn command_words() -> &'static [&'static str]
         "view",
         "rattle",
         "dot",
+        "conform",
         "completions",
         "help",
         "--help",
@@ -206,19 +228,9 @@ pub(crate) fn option_words(command: Command) -> &'static [&'static str]
         }
         Command::Rattle => &["-I", "-o", "--check", "--no-verified", "--help", "-h"],
         Command::Dot => &["-I", "--help", "-h"],
+        Command::Conform => { &["-I", "--backward", "--forward", "--rename", "--help", "-h"] }
         Command::Completions => &["--help", "-h"],
     }
-}
-
-/// Returns what comes before the first `=`, or all.
-fn before_equals(word: &[u8]) -> &[u8]
-    ensures { result.now ≡ before_equals_lem word.now }
-{
-    let mut n = 0;
-    'bytes: while n < word.len() && word[n] != b'=' {
-        n += 1;
-    }
-    &word[..n]
 }
 
 /// Returns what is said after a word that is none of these.
@@ -253,6 +265,7 @@ fn usage_of(command: Option<Command>) -> &'static str
         Some(Command::View) => USAGE_OF_VIEW,
         Some(Command::Rattle) => USAGE_OF_RATTLE,
         Some(Command::Dot) => USAGE_OF_DOT,
+        Some(Command::Conform) => USAGE_OF_CONFORM,
         Some(Command::Completions) => USAGE_OF_COMPLETIONS,
     }
 }
@@ -266,6 +279,7 @@ fn details_of(command: Command) -> &'static str
         Command::View => DETAILS_OF_VIEW,
         Command::Rattle => DETAILS_OF_RATTLE,
         Command::Dot => DETAILS_OF_DOT,
+        Command::Conform => DETAILS_OF_CONFORM,
         Command::Completions => DETAILS_OF_COMPLETIONS,
     }
 }
@@ -278,6 +292,7 @@ fn no_value(choice: Choice) -> &'static str
         Choice::Lines => "planus: no number follows --lines\n",
         Choice::Bytes => "planus: no number follows --bytes\n",
         Choice::Output => "planus: no folder follows -o\n",
+        Choice::Rename => "planus: no names follow --rename\n",
         _ => "planus: no folder follows -I\n",
     }
 }
@@ -394,6 +409,14 @@ fn unknown_option(alloc: Global, command: Command, word: &str) -> Result<Option<
     about(alloc, "unknown option ", word, "; ", &hint, Some(command))
 }
 
+fn no_rename(alloc: Global, word: &str) -> Result<Option<Said>, AllocError>
+    ensures { IfOk result (λ said. option_map said_view said
+        ≡ said_of_lem (no_rename_asked word.now)) }
+{
+    let after = ", the value of --rename, isn't OLD=NEW";
+    about(alloc, "", word, after, b"", Some(Command::Conform))
+}
+
 /// Returns what is written of a request that names no schema.
 pub fn said_of(alloc: Global, request: &Request<'_>) -> Result<Option<Said>, AllocError>
     ensures { IfOk result (λ said. option_map said_view said ≡ said_of_lem (asked request.now)) }
@@ -424,6 +447,9 @@ pub fn said_of(alloc: Global, request: &Request<'_>) -> Result<Option<Said>, All
         Request::SeveralSchemas(command) => wrong(alloc, several_schemas(*command), Some(*command)),
         Request::NoOutput => wrong(alloc, NO_OUTPUT, Some(Command::Rattle)),
         Request::WriteAndCheck => wrong(alloc, WRITE_AND_CHECK, Some(Command::Format)),
+        Request::NoPair => wrong(alloc, NO_PAIR, Some(Command::Conform)),
+        Request::BackwardAndForward => wrong(alloc, BACKWARD_AND_FORWARD, Some(Command::Conform)),
+        Request::NoRename(word) => no_rename(alloc, *word),
         Request::Completions(shell) => script_said(alloc, *shell),
         Request::NoShell => wrong(alloc, NO_SHELL, Some(Command::Completions)),
     }

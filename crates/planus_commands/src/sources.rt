@@ -13,13 +13,15 @@ ghost use Rattle.planus_commands.specs.Loading.{places_of, enter, IsSource, Begi
 ghost use Rattle.planus_commands.specs.Loading.{has_begun as has_begun_lem};
 ghost use Rattle.planus_commands.specs.Loading.{LoadsBy, Loads, Includes, IncludesAll, Refuses};
 ghost use Rattle.planus_commands.specs.Including.{file_named as file_named_lem};
-ghost use Rattle.planus_commands.specs.Sources.{HasNoSchema, ChecksFile, MeansAll};
+ghost use Rattle.planus_commands.specs.Checks.{AreSpelled};
+ghost use Rattle.planus_commands.specs.Sources.{HasNoSchema, ChecksFile, HasMeaning, MeansAll};
 ghost use Rattle.std.specs.Io.KnownBytes.{Keeps};
 
 use crate::checking::{File, resolve_or_report};
 use crate::file_error::FileError;
 use crate::files::Files;
 use crate::include::{file_beside, file_in, normal};
+use crate::meaning::Meaning;
 use crate::parsed::{Parsed, parse_or_report};
 use crate::placed::placed_report;
 use crate::said::{CLEAN, FAILED, FAULTY};
@@ -372,18 +374,20 @@ fn include<F: Files, X: Write>(
     )
 }
 
-/// Reads a file, under its normal name, and all that it includes. Returns what they mean, or
-/// reports their faults and returns the exit status.
-pub fn schema_of<F: Files, X: Write>(
+/// Reads a file, under its normal name, and all that it includes. Returns these files and what they
+/// mean, or reports their faults and returns the exit status.
+fn meaning_of<F: Files, X: Write>(
     files: &F,
     alloc: Global,
     folders: &[&str],
     name: &str,
     errors: &mut X,
-) -> Result<Result<Schema, u8>, RunError>
-    ensures means { IfOk result (λ found. IfOk found (λ schema.
-        MeansAll (places_of (F.disk files.now) folders.now) name.now
-        (Some schema) (X.contents errors.old) (X.contents errors.new))) }
+) -> Result<Result<Meaning, u8>, RunError>
+    ensures means { IfOk result (λ found. IfOk found (λ meaning.
+        HasMeaning (places_of (F.disk files.now) folders.now) name.now meaning
+        (X.contents errors.old) (X.contents errors.new))) }
+    ensures spelled { IfOk result (λ found. IfOk found (λ meaning.
+        AreSpelled meaning.files.items meaning.declarations.items)) }
     ensures none { IfOk result (λ found. IfErr found (λ status.
         HasNoSchema (places_of (F.disk files.now) folders.now) name.now status
         (X.contents errors.old) (X.contents errors.new))) }
@@ -399,8 +403,33 @@ pub fn schema_of<F: Files, X: Write>(
         return Ok(Err(status));
     }
     match resolve_or_report(alloc, &sources.files, &sources.declarations, errors)? {
-        Some(schema) => Ok(Ok(schema)),
+        Some(schema) => Ok(Ok(Meaning {
+            files: sources.files,
+            declarations: sources.declarations,
+            schema,
+        })),
         None => Ok(Err(FAULTY)),
+    }
+}
+
+/// Does what [`meaning_of`] does, and returns what the files mean.
+pub fn schema_of<F: Files, X: Write>(
+    files: &F,
+    alloc: Global,
+    folders: &[&str],
+    name: &str,
+    errors: &mut X,
+) -> Result<Result<Schema, u8>, RunError>
+    ensures means { IfOk result (λ found. IfOk found (λ schema.
+        MeansAll (places_of (F.disk files.now) folders.now) name.now
+        (Some schema) (X.contents errors.old) (X.contents errors.new))) }
+    ensures none { IfOk result (λ found. IfErr found (λ status.
+        HasNoSchema (places_of (F.disk files.now) folders.now) name.now status
+        (X.contents errors.old) (X.contents errors.new))) }
+{
+    match meaning_of(files, alloc, folders, name, errors)? {
+        Ok(meaning) => Ok(Ok(meaning.schema)),
+        Err(status) => Ok(Err(status)),
     }
 }
 
@@ -457,6 +486,27 @@ pub fn schema_at<F: Files, X: Write>(
 {
     let name = file_named(alloc, word)?;
     schema_of(files, alloc, folders, name.as_str(), errors)
+}
+
+/// Does what [`meaning_of`] does with the file that a word of the call names.
+pub(crate) fn meaning_at<F: Files, X: Write>(
+    files: &F,
+    alloc: Global,
+    folders: &[&str],
+    word: &str,
+    errors: &mut X,
+) -> Result<Result<Meaning, u8>, RunError>
+    ensures means { IfOk result (λ found. IfOk found (λ meaning.
+        HasMeaning (places_of (F.disk files.now) folders.now) (file_named_lem word.now) meaning
+        (X.contents errors.old) (X.contents errors.new))) }
+    ensures spelled { IfOk result (λ found. IfOk found (λ meaning.
+        AreSpelled meaning.files.items meaning.declarations.items)) }
+    ensures none { IfOk result (λ found. IfErr found (λ status.
+        HasNoSchema (places_of (F.disk files.now) folders.now) (file_named_lem word.now) status
+        (X.contents errors.old) (X.contents errors.new))) }
+{
+    let name = file_named(alloc, word)?;
+    meaning_of(files, alloc, folders, name.as_str(), errors)
 }
 
 /// Does what [`check_file`] does with the file that a word of the call names.

@@ -41,7 +41,8 @@ fn zero() -> Number
     }
 }
 
-pub(crate) fn same_number(a: Number, b: Number) -> bool
+/// Returns whether these are one number.
+pub fn same_number(a: Number, b: Number) -> bool
     ensures { result ≡ same_number_lem a b }
 {
     same_truth(a.negative, b.negative) && a.magnitude == b.magnitude

@@ -17,4 +17,6 @@ mod ways;
 
 pub use breaks::{Break, Change, Place, Way};
 pub use conform::conforms;
+pub use defaults::same_number;
+pub use matching::{named, renamed};
 pub use rename::Rename;

@@ -11,13 +11,14 @@ use planus_layout::Declared;
 use std::alloc::{AllocError, Global};
 
 /// Returns the index of the first declaration of this name.
-fn named(declared: &[Declared], name: &[u8]) -> Option<usize>
+pub fn named(declared: &[Declared], name: &[u8]) -> Option<usize>
     ensures { result ≡ named_lem declared.now name.now }
 {
     declared.iter().position(|one| one.name.as_slice() == name)
 }
 
-fn renamed<'a>(renames: &'a [Rename], name: &'a [u8]) -> &'a [u8]
+/// Returns the name that the new schema has for this one.
+pub fn renamed<'a>(renames: &'a [Rename], name: &'a [u8]) -> &'a [u8]
     ensures { result.now ≡ renamed_lem renames.now name.now }
 {
     'renames: for rename in renames {
