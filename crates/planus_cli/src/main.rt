@@ -2,7 +2,41 @@
 //! shows what buffers hold by them, and prints their code as the files of a crate.
 #![tactic(auto)]
 
-use planus_commands::run_program;
+mod arguments;
+mod changes;
+mod check;
+mod completions;
+mod conform;
+mod distance;
+mod dot;
+mod file_error;
+mod files;
+mod format;
+mod include;
+mod laws;
+mod libraries;
+mod meaning;
+mod message;
+mod near;
+mod outcome;
+mod output;
+mod parsed;
+mod parts;
+mod placed;
+mod problem;
+mod program;
+mod rattle;
+mod report;
+mod said;
+mod shown;
+mod sources;
+mod spots;
+mod streams;
+mod texts;
+mod view;
+mod viewing;
+
+use crate::program::run_program;
 use std::io;
 use std::process::ExitCode;
 

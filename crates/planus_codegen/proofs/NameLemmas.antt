@@ -1,12 +1,12 @@
 -- Names of members, one after the other.
 use Rattle.std.proofs.Common.{◌≡◌, ℕ, suc, ◌+◌, List, [], ◌∷◌, ◌++◌, map, drop, length, sym, ap, ◌∙◌, refl, arith, length-append, subst}
-use Rattle.planus_layout.specs.Distinct.{items_of}
+use Rattle.planus_schema.specs.Distinct.{items_of}
 use Rattle.std.specs.Global.{Vec}
-use Rattle.planus_layout.specs.declared.schema.Declared.{Declared}
+use Rattle.planus_schema.specs.declared.schema.Declared.{Declared}
 use Rattle.std.specs.Prelude.{slice_get, Some}
 use Rattle.std.proofs.lemmas.Option.{slice_get_within, get_or_from_slice_get}
-use Rattle.planus_layout.proofs.Lists.{drop_next}
-use Rattle.planus_plan.specs.Spelling.{scope_from, set_apart, names_in, all_member_names, member_names, member_word, said_in}
+use Rattle.planus_schema.proofs.Lists.{drop_next}
+use Rattle.planus_schema.specs.Spelling.{scope_from, set_apart, names_in, all_member_names, member_names, member_word, said_in}
 
 drop_at : (xs : List (List ℕ)) (i : ℕ) (x : List ℕ) → slice_get xs i ≡ Some x → drop i xs ≡ x ∷ drop (i + 1) xs
 drop_at xs i x h = drop_next xs i x (slice_get_within xs i x h) (sym (get_or_from_slice_get xs i x x h))

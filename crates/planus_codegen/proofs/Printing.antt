@@ -1,6 +1,6 @@
 -- Files that pass their test.
 use Rattle.std.proofs.Common.{◌≡◌, Bool, IsTrue, List, subst}
-use Rattle.planus_layout.specs.declared.schema.Declared.{Declared}
+use Rattle.planus_schema.specs.declared.schema.Declared.{Declared}
 use Rattle.planus_tie.specs.Files.{AreTied}
 use Rattle.planus_tie.specs.declared.files.PrintedFile.{PrintedFile}
 use Rattle.planus_tie.specs.declared.naming.Naming.{Naming}

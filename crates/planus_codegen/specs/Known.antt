@@ -4,10 +4,10 @@ use Rattle.std.specs.Prelude.{if◌then◌else◌, ◌&&◌, Option, Some, None,
 use Rattle.std.specs.List.{list_any, slice_split, ends_with, starts_with, slice_get}
 use Rattle.std.specs.Str.{bytes_eq}
 use Rattle.std.proofs.Math.Utf8.{encodes}
-use Rattle.planus_layout.specs.declared.schema.Declared.{Declared}
-use Rattle.planus_plan.specs.Names.{is_held}
-use Rattle.planus_layout.specs.Distinct.{is_in}
-use Rattle.planus_plan.specs.Spelling.{allowed, capital, last_word, scope_from, snake}
+use Rattle.planus_schema.specs.declared.schema.Declared.{Declared}
+use Rattle.planus_schema.specs.Names.{is_held}
+use Rattle.planus_schema.specs.Distinct.{is_in}
+use Rattle.planus_schema.specs.Spelling.{allowed, capital, last_word, scope_from, snake}
 
 -- a word of a text, between spaces
 abbrev pub is_word_of : List ℕ → List ℕ → Bool

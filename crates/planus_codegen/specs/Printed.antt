@@ -1,8 +1,8 @@
 -- Printed code that is its schema's.
 use Rattle.std.specs.Prelude.{◌≡◌, Bool, true, List, length, map}
-use Rattle.planus_layout.specs.declared.schema.Declared.{Declared}
-use Rattle.planus_plan.specs.Names.{are_names, are_scopes}
-use Rattle.planus_plan.specs.Spelling.{all_member_names, names_in}
+use Rattle.planus_schema.specs.declared.schema.Declared.{Declared}
+use Rattle.planus_schema.specs.Names.{are_names, are_scopes}
+use Rattle.planus_schema.specs.Spelling.{all_member_names, names_in}
 use Rattle.planus_tie.specs.Files.{AreTied}
 use Rattle.planus_tie.specs.declared.files.PrintedFile.{PrintedFile}
 use Rattle.planus_tie.specs.declared.naming.Naming.{Naming}

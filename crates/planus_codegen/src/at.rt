@@ -1,4 +1,4 @@
-use planus_plan::Line;
+use planus_schema::Line;
 
 /// What a template is filled with: a declaration, and one of its members.
 #[derive(Clone, Copy)]

@@ -5,8 +5,7 @@ use crate::known::is_escaped;
 use crate::printer::{OWN, Printer};
 use crate::tables::{default_is, default_of};
 use crate::words::{Part, Words};
-use planus_layout::{Base, FieldType};
-use planus_plan::{Line, Plan};
+use planus_schema::{Base, FieldType, Line, Plan};
 use std::alloc::AllocError;
 
 const HEAD: &str = "\

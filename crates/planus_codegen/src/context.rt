@@ -1,14 +1,14 @@
 //! What is known of a schema while its code is printed.
 
 ghost use Rattle.std.specs.Prelude.{◌≡◌, length, IfOk, MatchOption, slice_get, None, Some};
-ghost use Rattle.planus_plan.specs.Spelling.{said_in};
+ghost use Rattle.planus_schema.specs.Spelling.{said_in};
 ghost use Rattle.planus_codegen.specs.Printed.{AreFit, IsNamingOf};
 
 use crate::at::At;
 use crate::leads::left_before;
 use crate::names::Names;
 use crate::refusal::Refusal;
-use planus_layout::{Base, Body, Declared, Scalar, Schema, TableField};
+use planus_schema::{Base, Body, Declared, Scalar, Schema, TableField};
 use planus_tie::Naming;
 pub(crate) use planus_tie::scalar_name;
 use std::alloc::{AllocError, Global};

@@ -25,8 +25,7 @@ use crate::verified_passes::print_pass_proof;
 use crate::verified_schema::{print_schema, print_schema_definition};
 use crate::verified_tables::print_verified_kind;
 use crate::verified_unions::print_verified_union;
-use planus_layout::{Body, Declared, Enum, Schema, Struct, Table, Union};
-use planus_plan::Plan;
+use planus_schema::{Body, Declared, Enum, Plan, Schema, Struct, Table, Union};
 use planus_tie::{PrintedFile, are_tied};
 use std::alloc::{AllocError, Global};
 

@@ -3,7 +3,7 @@
 use crate::context::{Context, is_signed, scalar_name};
 use crate::printer::Printer;
 use crate::types::has_default;
-use planus_layout::{
+use planus_schema::{
     Base, Body, Enum, Number, Scalar, TableField, Value, is_hexadecimal, without_sign,
 };
 

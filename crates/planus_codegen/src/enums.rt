@@ -5,7 +5,7 @@ use crate::context::Context;
 use crate::printer::Piece::{Documented, Each, Once};
 use crate::printer::{Piece, Printer};
 use crate::structs::{LAYOUT, READ, STRIDE, TOTAL};
-use planus_layout::{Declared, Enum, Scalar};
+use planus_schema::{Declared, Enum, Scalar};
 
 const ENUM: &str = "\
 #[derive(Clone, Copy, Debug, PartialEq)]

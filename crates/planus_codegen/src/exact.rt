@@ -4,7 +4,7 @@ use crate::at::At;
 use crate::context::{Context, is_signed};
 use crate::printer::Piece::{Each, Once};
 use crate::printer::{Piece, Printer};
-use planus_layout::{Base, Scalar, Struct, StructField};
+use planus_schema::{Base, Scalar, Struct, StructField};
 
 /// Of a type whose proof needs nothing of its members.
 const EXACT: &str = "

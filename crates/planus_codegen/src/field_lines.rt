@@ -5,8 +5,7 @@ use crate::context::is_signed;
 use crate::defaults::is_judged;
 use crate::printer::{END, Printer};
 use crate::types::{has_default, is_bytes, is_optional, is_union};
-use planus_layout::{Base, Scalar, TableField};
-use planus_plan::Plan;
+use planus_schema::{Base, Plan, Scalar, TableField};
 
 /// The library's name for what a field of a kind holds and how it is read.
 fn kind_of(field: &TableField, total: bool) -> &'static str {

@@ -1,7 +1,7 @@
 //! Floats as clauses say them: by their bits.
 
 use crate::printer::Printer;
-use planus_layout::{Scalar, TableField};
+use planus_schema::{Scalar, TableField};
 use std::num::{f32_to_bits_with_nan, f64_to_bits_with_nan};
 
 impl<'a> Printer<'a> {

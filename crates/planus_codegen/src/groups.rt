@@ -3,7 +3,7 @@
 use crate::at::At;
 use crate::printer::Printer;
 use crate::types::has_default;
-use planus_plan::{Line, is_borrowed};
+use planus_schema::{Line, is_borrowed};
 
 const LINES_BORROWED: &str = "type $T$pFieldLines<'a> = Lines8<\n";
 

@@ -1,7 +1,7 @@
 //! Hexadecimal floats. Code has them in decimal, in which each has an end.
 
 use crate::printer::Printer;
-use planus_layout::without_sign;
+use planus_schema::without_sign;
 use std::alloc::AllocError;
 
 /// The greatest exponent, and the most bytes, of a hexadecimal float that is printed.

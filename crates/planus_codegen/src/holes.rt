@@ -29,7 +29,7 @@ use crate::known::is_escaped;
 use crate::printer::{OWN, Printer};
 use crate::types::{encoded, given, has_default, is_optional, is_union, read};
 use crate::verified_tables::verified;
-use planus_layout::{Base, Body, Number, StructField, measure_of};
+use planus_schema::{Base, Body, Number, StructField, measure_of};
 
 const UNKNOWN: &str = "Unknown";
 

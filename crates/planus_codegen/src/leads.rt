@@ -1,7 +1,7 @@
 //! Which fields of tables lead back to tables that lead to them.
 
 use crate::verified_unions::passes_by_itself;
-use planus_layout::{Base, Body, Declared, TableField, Union};
+use planus_schema::{Base, Body, Declared, TableField, Union};
 use std::alloc::{AllocError, Global};
 
 /// A table or a union, and the place of its next member.

@@ -1,9 +1,9 @@
 //! The names that code has for what a schema declares.
 
 ghost use Rattle.std.specs.Prelude.{◌≡◌, length, map, true, IfOk};
-ghost use Rattle.planus_plan.specs.Spelling.{all_member_names, member_names, names_in, said_in};
+ghost use Rattle.planus_schema.specs.Spelling.{all_member_names, member_names, names_in, said_in};
 ghost use Rattle.std.specs.List.{list_any};
-ghost use Rattle.planus_layout.specs.Distinct.{items_of, is_in as is_in_lem};
+ghost use Rattle.planus_schema.specs.Distinct.{items_of, is_in as is_in_lem};
 ghost use Rattle.planus_codegen.specs.Known.{modules_of};
 ghost use Rattle.planus_codegen.specs.Known.{is_around as is_around_lem};
 ghost use Rattle.planus_codegen.specs.Known.{is_held_module as is_held_module_lem};
@@ -12,20 +12,19 @@ ghost use Rattle.planus_codegen.specs.Known.{module_word as module_word_lem};
 ghost use Rattle.planus_codegen.specs.Known.{module_names as module_names_lem};
 ghost use Rattle.planus_codegen.specs.Known.{type_word as type_word_lem};
 ghost use Rattle.planus_codegen.specs.Known.{type_names as type_names_lem};
-ghost use Rattle.planus_plan.specs.Spelling.{member_spelled as member_spelled_lem};
-ghost use Rattle.planus_plan.specs.Spelling.{member_word as member_word_lem};
-ghost use Rattle.planus_plan.specs.Names.{are_names as are_names_lem};
-ghost use Rattle.planus_plan.specs.Names.{are_scopes as are_scopes_lem};
-ghost use Rattle.planus_plan.specs.Names.{are_apart as are_apart_lem};
-ghost use Rattle.planus_plan.specs.Names.{are_apart_from as are_apart_from_lem};
+ghost use Rattle.planus_schema.specs.Spelling.{member_spelled as member_spelled_lem};
+ghost use Rattle.planus_schema.specs.Spelling.{member_word as member_word_lem};
+ghost use Rattle.planus_schema.specs.Names.{are_names as are_names_lem};
+ghost use Rattle.planus_schema.specs.Names.{are_scopes as are_scopes_lem};
+ghost use Rattle.planus_schema.specs.Names.{are_apart as are_apart_lem};
+ghost use Rattle.planus_schema.specs.Names.{are_apart_from as are_apart_from_lem};
 
 use crate::context::{count_in, member_in};
 use crate::known::{is_known_module, is_known_type};
 use crate::refusal::Refusal;
-use planus_layout::{Body, Declared, is_among as is_in};
-use planus_plan::{
-    add, allowed, are_apart, are_apart_from, are_names, are_scopes, capital, capitals, is_among,
-    is_held, is_reserved, last_word, snake,
+use planus_schema::{
+    Body, Declared, add, allowed, are_apart, are_apart_from, are_names, are_scopes, capital,
+    capitals, has_name as is_in, is_among, is_held, is_reserved, last_word, snake,
 };
 use std::alloc::{AllocError, Global};
 

@@ -4,8 +4,7 @@ use crate::at::At;
 use crate::leads::shows_on;
 use crate::printer::Piece::{Each, Once};
 use crate::printer::{Piece, Printer};
-use planus_layout::TableField;
-use planus_plan::{Line, Plan};
+use planus_schema::{Line, Plan, TableField};
 
 const CHECKED: &str = "
 impl<'a> std::fmt::Debug for $TRef<'a> {

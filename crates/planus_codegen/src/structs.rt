@@ -5,7 +5,7 @@ use crate::context::Context;
 use crate::holes::has_forced_alignment;
 use crate::printer::Piece::{Documented, Each, Once};
 use crate::printer::{Piece, Printer};
-use planus_layout::{Declared, Struct};
+use planus_schema::{Declared, Struct};
 
 /// The layout of a type, up to the body of `put`.
 pub(crate) const LAYOUT: &str = "\

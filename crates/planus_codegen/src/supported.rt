@@ -2,10 +2,9 @@
 
 use crate::hex_floats::is_too_long;
 use crate::refusal::Refusal;
-use planus_layout::{
-    Body, Declared, Enum, Table, TableField, Union, Value, is_hexadecimal, without_sign,
+use planus_schema::{
+    Body, Declared, Enum, Plan, Table, TableField, Union, Value, is_hexadecimal, without_sign,
 };
-use planus_plan::Plan;
 use planus_tie::{are_taken, entries_of};
 use std::alloc::{AllocError, Global};
 

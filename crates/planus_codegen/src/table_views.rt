@@ -3,8 +3,7 @@
 use crate::at::At;
 use crate::printer::Printer;
 use crate::types::{has_default, is_bytes, is_union};
-use planus_layout::{Base, TableField};
-use planus_plan::{Line, Plan};
+use planus_schema::{Base, Line, Plan, TableField};
 use planus_tie::{ending, kind_word};
 
 const VIEW: &str = "\

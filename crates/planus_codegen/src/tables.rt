@@ -5,8 +5,7 @@ use crate::context::Context;
 use crate::defaults::{default_value, has_constant, is_named_in_clauses, is_zero};
 use crate::printer::Printer;
 use crate::types::{has_default, is_optional, is_union};
-use planus_layout::{Base, Declared, TableField};
-use planus_plan::{Line, Plan};
+use planus_schema::{Base, Declared, Line, Plan, TableField};
 use planus_tie::{Entry, entries_of};
 use std::alloc::AllocError;
 

@@ -1,6 +1,6 @@
 //! The types of a field: as it is given, encoded and read.
 
-use planus_layout::{Base, FieldType, TableField};
+use planus_schema::{Base, FieldType, TableField};
 pub(crate) use planus_tie::{has_default, is_bytes, is_union};
 
 /// Whether a field may be absent: it has neither a default nor `required`, and is no union vector,

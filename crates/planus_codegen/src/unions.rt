@@ -4,7 +4,7 @@ use crate::at::At;
 use crate::context::Context;
 use crate::printer::Piece::{Documented, Each, Once};
 use crate::printer::{Piece, Printer};
-use planus_layout::{Declared, Union};
+use planus_schema::{Declared, Union};
 
 /// The most letters of the names in an arm on one line: the union's and the member's.
 const ARM_LETTERS: usize = 42;

@@ -5,7 +5,7 @@ use crate::context::Context;
 use crate::order::Order;
 use crate::printer::Printer;
 use crate::words::{Part, Words};
-use planus_layout::Body;
+use planus_schema::Body;
 use std::alloc::AllocError;
 
 /// The names of its errors that code may need.

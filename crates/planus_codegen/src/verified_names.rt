@@ -5,7 +5,7 @@ use crate::context::Context;
 use crate::entries::Entries;
 use crate::printer::Printer;
 use crate::verified_schema::places_by_slot;
-use planus_layout::{Body, Table};
+use planus_schema::{Body, Table};
 use std::alloc::AllocError;
 
 const TABLE_NAME: [&str; 4] = [

@@ -7,7 +7,7 @@ use crate::printer::Piece::{Each, Once};
 use crate::printer::{Piece, Printer};
 use crate::types::is_bytes;
 use crate::verified_schema::places_by_slot;
-use planus_layout::{Base, Table, TableField};
+use planus_schema::{Base, Table, TableField};
 use std::alloc::AllocError;
 
 const PASS: &str = "

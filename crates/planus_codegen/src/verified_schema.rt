@@ -6,7 +6,7 @@ use crate::entries::Entries;
 use crate::printer::Printer;
 use crate::types::is_bytes;
 use crate::verified_names::put_names;
-use planus_layout::{Base, Body, Table, TableField, Union};
+use planus_schema::{Base, Body, Table, TableField, Union};
 use std::alloc::AllocError;
 
 const USES: &str = "\

@@ -7,8 +7,7 @@ use crate::order::Order;
 use crate::printer::Printer;
 use crate::table_views::{value_clause, vector_clause};
 use crate::types::{has_default, is_bytes, is_union};
-use planus_layout::{Base, FieldType, TableField};
-use planus_plan::{Line, Plan};
+use planus_schema::{Base, FieldType, Line, Plan, TableField};
 use planus_tie::{ending, kind_word};
 
 const KIND: &str = "\

@@ -5,7 +5,7 @@ use crate::context::Context;
 use crate::printer::Piece::{Documented, Each, Once};
 use crate::printer::{Piece, Printer};
 use crate::unions::MOST_TOGETHER;
-use planus_layout::Union;
+use planus_schema::Union;
 
 /// The most letters of the names in an arm on one line: twice the union's, and the member's.
 const ARM_LETTERS: usize = 44;

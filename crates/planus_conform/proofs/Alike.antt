@@ -10,24 +10,24 @@ use Rattle.planus_read.specs.declared.errors.ErrorKind.TheVariants.{InvalidOffse
 use Rattle.planus_dump.specs.Answers.{Seen, SeenItems, SeenUnion, SeenUnions, table_at, vector_at, bits_at, union_at, unions_at}
 use Rattle.planus_dump.specs.Tests.{fault_text, answered, byte_list_tests, content_at}
 use Rattle.planus_inspect.specs.Shown.{bits_of}
-use Rattle.planus_layout.specs.declared.scalar.Scalar.{Scalar}
-use Rattle.planus_layout.specs.declared.scalar.Scalar.TheVariants as scalar
-use Rattle.planus_layout.specs.declared.schema.Base.{Base}
-use Rattle.planus_layout.specs.declared.schema.Base.TheVariants as base
-use Rattle.planus_layout.specs.declared.schema.Body.{Body}
-use Rattle.planus_layout.specs.declared.schema.Body.TheVariants as body
-use Rattle.planus_layout.specs.declared.schema.Declared.{Declared}
-use Rattle.planus_layout.specs.declared.schema.Enum.{Enum}
-use Rattle.planus_layout.specs.declared.schema.EnumValue.{EnumValue}
-use Rattle.planus_layout.specs.declared.schema.FieldType.{FieldType}
-use Rattle.planus_layout.specs.declared.schema.Schema.{Schema}
-use Rattle.planus_layout.specs.declared.schema.Struct.{Struct}
-use Rattle.planus_layout.specs.declared.schema.StructField.{StructField}
-use Rattle.planus_layout.specs.declared.schema.TableField.{TableField}
-use Rattle.planus_layout.specs.declared.schema.Union.{Union}
-use Rattle.planus_layout.specs.declared.schema.UnionMember.{UnionMember}
-use Rattle.planus_layout.specs.Numbers.{scalar_size}
-use Rattle.planus_schema.specs.Defaults.{ValueV}
+use Rattle.planus_schema.specs.declared.scalar.Scalar.{Scalar}
+use Rattle.planus_schema.specs.declared.scalar.Scalar.TheVariants as scalar
+use Rattle.planus_schema.specs.declared.schema.Base.{Base}
+use Rattle.planus_schema.specs.declared.schema.Base.TheVariants as base
+use Rattle.planus_schema.specs.declared.schema.Body.{Body}
+use Rattle.planus_schema.specs.declared.schema.Body.TheVariants as body
+use Rattle.planus_schema.specs.declared.schema.Declared.{Declared}
+use Rattle.planus_schema.specs.declared.schema.Enum.{Enum}
+use Rattle.planus_schema.specs.declared.schema.EnumValue.{EnumValue}
+use Rattle.planus_schema.specs.declared.schema.FieldType.{FieldType}
+use Rattle.planus_schema.specs.declared.schema.Schema.{Schema}
+use Rattle.planus_schema.specs.declared.schema.Struct.{Struct}
+use Rattle.planus_schema.specs.declared.schema.StructField.{StructField}
+use Rattle.planus_schema.specs.declared.schema.TableField.{TableField}
+use Rattle.planus_schema.specs.declared.schema.Union.{Union}
+use Rattle.planus_schema.specs.declared.schema.UnionMember.{UnionMember}
+use Rattle.planus_schema.specs.Numbers.{scalar_size}
+use Rattle.planus_resolve.specs.Defaults.{ValueV}
 use Rattle.planus_conform.specs.declared.breaks.Break.{Break}
 use Rattle.planus_conform.specs.declared.breaks.Change.{Change}
 use Rattle.planus_conform.specs.declared.breaks.Change.TheVariants as change

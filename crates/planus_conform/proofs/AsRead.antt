@@ -9,9 +9,9 @@ use Rattle.planus_dump.specs.AsRead.{ReadingsAreSaid}
 use Rattle.planus_dump.specs.Lines.{quoted}
 use Rattle.planus_dump.specs.ReadingViews.{table_seen}
 use Rattle.planus_dump.specs.declared.values.Leaf.TheVariants as leaf
-use Rattle.planus_layout.specs.declared.schema.Declared.{Declared}
-use Rattle.planus_layout.specs.declared.schema.FieldType.{FieldType}
-use Rattle.planus_layout.specs.declared.schema.TableField.{TableField}
+use Rattle.planus_schema.specs.declared.schema.Declared.{Declared}
+use Rattle.planus_schema.specs.declared.schema.FieldType.{FieldType}
+use Rattle.planus_schema.specs.declared.schema.TableField.{TableField}
 use Rattle.planus_conform.specs.Found.{absent, shown, table}
 use Rattle.planus_conform.specs.Values.{said, table_found}
 use Rattle.planus_conform.specs.Reads.{absent_found, present_found, placed_found, found_by, field_found}

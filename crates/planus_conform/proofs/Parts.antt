@@ -4,10 +4,10 @@ use Rattle.std.specs.Prelude.{◌==◌, ◌&&◌, ◌||◌, not, if◌then◌els
 use Rattle.std.specs.Str.{bytes_eq}
 use Rattle.std.proofs.lemmas.Bool.{eqb-true}
 use Rattle.std.proofs.lemmas.Slice.Eq.{bytes_eq-Decides}
-use Rattle.planus_layout.specs.declared.number.Number.{Number}
-use Rattle.planus_layout.specs.declared.scalar.Scalar.{Scalar}
-use Rattle.planus_layout.specs.declared.scalar.Scalar.TheVariants as scalar
-use Rattle.planus_schema.specs.Defaults.{ValueV, absent as nothing, integer, float, text, empty}
+use Rattle.planus_schema.specs.declared.number.Number.{Number}
+use Rattle.planus_schema.specs.declared.scalar.Scalar.{Scalar}
+use Rattle.planus_schema.specs.declared.scalar.Scalar.TheVariants as scalar
+use Rattle.planus_resolve.specs.Defaults.{ValueV, absent as nothing, integer, float, text, empty}
 use Rattle.planus_conform.specs.Types.{scalar_code, same_truth}
 use Rattle.planus_conform.specs.Defaults.{same_number, same_value}
 use Rattle.planus_conform.specs.Breaks.{change_if}

@@ -4,8 +4,8 @@ use Rattle.std.specs.Prelude.{Option, Some, None, take, drop, Vec}
 use Rattle.std.specs.Str.{bytes_eq}
 use Rattle.std.specs.declared.alloc.Global.{Global}
 use Rattle.planus_dump.specs.Answers.{Seen, SeenItems, SeenUnions}
-use Rattle.planus_layout.specs.declared.schema.Declared.{Declared}
-use Rattle.planus_layout.specs.declared.schema.Schema.{Schema}
+use Rattle.planus_schema.specs.declared.schema.Declared.{Declared}
+use Rattle.planus_schema.specs.declared.schema.Schema.{Schema}
 use Rattle.planus_conform.specs.declared.breaks.Way.{Way}
 use Rattle.planus_conform.specs.declared.breaks.Way.TheVariants as way
 use Rattle.planus_conform.specs.Found.{Call, Found, unknown, withdrawn, unopened, absent, missing}

@@ -10,10 +10,10 @@ use Rattle.planus_read.specs.Tables.{Reads, FieldAnswer, ShowsTable}
 use Rattle.planus_dump.specs.Lines.{quoted}
 use Rattle.planus_dump.specs.ReadingViews.{table_seen}
 use Rattle.planus_dump.specs.Tests.{fault_text}
-use Rattle.planus_layout.specs.declared.schema.Base.TheVariants as base
-use Rattle.planus_layout.specs.declared.schema.Declared.{Declared}
-use Rattle.planus_layout.specs.declared.schema.FieldType.{FieldType}
-use Rattle.planus_layout.specs.declared.schema.TableField.{TableField}
+use Rattle.planus_schema.specs.declared.schema.Base.TheVariants as base
+use Rattle.planus_schema.specs.declared.schema.Declared.{Declared}
+use Rattle.planus_schema.specs.declared.schema.FieldType.{FieldType}
+use Rattle.planus_schema.specs.declared.schema.TableField.{TableField}
 use Rattle.planus_conform.specs.Found.{Found, absent, shown, fault, table}
 use Rattle.planus_conform.specs.Reads.{default_of, field_found}
 

@@ -1,10 +1,10 @@
 -- Schemas that conform.
 use Rattle.std.specs.Prelude.{◌≡◌, ℕ, ◌||◌, not, List, Bool, true, Option, Some, slice_get}
 use Rattle.std.specs.List.{list_all}
-use Rattle.planus_layout.specs.declared.schema.Body.{Body}
-use Rattle.planus_layout.specs.declared.schema.Body.TheVariants as body
-use Rattle.planus_layout.specs.declared.schema.Declared.{Declared}
-use Rattle.planus_layout.specs.declared.schema.Schema.{Schema}
+use Rattle.planus_schema.specs.declared.schema.Body.{Body}
+use Rattle.planus_schema.specs.declared.schema.Body.TheVariants as body
+use Rattle.planus_schema.specs.declared.schema.Declared.{Declared}
+use Rattle.planus_schema.specs.declared.schema.Schema.{Schema}
 use Rattle.planus_conform.specs.declared.breaks.Way.{Way}
 use Rattle.planus_conform.specs.declared.rename.Rename.{Rename}
 use Rattle.planus_conform.specs.Values.{body_at}

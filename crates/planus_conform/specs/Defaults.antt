@@ -1,9 +1,9 @@
 -- Absent fields with the same value.
 use Rattle.std.specs.Prelude.{◌==◌, ◌&&◌, ◌||◌, Bool, true, false, if◌then◌else◌}
 use Rattle.std.specs.Str.{bytes_eq}
-use Rattle.planus_layout.specs.declared.number.Number.{Number}
-use Rattle.planus_layout.specs.declared.schema.TableField.{TableField}
-use Rattle.planus_schema.specs.Defaults.{ValueV, absent as nothing, integer, float, text, empty}
+use Rattle.planus_schema.specs.declared.number.Number.{Number}
+use Rattle.planus_schema.specs.declared.schema.TableField.{TableField}
+use Rattle.planus_resolve.specs.Defaults.{ValueV, absent as nothing, integer, float, text, empty}
 use Rattle.planus_conform.specs.Reads.{is_nothing, given, default_of}
 use Rattle.planus_conform.specs.Types.{same_truth}
 

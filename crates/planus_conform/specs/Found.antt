@@ -1,8 +1,8 @@
 -- Calls of the code of a schema, and what they return.
 use Rattle.std.specs.Prelude.{ℕ, List}
 use Rattle.planus_dump.specs.Answers.{Seen, SeenItems, SeenUnions}
-use Rattle.planus_layout.specs.declared.schema.Base.{Base}
-use Rattle.planus_schema.specs.Defaults.{ValueV}
+use Rattle.planus_schema.specs.declared.schema.Base.{Base}
+use Rattle.planus_resolve.specs.Defaults.{ValueV}
 
 -- A call of an accessor: of a table's field by its slot, of a struct's field by its distance, of an
 -- item of a vector, or of the root of the buffer that is in the byte vector of a slot.

@@ -2,7 +2,7 @@
 use Rattle.std.specs.Prelude.{◌≡◌, ℕ, ◌==◌, Bool, false, List, [], ◌∷◌, map, position}
 use Rattle.std.specs.Prelude.{Option, Some, None, slice_get, if◌then◌else◌}
 use Rattle.std.specs.Str.{bytes_eq}
-use Rattle.planus_layout.specs.declared.schema.Declared.{Declared}
+use Rattle.planus_schema.specs.declared.schema.Declared.{Declared}
 use Rattle.planus_conform.specs.declared.rename.Rename.{Rename}
 
 -- the index of the first declaration of this name

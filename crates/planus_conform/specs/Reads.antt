@@ -6,18 +6,18 @@ use Rattle.planus_read.specs.Tables.{Slot}
 use Rattle.planus_dump.specs.Answers.{Seen, SeenItems, SeenUnion, SeenUnions, table_at}
 use Rattle.planus_dump.specs.Answers.{union_at, unions_at}
 use Rattle.planus_dump.specs.Tests.{answered, byte_list_tests, content_at}
-use Rattle.planus_layout.specs.declared.schema.Base.{Base}
-use Rattle.planus_layout.specs.declared.schema.Base.TheVariants as base
-use Rattle.planus_layout.specs.declared.schema.Declared.{Declared}
-use Rattle.planus_layout.specs.declared.schema.FieldType.{FieldType}
-use Rattle.planus_layout.specs.declared.schema.Schema.{Schema}
-use Rattle.planus_layout.specs.declared.schema.Struct.{Struct}
-use Rattle.planus_layout.specs.declared.schema.StructField.{StructField}
-use Rattle.planus_layout.specs.declared.schema.TableField.{TableField}
-use Rattle.planus_layout.specs.Numbers.{zero_number}
-use Rattle.planus_schema.specs.Defaults.{ValueV, absent as nothing, integer, float, text, empty}
-use Rattle.planus_schema.specs.Defaults.{value_of}
-use Rattle.planus_schema.specs.Tables.{is_number}
+use Rattle.planus_schema.specs.declared.schema.Base.{Base}
+use Rattle.planus_schema.specs.declared.schema.Base.TheVariants as base
+use Rattle.planus_schema.specs.declared.schema.Declared.{Declared}
+use Rattle.planus_schema.specs.declared.schema.FieldType.{FieldType}
+use Rattle.planus_schema.specs.declared.schema.Schema.{Schema}
+use Rattle.planus_schema.specs.declared.schema.Struct.{Struct}
+use Rattle.planus_schema.specs.declared.schema.StructField.{StructField}
+use Rattle.planus_schema.specs.declared.schema.TableField.{TableField}
+use Rattle.planus_schema.specs.Numbers.{zero_number}
+use Rattle.planus_resolve.specs.Defaults.{ValueV, absent as nothing, integer, float, text, empty}
+use Rattle.planus_resolve.specs.Defaults.{value_of}
+use Rattle.planus_resolve.specs.Tables.{is_number}
 use Rattle.planus_conform.specs.Found.{Call, field, part, item, buffer, Found, unknown, withdrawn}
 use Rattle.planus_conform.specs.Found.{unopened}
 use Rattle.planus_conform.specs.Found.{absent, missing, default, fault, table, structure, member}

@@ -1,6 +1,6 @@
 //! What breaks.
 
-use planus_layout::Number;
+use planus_schema::Number;
 
 /// Which code has to read which data as the other does.
 #[derive(Clone, Copy)]

@@ -17,7 +17,7 @@ use crate::statements::{identifier_change, root_change};
 use crate::structs::add_struct;
 use crate::unions::add_union;
 use crate::ways::note;
-use planus_layout::{Body, Declared, Schema};
+use planus_schema::{Body, Declared, Schema};
 use std::alloc::{AllocError, Global};
 
 fn body_if(declared: &[Declared], index: Option<usize>) -> Option<&Body>

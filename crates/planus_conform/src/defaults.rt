@@ -2,16 +2,16 @@
 
 ghost use Rattle.std.specs.Prelude.{◌≡◌, Some};
 ghost use Rattle.std.specs.Option.{option_map};
-ghost use Rattle.planus_layout.specs.Numbers.{zero_number as zero_lem};
-ghost use Rattle.planus_schema.specs.Defaults.{value_of, integer};
-ghost use Rattle.planus_schema.specs.Tables.{is_number as is_number_lem};
+ghost use Rattle.planus_schema.specs.Numbers.{zero_number as zero_lem};
+ghost use Rattle.planus_resolve.specs.Defaults.{value_of, integer};
+ghost use Rattle.planus_resolve.specs.Tables.{is_number as is_number_lem};
 ghost use Rattle.planus_conform.specs.Reads.{is_nothing as is_nothing_lem, given, default_of};
 ghost use Rattle.planus_conform.specs.Defaults.{same_number as same_number_lem};
 ghost use Rattle.planus_conform.specs.Defaults.{same_value as same_value_lem};
 ghost use Rattle.planus_conform.specs.Defaults.{same_default as same_default_lem};
 
 use crate::types::same_truth;
-use planus_layout::{Base, FieldType, Number, TableField, Value};
+use planus_schema::{Base, FieldType, Number, TableField, Value};
 
 fn is_number(kind: FieldType) -> bool
     ensures { result ≡ is_number_lem kind }

@@ -11,7 +11,7 @@ use crate::breaks::{Break, Change, Place, Way};
 use crate::defaults::same_number;
 use crate::types::{same_scalar, same_truth};
 use crate::ways::{change_if, meets_new, meets_old, note};
-use planus_layout::{Enum, EnumValue, Number};
+use planus_schema::{Enum, EnumValue, Number};
 use std::alloc::AllocError;
 
 fn has_number(values: &[EnumValue], number: Number) -> bool

@@ -15,7 +15,7 @@ use crate::defaults::same_default;
 use crate::matching::are_matched;
 use crate::types::{same_truth, same_type};
 use crate::ways::{change_if, meets_new, note};
-use planus_layout::TableField;
+use planus_schema::TableField;
 use std::alloc::AllocError;
 
 fn field_in(fields: &[TableField], slot: usize) -> Option<&TableField>

@@ -1,7 +1,7 @@
 //! Laws of breaks. Each function is a theorem.
 
 ghost use Rattle.std.specs.Prelude.{ℕ, List, Option};
-ghost use Rattle.planus_layout.specs.declared.schema.Declared as declared;
+ghost use Rattle.planus_schema.specs.declared.schema.Declared as declared;
 ghost use Rattle.planus_conform.specs.declared.breaks.Way as ways;
 ghost use Rattle.planus_conform.specs.Witnesses.{ChangesShow};
 ghost use Rattle.planus_conform.specs.AsRead.{TextsAreFound, TablesAreFound};

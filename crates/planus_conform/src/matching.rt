@@ -7,7 +7,7 @@ ghost use Rattle.planus_conform.specs.Matching.{match_at as match_at_lem};
 ghost use Rattle.planus_conform.specs.Types.{are_matched as are_matched_lem};
 
 use crate::rename::Rename;
-use planus_layout::Declared;
+use planus_schema::Declared;
 use std::alloc::{AllocError, Global};
 
 /// Returns the index of the first declaration of this name.

@@ -11,7 +11,7 @@ ghost use Rattle.planus_conform.specs.Breaks.{part_breaks, struct_breaks};
 use crate::breaks::{Break, Change, Place};
 use crate::types::same_base;
 use crate::ways::{change_if, note};
-use planus_layout::{Struct, StructField};
+use planus_schema::{Struct, StructField};
 use std::alloc::AllocError;
 
 fn part_in(fields: &[StructField], distance: usize) -> Option<&StructField>

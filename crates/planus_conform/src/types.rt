@@ -7,7 +7,7 @@ ghost use Rattle.planus_conform.specs.Types.{same_truth as same_truth_lem};
 ghost use Rattle.planus_conform.specs.Types.{same_type as same_type_lem};
 
 use crate::matching::are_matched;
-use planus_layout::{Base, FieldType, Scalar};
+use planus_schema::{Base, FieldType, Scalar};
 
 fn scalar_code(scalar: Scalar) -> u8
     ensures { result ≡ code_lem scalar }

@@ -12,7 +12,7 @@ ghost use Rattle.planus_conform.specs.Breaks.{union_breaks};
 use crate::breaks::{Break, Change, Place, Way};
 use crate::matching::are_matched;
 use crate::ways::{change_if, meets_new, meets_old, note};
-use planus_layout::{Union, UnionMember};
+use planus_schema::{Union, UnionMember};
 use std::alloc::AllocError;
 
 fn member_in(members: &[UnionMember], tag: u8) -> Option<&UnionMember>

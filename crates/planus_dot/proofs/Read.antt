@@ -4,15 +4,15 @@ use Rattle.std.specs.Prelude.{◌&&◌, codes, slice_get}
 use Rattle.std.specs.List.{flat_map, list_all}
 use Rattle.std.proofs.lemmas.List.Folds.{list_all-append, flat_map-map}
 use Rattle.std.proofs.lemmas.Grind.{flat_map-append}
-use Rattle.planus_layout.specs.declared.scalar.Scalar.{Scalar}
-use Rattle.planus_layout.specs.declared.scalar.Scalar.TheVariants as scalar
-use Rattle.planus_layout.specs.declared.schema.Base.{Base}
-use Rattle.planus_layout.specs.declared.schema.Base.TheVariants as base
-use Rattle.planus_layout.specs.declared.schema.Body.{Body}
-use Rattle.planus_layout.specs.declared.schema.Body.TheVariants as body
-use Rattle.planus_layout.specs.declared.schema.Declared.{Declared}
-use Rattle.planus_layout.specs.declared.schema.FieldType.{FieldType}
-use Rattle.planus_layout.specs.declared.schema.Schema.{Schema}
+use Rattle.planus_schema.specs.declared.scalar.Scalar.{Scalar}
+use Rattle.planus_schema.specs.declared.scalar.Scalar.TheVariants as scalar
+use Rattle.planus_schema.specs.declared.schema.Base.{Base}
+use Rattle.planus_schema.specs.declared.schema.Base.TheVariants as base
+use Rattle.planus_schema.specs.declared.schema.Body.{Body}
+use Rattle.planus_schema.specs.declared.schema.Body.TheVariants as body
+use Rattle.planus_schema.specs.declared.schema.Declared.{Declared}
+use Rattle.planus_schema.specs.declared.schema.FieldType.{FieldType}
+use Rattle.planus_schema.specs.declared.schema.Schema.{Schema}
 use Rattle.planus_dot.specs.Rows.{RowV, rows_of, declared_at}
 use Rattle.planus_dot.specs.Types.{scalar_name, name_of, name_at, base_name}
 use Rattle.planus_dot.specs.Nodes.{word_of, integer_of, kind_text, row_text, rows_text, title_text, label_text, node_line, nodes_text}

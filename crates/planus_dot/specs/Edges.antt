@@ -1,7 +1,7 @@
 -- The edges of a graph: references from a row of a declaration to a declaration.
 use Rattle.std.specs.Prelude.{ℕ, List, [], ◌∷◌, ◌++◌, codes, Option, Some, None}
 use Rattle.std.specs.List.{flat_map}
-use Rattle.planus_layout.specs.declared.schema.Declared.{Declared}
+use Rattle.planus_schema.specs.declared.schema.Declared.{Declared}
 use Rattle.planus_dot.specs.Rows.{RowV, rows_of, declared_at}
 
 -- from a declaration to another, both by their full names; the label is the name of the row

@@ -1,6 +1,6 @@
 -- The text of a graph.
 use Rattle.std.specs.Prelude.{ℕ, List, ◌++◌, codes}
-use Rattle.planus_layout.specs.declared.schema.Schema.{Schema}
+use Rattle.planus_schema.specs.declared.schema.Schema.{Schema}
 use Rattle.planus_dot.specs.Nodes.{nodes_text}
 use Rattle.planus_dot.specs.Edges.{all_edges, edges_text}
 

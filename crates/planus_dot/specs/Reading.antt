@@ -2,8 +2,8 @@
 use Rattle.std.specs.Prelude.{◌≡◌, ℕ, Bool, ◌==◌, ◌&&◌, not, List, [], ◌∷◌, ◌++◌, codes, map}
 use Rattle.std.specs.Prelude.{if◌then◌else◌, nat_eq, drop, length}
 use Rattle.std.specs.List.{flat_map, list_all, starts_with}
-use Rattle.planus_layout.specs.declared.schema.Declared.{Declared}
-use Rattle.planus_layout.specs.declared.schema.Schema.{Schema}
+use Rattle.planus_schema.specs.declared.schema.Declared.{Declared}
+use Rattle.planus_schema.specs.declared.schema.Schema.{Schema}
 use Rattle.planus_dot.specs.Rows.{RowV, rows_of}
 use Rattle.planus_dot.specs.Edges.{Edge, edge_of, all_edges}
 use Rattle.planus_dot.specs.Graphs.{graph_text}

@@ -8,7 +8,7 @@ ghost use Rattle.planus_dot.specs.Edges.{all_edges};
 
 use crate::row::Row;
 use crate::rows::rows_of;
-use planus_layout::Declared;
+use planus_schema::Declared;
 use std::alloc::{AllocError, Global};
 
 fn declared_at(declarations: &[Declared], target: Option<usize>) -> Option<&Declared>

@@ -5,7 +5,7 @@ ghost use Rattle.planus_dot.specs.Graphs.{graph_text as graph_lem};
 
 use crate::edges::put_edges;
 use crate::nodes::put_nodes;
-use planus_layout::Schema;
+use planus_schema::Schema;
 use std::alloc::{AllocError, Global};
 
 /// Returns the graph of a schema, as Graphviz reads it: a node for each declaration, with its rows,

@@ -3,7 +3,7 @@
 ghost use Rattle.std.specs.Prelude.{◌≡◌, true};
 ghost use Rattle.std.specs.List.{list_all};
 ghost use Rattle.planus_dot.specs.Reading.{has_plain_names, IsRead};
-ghost use Rattle.planus_layout.specs.declared.schema.Schema as schema;
+ghost use Rattle.planus_schema.specs.declared.schema.Schema as schema;
 
 /// In the text of a graph, read line by line, stand a node for each declaration of the schema and an
 /// edge for each reference, each once and in order, and nothing else; where no name has a quote or

@@ -11,7 +11,7 @@ ghost use Rattle.planus_dot.specs.Nodes.{nodes_text};
 use crate::row::Row;
 use crate::rows::rows_of;
 use crate::types::{put_type, scalar_name};
-use planus_layout::{Body, Declared, FieldType};
+use planus_schema::{Body, Declared, FieldType};
 use std::alloc::{AllocError, Global};
 
 /// Returns the word that declares it.

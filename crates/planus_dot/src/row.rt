@@ -1,6 +1,6 @@
 //! A row of a declaration.
 
-use planus_layout::FieldType;
+use planus_schema::FieldType;
 
 /// A field, a value of an enum or a member of a union.
 #[derive(Clone, Copy)]

@@ -6,7 +6,7 @@ ghost use Rattle.planus_dot.specs.Rows.{table_row as table_row_lem, struct_row a
 ghost use Rattle.planus_dot.specs.Rows.{value_row as value_row_lem, member_row as member_row_lem};
 
 use crate::row::Row;
-use planus_layout::{Base, Body, EnumValue, FieldType, StructField, TableField, UnionMember};
+use planus_schema::{Base, Body, EnumValue, FieldType, StructField, TableField, UnionMember};
 use std::alloc::{AllocError, Global};
 
 /// Returns the index of the declaration that a type names.

@@ -5,7 +5,7 @@ ghost use Rattle.planus_dot.specs.Types.{scalar_name as scalar_name_lem};
 ghost use Rattle.planus_dot.specs.Types.{name_at as name_at_lem, base_name as base_name_lem};
 ghost use Rattle.planus_dot.specs.Types.{type_text};
 
-use planus_layout::{Base, Declared, FieldType, Scalar};
+use planus_schema::{Base, Declared, FieldType, Scalar};
 use std::alloc::AllocError;
 
 pub(crate) fn scalar_name(scalar: Scalar) -> &'static str

@@ -7,22 +7,22 @@ use Rattle.std.specs.declared.alloc.Global.{Global}
 use Rattle.std.proofs.lemmas.List.{length-map}
 use Rattle.std.proofs.lemmas.Bool.{lt-ltb}
 use Rattle.std.proofs.lemmas.Bool.Decides.{nat_tests}
-use Rattle.planus_layout.specs.declared.schema.Base.{Base}
-use Rattle.planus_layout.specs.declared.schema.Base.TheVariants as base
-use Rattle.planus_layout.specs.declared.schema.Body.{Body}
-use Rattle.planus_layout.specs.declared.schema.Body.TheVariants as body
-use Rattle.planus_layout.specs.declared.schema.Declared.{Declared}
-use Rattle.planus_layout.specs.declared.schema.FieldType.{FieldType}
-use Rattle.planus_layout.specs.declared.schema.Schema.{Schema}
-use Rattle.planus_layout.specs.declared.schema.StructField.{StructField}
-use Rattle.planus_layout.specs.declared.schema.TableField.{TableField}
-use Rattle.planus_layout.specs.declared.schema.UnionMember.{UnionMember}
-use Rattle.planus_layout.specs.declared.scalar.Scalar.{Scalar}
-use Rattle.planus_layout.specs.declared.scalar.Scalar.TheVariants as scalar
-use Rattle.planus_layout.specs.Layouts.{body_in}
-use Rattle.planus_schema.specs.Sound.{IsSound, AreSound, RefersBody, RefersField, RefersBefore, Refers, IsNested, IsTableAt, IsBelow}
-use Rattle.planus_schema.specs.Schemas.{IsBody}
-use Rattle.planus_schema.specs.Unions.{tag_in, is_tag}
+use Rattle.planus_schema.specs.declared.schema.Base.{Base}
+use Rattle.planus_schema.specs.declared.schema.Base.TheVariants as base
+use Rattle.planus_schema.specs.declared.schema.Body.{Body}
+use Rattle.planus_schema.specs.declared.schema.Body.TheVariants as body
+use Rattle.planus_schema.specs.declared.schema.Declared.{Declared}
+use Rattle.planus_schema.specs.declared.schema.FieldType.{FieldType}
+use Rattle.planus_schema.specs.declared.schema.Schema.{Schema}
+use Rattle.planus_schema.specs.declared.schema.StructField.{StructField}
+use Rattle.planus_schema.specs.declared.schema.TableField.{TableField}
+use Rattle.planus_schema.specs.declared.schema.UnionMember.{UnionMember}
+use Rattle.planus_schema.specs.declared.scalar.Scalar.{Scalar}
+use Rattle.planus_schema.specs.declared.scalar.Scalar.TheVariants as scalar
+use Rattle.planus_schema.specs.Layouts.{body_in}
+use Rattle.planus_resolve.specs.Sound.{IsSound, AreSound, RefersBody, RefersField, RefersBefore, Refers, IsNested, IsTableAt, IsBelow}
+use Rattle.planus_resolve.specs.Schemas.{IsBody}
+use Rattle.planus_resolve.specs.Unions.{tag_in, is_tag}
 use Rattle.planus_dump.specs.declared.schemas.Schema as dump
 use Rattle.planus_dump.specs.declared.schemas.Kind.{Kind}
 use Rattle.planus_dump.specs.declared.schemas.TableSchema.{TableSchema}

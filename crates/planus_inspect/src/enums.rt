@@ -8,7 +8,7 @@ ghost use Rattle.planus_inspect.specs.Shown.{value_shown, enum_shown};
 use crate::kinds::scalar_number;
 use crate::names::shown_name;
 use planus_dump::{EnumSchema, Number as NumberType};
-use planus_layout::{Body, Declared, EnumValue, Number, Scalar};
+use planus_schema::{Body, Declared, EnumValue, Number, Scalar};
 use std::alloc::{AllocError, Global};
 
 fn low_bytes(size: usize, number: u64) -> u64

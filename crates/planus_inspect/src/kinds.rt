@@ -8,7 +8,7 @@ ghost use Rattle.planus_inspect.specs.Shown.{base_fixed as base_fixed_lem, kind_
 ghost use Rattle.planus_inspect.specs.Shown.{one_kind as one_kind_lem, list_kind as list_kind_lem};
 
 use planus_dump::{Fixed, Item, Kind, Number};
-use planus_layout::{Base, FieldType, Scalar};
+use planus_schema::{Base, FieldType, Scalar};
 
 pub(crate) fn scalar_number(scalar: Scalar) -> Number
     ensures { result ≡ scalar_number_lem scalar }

@@ -1,7 +1,7 @@
 //! A schema as a dump reads it.
 ghost use Rattle.std.specs.Prelude.{◌≡◌, true, map, IfOk};
-ghost use Rattle.planus_layout.specs.Layouts.{body_in};
-ghost use Rattle.planus_schema.specs.Sound.{IsSound, IsTableAt};
+ghost use Rattle.planus_schema.specs.Layouts.{body_in};
+ghost use Rattle.planus_resolve.specs.Sound.{IsSound, IsTableAt};
 ghost use Rattle.planus_dump.specs.Schemas.{is_good};
 ghost use Rattle.planus_inspect.specs.Shown.{Shows};
 
@@ -9,7 +9,7 @@ use crate::enums::enum_schema;
 use crate::structs::struct_schema;
 use crate::tables::table_schema;
 use crate::unions::union_schema;
-use planus_layout::Schema;
+use planus_schema::Schema;
 use std::alloc::{AllocError, Global};
 
 /// Returns what a dump needs to read a buffer by a schema, whose root is the table of this index

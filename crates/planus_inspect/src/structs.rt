@@ -7,7 +7,7 @@ ghost use Rattle.planus_inspect.specs.Shown.{struct_shown};
 use crate::kinds::base_fixed;
 use crate::names::shown_name;
 use planus_dump::{StructFieldSchema, StructSchema};
-use planus_layout::{Body, Declared, StructField};
+use planus_schema::{Body, Declared, StructField};
 use std::alloc::{AllocError, Global};
 
 fn field_schema(alloc: Global, field: &StructField) -> Result<StructFieldSchema, AllocError>

@@ -7,7 +7,7 @@ ghost use Rattle.planus_inspect.specs.Shown.{fields_shown, table_shown};
 use crate::kinds::kind_of;
 use crate::names::shown_name;
 use planus_dump::{FieldSchema, TableSchema};
-use planus_layout::{Body, Declared, TableField, is_union};
+use planus_schema::{Body, Declared, TableField, is_union};
 use std::alloc::{AllocError, Global};
 
 fn first_slot(field: &TableField) -> usize

@@ -5,7 +5,7 @@ ghost use Rattle.planus_inspect.specs.Shown.{member_shown, union_shown};
 
 use crate::names::shown_name;
 use planus_dump::VariantSchema;
-use planus_layout::{Body, Declared, UnionMember};
+use planus_schema::{Body, Declared, UnionMember};
 use std::alloc::{AllocError, Global};
 
 fn variant_schema(alloc: Global, member: &UnionMember) -> Result<VariantSchema, AllocError>

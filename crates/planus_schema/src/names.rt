@@ -1,39 +1,26 @@
-//! Lists of names.
+//! Names.
 
-ghost use Rattle.std.specs.Prelude.{◌≡◌, ◌++◌, ◌∷◌, [], ℕ, List, true, IfOk, not};
-ghost use Rattle.planus_layout.specs.Distinct.{is_in, items_of};
-ghost use Rattle.planus_schema.specs.inner.Index.{IsTaken};
+ghost use Rattle.std.specs.Prelude.{◌≡◌, position, IsTrue, ◌↔◌, Some};
+ghost use Rattle.std.specs.List.{list_any};
+ghost use Rattle.std.specs.Str.{bytes_eq};
 
-use std::alloc::{AllocError, Global};
-use std::collections::BTreeMap;
-
-/// Returns a copy of these words.
-pub(crate) fn copied(alloc: Global, words: &[Vec<u8>]) -> Result<Vec<Vec<u8>>, AllocError>
-    ensures { IfOk result (λ v. items_of v.items ≡ items_of words.now) }
+/// Returns whether a name is among these.
+pub fn has_name(names: &[Vec<u8>], name: &[u8]) -> bool
+    ensures { result ≡ list_any (λ w. bytes_eq w.items name.now) names.now }
 {
-    let mut out = Vec::new(alloc);
-    'words: for word in words {
-        let copy = Vec::from_slice(alloc, word)?;
-        out.push(copy)?;
-    }
-    Ok(out)
+    names.iter().any(|word| word.as_slice() == name)
 }
 
-/// Adds a name to the keys of a map; returns whether it was new.
-pub(crate) fn take_key<'n>(
-    names: &mut BTreeMap<&'n [u8], usize>,
-    name: &'n [u8],
-) -> Result<bool, AllocError>
-    ensures new { (list : List (List ℕ)) → IsTaken names.old list
-        → IfOk result (λ new. new ≡ not (is_in list name.now)) }
-    ensures taken { (list : List (List ℕ)) → IsTaken names.old list
-        → IfOk result (λ new. new ≡ true → IsTaken names.new (list ++ name.now ∷ [])) }
+/// Returns whether `found`, a name's first index, is this.
+pub fn is_first(found: Option<usize>, index: usize) -> bool
+    ensures { IsTrue result ↔ found ≡ Some index }
 {
-    match names.get(name) {
-        Some(_) => Ok(false),
-        None => {
-            names.insert(name, 0)?;
-            Ok(true)
-        }
-    }
+    found == Some(index)
+}
+
+/// Returns the index of a file, so that each is read once, however files include each other.
+pub fn file_index(files: &[Vec<u8>], name: &[u8]) -> Option<usize>
+    ensures { result ≡ position (λ file. bytes_eq file.items name.now) files.now }
+{
+    files.iter().position(|file| file.as_slice() == name)
 }

@@ -1,92 +1,62 @@
-//! The slots of fields.
+//! The slots of a table.
 
-ghost use Rattle.std.specs.Prelude.{◌≡◌, ◌+◌, ◌≤◌, true, false, map, IfOk, IfSome, Some};
-ghost use Rattle.planus_syntax.specs.Values.{field_of};
-ghost use Rattle.planus_layout.specs.Slots.{slots_taken as slots_taken_lem, AreSlots};
-ghost use Rattle.planus_layout.specs.Slots.{are_whole as are_whole_lem, width as width_lem};
-ghost use Rattle.planus_schema.specs.Tables.{has_ids as has_ids_lem, id_said};
-ghost use Rattle.planus_schema.specs.Wrong.{Tells};
-ghost use Rattle.planus_schema.specs.WrongTables.{wrong_slot, wrong_slots};
-ghost use Rattle.planus_schema.specs.WrongTables.{field_slot as field_slot_lem};
+ghost use Rattle.std.specs.Prelude.{◌≡◌, ◌≤◌, ◌++◌, IfOk, IfSome, OnOk};
+ghost use Rattle.planus_schema.specs.Slots.{is_union as is_union_lem, width as width_lem};
+ghost use Rattle.planus_schema.specs.Slots.{slots_taken as slots_taken_lem, slots_of, slot_said};
 
-use crate::attributes::{has, setting};
-use crate::fault::{Problem, Stop, or_return, wrong};
-use crate::structs::setting_number;
-use planus_layout::{FieldType, TableField, slot_of, slots_taken};
-use planus_syntax::Field;
+use crate::schema::{Base, FieldType, TableField};
 use std::alloc::{AllocError, Global};
 
-pub(crate) fn has_ids(fields: &[Field]) -> bool
-    ensures { result ≡ has_ids_lem (map field_of fields.now) }
+/// Returns whether this is a union or a vector of unions.
+pub fn is_union(kind: FieldType) -> bool
+    ensures { result ≡ is_union_lem kind }
 {
-    let mut rest = fields;
-    'fields: while let Some((field, after)) = rest.split_first() {
-        if has(&field.attributes, b"id") {
-            return true;
-        }
-        rest = after;
-    }
-    false
-}
-
-fn id_of(field: &Field) -> Option<usize>
-    ensures small { IfSome result (λ n. n ≤ 65535) }
-    ensures exact { result ≡ id_said (field_of field.now) }
-{
-    match setting(&field.attributes, b"id") {
-        Some(attribute) if attribute.value.is_none() => Some(0),
-        Some(attribute) => match setting_number(attribute) {
-            Some(number) if number <= 65535 => Some(number as usize),
-            _ => None,
-        },
-        None => None,
+    match kind.base {
+        Base::Union(_) => true,
+        _ => false,
     }
 }
 
-pub(crate) fn field_slot(
-    field: &Field,
-    kind: FieldType,
-    ids: bool,
-    next: usize,
-) -> Result<usize, Stop>
-    requires { next ≤ 65535 }
-    ensures id { ids ≡ true → IfOk result (λ n. id_said (field_of field.now) ≡ Some n) }
-    ensures order { ids ≡ false → IfOk result (λ n. n + 1 ≡ next + width_lem kind) }
-    ensures slot { IfOk result (λ n. n ≡ field_slot_lem kind ids next field.now) }
-    ensures wrong { Tells (wrong_slot kind ids next field.now) result }
+/// Returns how many slots a field takes.
+pub fn width(kind: FieldType) -> usize
+    ensures { result ≡ width_lem kind }
 {
-    match slot_of(id_of(field), kind, ids, next) {
-        Some(slot) => Ok(slot),
-        None if !has(&field.attributes, b"id") => Err(wrong(Problem::IdMissing, field.left)),
-        None => Err(wrong(Problem::WrongId, field.left)),
+    if is_union(kind) { 2 } else { 1 }
+}
+
+/// Returns the next slot, or with `ids` the field's, if a union's type has room before it.
+pub fn slot_of(id: Option<usize>, kind: FieldType, ids: bool, next: usize) -> Option<usize>
+    requires next { next ≤ 65535 }
+    requires id { IfSome id (λ n. n ≤ 65535) }
+    ensures { result ≡ slot_said id kind ids next }
+{
+    let slots = width(kind);
+    if !ids {
+        return Some(next + (slots - 1));
+    }
+    match id {
+        Some(id) if slots <= id + 1 => Some(id),
+        _ => None,
     }
 }
 
-/// Returns whether these are all the numbers from 0 on, each once.
-fn are_whole(alloc: Global, slots: &[usize]) -> Result<bool, AllocError>
-    ensures { IfOk result (λ b. b ≡ are_whole_lem slots.now) }
+fn add_slots(slots: &mut Vec<usize>, field: &TableField) -> Result<(), AllocError>
+    ensures { OnOk result (slots.new.items ≡ slots.old.items ++ slots_of field.now) }
 {
-    let mut taken = vec![in alloc; false; slots.len()]?;
-    'slots: for slot in slots {
-        if *slot >= taken.len() || taken[*slot] {
-            return Ok(false);
-        }
-        taken[*slot] = true;
+    if is_union(field.kind) {
+        slots.push(field.slot.saturating_sub(1))?;
     }
-    Ok(true)
-}
-
-pub(crate) fn check_slots(alloc: Global, fields: &[TableField], left: usize) -> Result<(), Stop>
-    ensures sound { IfOk result (λ _. AreSlots (slots_taken_lem fields.now)) }
-    ensures wrong { Tells (wrong_slots left (slots_taken_lem fields.now)) result }
-{
-    let slots = or_return!(slots_taken(alloc, fields), Stop::OutOfMemory);
-    if slots.len() > 32765 {
-        return Err(wrong(Problem::TooManySlots, left));
-    }
-    let whole = or_return!(are_whole(alloc, &slots), Stop::OutOfMemory);
-    if !whole {
-        return Err(wrong(Problem::IdsWithGap, left));
-    }
+    slots.push(field.slot)?;
     Ok(())
+}
+
+/// Returns the slots that fields take.
+pub fn slots_taken(alloc: Global, fields: &[TableField]) -> Result<Vec<usize>, AllocError>
+    ensures { IfOk result (λ v. v.items ≡ slots_taken_lem fields.now) }
+{
+    let mut slots = Vec::new(alloc);
+    'fields: for field in fields {
+        add_slots(&mut slots, field)?;
+    }
+    Ok(slots)
 }

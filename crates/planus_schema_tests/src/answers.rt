@@ -1,6 +1,6 @@
 //! What texts of schemas mean.
 
-use planus_schema::{Schema, resolve};
+use planus_resolve::{Schema, resolve};
 use planus_syntax::{Declaration, parse_text};
 use std::alloc::Global;
 

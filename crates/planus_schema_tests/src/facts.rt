@@ -1,6 +1,6 @@
 //! The facts of a schema, as `facts.cpp` prints them: `T.x slot 3`, `T.x of [int]`, `P size 12`.
 
-use planus_schema::{
+use planus_resolve::{
     Base, Body, Declared, EnumValue, FieldType, Number, Scalar, Schema, StructField, TableField,
     UnionMember, Value,
 };

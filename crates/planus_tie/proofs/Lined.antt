@@ -2,11 +2,11 @@
 use Rattle.std.proofs.Common.{◌≡◌, ◌∙◌, ap, sym, refl, subst, ℕ, ◌+◌, ◌<◌, ◌≤◌, List, [], ◌∷◌, ◌++◌, length, drop, get_or, append_assoc, drop-cons, add-one}
 use Rattle.std.proofs.lemmas.List.{append-nil, drop_all}
 use Rattle.std.specs.List.Sorted.{IsPermutation, IsNonDecreasingBy}
-use Rattle.planus_layout.specs.declared.schema.Declared.{Declared}
-use Rattle.planus_layout.specs.declared.schema.Table.{Table}
-use Rattle.planus_plan.specs.Plans.{IsPlan}
-use Rattle.planus_plan.specs.declared.plan.Line.{Line}
-use Rattle.planus_plan.specs.declared.plan.Plan.{Plan}
+use Rattle.planus_schema.specs.declared.schema.Declared.{Declared}
+use Rattle.planus_schema.specs.declared.schema.Table.{Table}
+use Rattle.planus_schema.specs.Plans.{IsPlan}
+use Rattle.planus_schema.specs.declared.plan.Line.{Line}
+use Rattle.planus_schema.specs.declared.plan.Plan.{Plan}
 use Rattle.planus_tie.specs.Shapes.{AreBySlot, AreLines, BodyLines, PushesLines}
 
 pub lines_added : (ds : List Declared) (k i : ℕ) (d one : Declared) (old new : List Line) → k < length ds → i ≡ k → one ≡ get_or ds k d → PushesLines ds i one.body old new → ((rest : List Line) → AreLines ds k (drop k ds) rest → AreLines ds 0 ds (old ++ rest)) → (rest : List Line) → AreLines ds (k + 1) (drop (k + 1) ds) rest → AreLines ds 0 ds (new ++ rest)

@@ -1,7 +1,7 @@
 -- Entries that are added in turn.
 use Rattle.std.proofs.Common.{◌≡◌, ◌∙◌, ap, sym, ℕ, ◌+◌, ◌<◌, List, [], ◌∷◌, ◌++◌, length, take, drop, get_or, append_assoc, drop-cons, add-one}
 use Rattle.std.specs.List.{flat_map}
-use Rattle.planus_plan.specs.declared.plan.Line.{Line}
+use Rattle.planus_schema.specs.declared.plan.Line.{Line}
 use Rattle.planus_tie.specs.Wanted.{part_text, parts_text}
 use Rattle.planus_tie.specs.declared.groups.Entry.{Entry}
 use Rattle.planus_tie.specs.declared.naming.Naming.{Naming}

@@ -2,14 +2,14 @@
 use Rattle.std.proofs.Common.{◌≡◌, ℕ, Bool, IsTrue, List, sym, ap, subst, ◌∙◌}
 use Rattle.std.specs.Prelude.{Result, Ok, Err, IfOk}
 use Rattle.std.specs.Prelude.{Option}
-use Rattle.planus_layout.specs.declared.schema.Body.{Body}
-use Rattle.planus_layout.specs.declared.schema.Body.TheVariants as body
-use Rattle.planus_layout.specs.declared.schema.Declared.{Declared}
-use Rattle.planus_layout.specs.declared.schema.Table.{Table}
-use Rattle.planus_plan.specs.Plans.{IsPlan}
-use Rattle.planus_plan.specs.declared.plan.Plan.{Plan}
+use Rattle.planus_schema.specs.declared.schema.Body.{Body}
+use Rattle.planus_schema.specs.declared.schema.Body.TheVariants as body
+use Rattle.planus_schema.specs.declared.schema.Declared.{Declared}
+use Rattle.planus_schema.specs.declared.schema.Table.{Table}
+use Rattle.planus_schema.specs.Plans.{IsPlan}
+use Rattle.planus_schema.specs.declared.plan.Plan.{Plan}
 use Rattle.planus_tie.specs.Bare.{bare}
-use Rattle.planus_plan.specs.declared.plan.Line.{Line}
+use Rattle.planus_schema.specs.declared.plan.Line.{Line}
 use Rattle.planus_tie.specs.Files.{text_at, view_path_of, IsViewTextTied, IsBodyViewTied}
 use Rattle.planus_tie.specs.declared.files.PrintedFile.{PrintedFile}
 use Rattle.planus_tie.specs.SchemaTies.{IsSchemaTied, is_schema_text}

@@ -1,11 +1,11 @@
 -- The names of a schema's tables and fields.
 use Rattle.std.specs.Prelude.{ℕ, ◌+◌, ◌&&◌, Bool, List, [], ◌∷◌, ◌++◌, map, length, codes, decimal}
 use Rattle.std.specs.List.{flat_map}
-use Rattle.planus_layout.specs.declared.schema.Body.{Body}
-use Rattle.planus_layout.specs.declared.schema.Body.TheVariants as body
-use Rattle.planus_layout.specs.declared.schema.Declared.{Declared}
-use Rattle.planus_plan.specs.Plans.{LineV, line_of}
-use Rattle.planus_plan.specs.declared.plan.Line.{Line}
+use Rattle.planus_schema.specs.declared.schema.Body.{Body}
+use Rattle.planus_schema.specs.declared.schema.Body.TheVariants as body
+use Rattle.planus_schema.specs.declared.schema.Declared.{Declared}
+use Rattle.planus_schema.specs.Plans.{LineV, line_of}
+use Rattle.planus_schema.specs.declared.plan.Line.{Line}
 use Rattle.planus_tie.specs.Ranks.{rank_in}
 use Rattle.planus_tie.specs.Reading.{after, begins, body_of}
 use Rattle.planus_tie.specs.Shapes.{comma_of, list_text}

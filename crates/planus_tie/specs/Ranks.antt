@@ -2,12 +2,12 @@
 use Rattle.std.specs.Prelude.{ℕ, ◌+◌, Bool, true, false, List, [], ◌∷◌, ◌++◌, if◌then◌else◌}
 use Rattle.std.specs.Prelude.{unwrap_or, slice_get}
 use Rattle.std.specs.List.{list_all}
-use Rattle.planus_layout.specs.declared.schema.Base.{Base}
-use Rattle.planus_layout.specs.declared.schema.Base.TheVariants as base
-use Rattle.planus_layout.specs.declared.schema.Body.{Body}
-use Rattle.planus_layout.specs.declared.schema.Body.TheVariants as body
-use Rattle.planus_layout.specs.declared.schema.Declared.{Declared}
-use Rattle.planus_layout.specs.declared.schema.StructField.{StructField}
+use Rattle.planus_schema.specs.declared.schema.Base.{Base}
+use Rattle.planus_schema.specs.declared.schema.Base.TheVariants as base
+use Rattle.planus_schema.specs.declared.schema.Body.{Body}
+use Rattle.planus_schema.specs.declared.schema.Body.TheVariants as body
+use Rattle.planus_schema.specs.declared.schema.Declared.{Declared}
+use Rattle.planus_schema.specs.declared.schema.StructField.{StructField}
 
 abbrev pub is_table : Body → Bool
 is_table (body.Table one) = true

@@ -1,6 +1,6 @@
 -- When a text is the schema as a value, with its names.
 use Rattle.std.specs.Prelude.{◌≡◌, ℕ, Bool, true, ◌&&◌, List}
-use Rattle.planus_plan.specs.declared.plan.Line.{Line}
+use Rattle.planus_schema.specs.declared.plan.Line.{Line}
 use Rattle.planus_tie.specs.Bare.{bare}
 use Rattle.planus_tie.specs.NameLists.{is_names_text}
 use Rattle.planus_tie.specs.Shapes.{AreLines, has_fields, has_ranges, has_tagged, has_schema}

@@ -4,19 +4,19 @@ use Rattle.std.specs.Prelude.{map, count_by, length, codes, decimal, Option, Som
 use Rattle.std.specs.Prelude.{if◌then◌else◌}
 use Rattle.std.specs.List.{flat_map}
 use Rattle.std.specs.List.Sorted.{IsPermutation, IsNonDecreasingBy}
-use Rattle.planus_layout.specs.Layouts.{measure_in, body_in}
-use Rattle.planus_layout.specs.declared.measure.Measure.{Measure}
-use Rattle.planus_layout.specs.declared.schema.Base.{Base}
-use Rattle.planus_layout.specs.declared.schema.Base.TheVariants as base
-use Rattle.planus_layout.specs.declared.schema.Body.{Body}
-use Rattle.planus_layout.specs.declared.schema.Body.TheVariants as body
-use Rattle.planus_layout.specs.declared.schema.Declared.{Declared}
-use Rattle.planus_layout.specs.declared.schema.Table.{Table}
-use Rattle.planus_layout.specs.declared.schema.TableField.{TableField}
-use Rattle.planus_layout.specs.declared.schema.UnionMember.{UnionMember}
-use Rattle.planus_plan.specs.Plans.{LineV, line_of, IsPlan}
-use Rattle.planus_plan.specs.declared.plan.Line.{Line}
-use Rattle.planus_plan.specs.declared.plan.Plan.{Plan}
+use Rattle.planus_schema.specs.Layouts.{measure_in, body_in}
+use Rattle.planus_schema.specs.declared.measure.Measure.{Measure}
+use Rattle.planus_schema.specs.declared.schema.Base.{Base}
+use Rattle.planus_schema.specs.declared.schema.Base.TheVariants as base
+use Rattle.planus_schema.specs.declared.schema.Body.{Body}
+use Rattle.planus_schema.specs.declared.schema.Body.TheVariants as body
+use Rattle.planus_schema.specs.declared.schema.Declared.{Declared}
+use Rattle.planus_schema.specs.declared.schema.Table.{Table}
+use Rattle.planus_schema.specs.declared.schema.TableField.{TableField}
+use Rattle.planus_schema.specs.declared.schema.UnionMember.{UnionMember}
+use Rattle.planus_schema.specs.Plans.{LineV, line_of, IsPlan}
+use Rattle.planus_schema.specs.declared.plan.Line.{Line}
+use Rattle.planus_schema.specs.declared.plan.Plan.{Plan}
 use Rattle.planus_tie.specs.Ranks.{rank_in}
 use Rattle.planus_tie.specs.Reading.{after, begins, body_of}
 use Rattle.planus_tie.specs.Wanted.{is_bytes, read_slot}

@@ -1,15 +1,15 @@
 -- A table's text that is its schema's.
 use Rattle.std.specs.Prelude.{◌≡◌, ℕ, Bool, true, false, ◌&&◌, ◌||◌, List, [], ◌∷◌, map}
 use Rattle.std.specs.Prelude.{Option, Some, None, if◌then◌else◌, take, drop, ◌==◌}
-use Rattle.planus_plan.specs.Plans.{LineV, line_of, IsPlan}
+use Rattle.planus_schema.specs.Plans.{LineV, line_of, IsPlan}
 use Rattle.planus_tie.specs.Bare.{bare}
 use Rattle.planus_tie.specs.Reading.{method_mark, body_of, after, list_in, begins}
 use Rattle.planus_tie.specs.Wanted.{call_text, list_text, member_of, group_mark, group_text}
 use Rattle.planus_tie.specs.Wanted.{is_spelled}
 use Rattle.std.specs.List.{list_all}
-use Rattle.planus_layout.specs.declared.schema.Table.{Table}
-use Rattle.planus_plan.specs.declared.plan.Line.{Line}
-use Rattle.planus_plan.specs.declared.plan.Plan.{Plan}
+use Rattle.planus_schema.specs.declared.schema.Table.{Table}
+use Rattle.planus_schema.specs.declared.plan.Line.{Line}
+use Rattle.planus_schema.specs.declared.plan.Plan.{Plan}
 use Rattle.planus_tie.specs.declared.groups.Entry.{Entry}
 use Rattle.planus_tie.specs.declared.naming.Naming.{Naming}
 

@@ -2,16 +2,16 @@
 use Rattle.std.specs.Prelude.{◌≡◌, ℕ, Bool, true, false, ◌&&◌, not, List, [], ◌∷◌, ◌++◌, map}
 use Rattle.std.specs.Prelude.{codes, decimal, Option, Some, None, if◌then◌else◌}
 use Rattle.std.specs.List.{slice_get}
-use Rattle.planus_layout.specs.Numbers.{is_float}
-use Rattle.planus_layout.specs.declared.schema.Base.{Base}
-use Rattle.planus_layout.specs.declared.schema.Base.TheVariants as base
-use Rattle.planus_layout.specs.declared.schema.Body.{Body}
-use Rattle.planus_layout.specs.declared.schema.Body.TheVariants as body
-use Rattle.planus_layout.specs.declared.schema.Declared.{Declared}
-use Rattle.planus_layout.specs.declared.schema.Table.{Table}
-use Rattle.planus_layout.specs.declared.schema.TableField.{TableField}
-use Rattle.planus_plan.specs.Plans.{LineV, line_of, IsPlan}
-use Rattle.planus_plan.specs.declared.plan.Plan.{Plan}
+use Rattle.planus_schema.specs.Numbers.{is_float}
+use Rattle.planus_schema.specs.declared.schema.Base.{Base}
+use Rattle.planus_schema.specs.declared.schema.Base.TheVariants as base
+use Rattle.planus_schema.specs.declared.schema.Body.{Body}
+use Rattle.planus_schema.specs.declared.schema.Body.TheVariants as body
+use Rattle.planus_schema.specs.declared.schema.Declared.{Declared}
+use Rattle.planus_schema.specs.declared.schema.Table.{Table}
+use Rattle.planus_schema.specs.declared.schema.TableField.{TableField}
+use Rattle.planus_schema.specs.Plans.{LineV, line_of, IsPlan}
+use Rattle.planus_schema.specs.declared.plan.Plan.{Plan}
 use Rattle.planus_tie.specs.Bare.{bare}
 use Rattle.planus_tie.specs.Ranks.{rank_in, is_total}
 use Rattle.planus_tie.specs.Reading.{method_mark, body_of, after}

@@ -5,22 +5,22 @@ use Rattle.std.specs.Global.{Vec}
 use Rattle.std.specs.List.{slice_get, flat_map, position_or_len}
 use Rattle.std.specs.Char.{to_ascii_uppercase, to_ascii_lowercase}
 use Rattle.std.specs.Str.{bytes_eq}
-use Rattle.planus_layout.specs.Slots.{is_union}
-use Rattle.planus_layout.specs.declared.number.Number.{Number}
-use Rattle.planus_layout.specs.declared.scalar.Scalar.{Scalar}
-use Rattle.planus_layout.specs.declared.scalar.Scalar.TheVariants as scalar
-use Rattle.planus_layout.specs.declared.schema.Base.{Base}
-use Rattle.planus_layout.specs.declared.schema.Base.TheVariants as base
-use Rattle.planus_layout.specs.declared.schema.Body.{Body}
-use Rattle.planus_layout.specs.declared.schema.Body.TheVariants as body
-use Rattle.planus_layout.specs.declared.schema.Declared.{Declared}
-use Rattle.planus_layout.specs.declared.schema.EnumValue.{EnumValue}
-use Rattle.planus_layout.specs.declared.schema.FieldType.{FieldType}
-use Rattle.planus_layout.specs.declared.schema.TableField.{TableField}
-use Rattle.planus_layout.specs.declared.schema.Value.{Value}
-use Rattle.planus_layout.specs.declared.schema.Value.TheVariants as value
-use Rattle.planus_plan.specs.Plans.{LineV, line_of}
-use Rattle.planus_plan.specs.declared.plan.Line.{Line}
+use Rattle.planus_schema.specs.Slots.{is_union}
+use Rattle.planus_schema.specs.declared.number.Number.{Number}
+use Rattle.planus_schema.specs.declared.scalar.Scalar.{Scalar}
+use Rattle.planus_schema.specs.declared.scalar.Scalar.TheVariants as scalar
+use Rattle.planus_schema.specs.declared.schema.Base.{Base}
+use Rattle.planus_schema.specs.declared.schema.Base.TheVariants as base
+use Rattle.planus_schema.specs.declared.schema.Body.{Body}
+use Rattle.planus_schema.specs.declared.schema.Body.TheVariants as body
+use Rattle.planus_schema.specs.declared.schema.Declared.{Declared}
+use Rattle.planus_schema.specs.declared.schema.EnumValue.{EnumValue}
+use Rattle.planus_schema.specs.declared.schema.FieldType.{FieldType}
+use Rattle.planus_schema.specs.declared.schema.TableField.{TableField}
+use Rattle.planus_schema.specs.declared.schema.Value.{Value}
+use Rattle.planus_schema.specs.declared.schema.Value.TheVariants as value
+use Rattle.planus_schema.specs.Plans.{LineV, line_of}
+use Rattle.planus_schema.specs.declared.plan.Line.{Line}
 use Rattle.planus_tie.specs.declared.groups.Entry.{Entry}
 use Rattle.planus_tie.specs.declared.naming.Naming.{Naming}
 

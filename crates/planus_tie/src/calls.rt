@@ -1,15 +1,14 @@
 //! The calls of accessors.
 
 ghost use Rattle.std.specs.Prelude.{◌≡◌, ◌++◌, IfOk, OnOk};
-ghost use Rattle.planus_plan.specs.Plans.{line_of};
+ghost use Rattle.planus_schema.specs.Plans.{line_of};
 ghost use Rattle.planus_tie.specs.Wanted.{call_text, function_of, place_text, type_arguments};
 
 use crate::defaults::push_default_argument;
 use crate::kinds::{ending, is_union, kind_word, read_slot};
 use crate::naming::Naming;
 use crate::pieces::{push_base, push_number, push_str};
-use planus_layout::TableField;
-use planus_plan::Line;
+use planus_schema::{Line, TableField};
 use std::alloc::{AllocError, Global};
 
 pub(crate) fn push_function(out: &mut Vec<u8>, field: &TableField) -> Result<(), AllocError>

@@ -2,7 +2,7 @@
 
 ghost use Rattle.std.specs.Prelude.{◌≡◌, ◌++◌, OnOk, codes};
 ghost use Rattle.std.specs.List.{slice_get};
-ghost use Rattle.planus_plan.specs.Plans.{line_of};
+ghost use Rattle.planus_schema.specs.Plans.{line_of};
 ghost use Rattle.planus_tie.specs.Wanted.{default_number as default_number_lem, integer_text};
 ghost use Rattle.planus_tie.specs.Wanted.{truth_text, constant_text, scalar_default, default_text};
 ghost use Rattle.planus_tie.specs.Wanted.{default_argument, enum_default, is_same as is_same_lem};
@@ -11,8 +11,7 @@ ghost use Rattle.planus_tie.specs.Wanted.{place_of as place_of_lem, type_of, mem
 use crate::kinds::has_default;
 use crate::naming::Naming;
 use crate::pieces::{push_capitals, push_number, push_str};
-use planus_layout::{Base, Body, EnumValue, Number, Scalar, Value};
-use planus_plan::Line;
+use planus_schema::{Base, Body, EnumValue, Line, Number, Scalar, Value};
 use std::alloc::AllocError;
 
 /// Returns the integer of a default; it is 0 where none is given.

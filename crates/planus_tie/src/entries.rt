@@ -1,7 +1,7 @@
 //! The lines of what is created.
 
 ghost use Rattle.std.specs.Prelude.{◌≡◌, ◌++◌, IfOk, OnOk, if◌then◌else◌, [], take, drop};
-ghost use Rattle.planus_plan.specs.Plans.{line_of};
+ghost use Rattle.planus_schema.specs.Plans.{line_of};
 ghost use Rattle.planus_tie.specs.Wanted.{encoded, entry_text, list_text, slots_text, kind_text};
 ghost use Rattle.planus_tie.specs.Wanted.{given_text, or_default_text, value_text};
 ghost use Rattle.planus_tie.specs.Wanted.{lines_text, part_text, parts_text, group_text};
@@ -13,8 +13,7 @@ use crate::groups::Entry;
 use crate::kinds::{has_default, is_reference, is_union};
 use crate::naming::Naming;
 use crate::pieces::{push_base, push_number, push_str};
-use planus_layout::{FieldType, TableField};
-use planus_plan::Line;
+use planus_schema::{FieldType, Line, TableField};
 use std::alloc::{AllocError, Global};
 
 fn push_slots(out: &mut Vec<u8>, field: &TableField) -> Result<(), AllocError>

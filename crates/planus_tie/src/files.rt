@@ -14,7 +14,7 @@ use crate::ranks::{is_table, ranks_of, totals_of};
 use crate::schema::is_schema_tied;
 use crate::tie::is_table_tied;
 use crate::views::is_view_tied;
-use planus_layout::{Body, Declared, Table};
+use planus_schema::{Body, Declared, Table};
 use std::alloc::{AllocError, Global};
 
 /// A file: its path in the crate's folder, and its text.

@@ -2,7 +2,7 @@
 
 use crate::kinds::is_union;
 use crate::shares::{GROUP, MOST, are_many, share_of};
-use planus_plan::Line;
+use planus_schema::Line;
 use std::alloc::{AllocError, Global};
 
 /// The fields of a group.

@@ -1,14 +1,14 @@
 //! The kinds of fields.
 
 ghost use Rattle.std.specs.Prelude.{◌≡◌};
-ghost use Rattle.planus_layout.specs.Slots.{is_union as is_union_lem};
+ghost use Rattle.planus_schema.specs.Slots.{is_union as is_union_lem};
 ghost use Rattle.planus_tie.specs.Wanted.{has_default as has_default_lem, scalar_word};
 ghost use Rattle.planus_tie.specs.Wanted.{is_bytes as is_bytes_lem, is_absent as is_absent_lem};
 ghost use Rattle.planus_tie.specs.Wanted.{kind_word as kind_word_lem, ending as ending_lem};
 ghost use Rattle.planus_tie.specs.Wanted.{is_number as is_number_lem, read_slot as read_slot_lem};
 ghost use Rattle.planus_tie.specs.Wanted.{is_reference as is_reference_lem, is_ubyte};
 
-use planus_layout::{Base, FieldType, Scalar, TableField, Value};
+use planus_schema::{Base, FieldType, Scalar, TableField, Value};
 
 /// Returns the name of a scalar type in code.
 pub fn scalar_name(scalar: Scalar) -> &'static str

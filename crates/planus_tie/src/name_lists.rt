@@ -1,7 +1,7 @@
 //! Whether a text has the names of the schema's tables and fields.
 
 ghost use Rattle.std.specs.Prelude.{◌≡◌, ◌++◌, IfOk, OnOk};
-ghost use Rattle.planus_plan.specs.Plans.{line_of};
+ghost use Rattle.planus_schema.specs.Plans.{line_of};
 ghost use Rattle.planus_tie.specs.NameLists.{table_in, tables_from, marked_text, quoted_text};
 ghost use Rattle.planus_tie.specs.NameLists.{table_name_text, table_name_texts};
 ghost use Rattle.planus_tie.specs.NameLists.{field_head_text, field_name_text, field_name_texts};
@@ -18,8 +18,7 @@ use crate::pieces::{push_number, push_str};
 use crate::ranks::rank_in;
 use crate::reading::{after, begins, body_of};
 use crate::schema::{comma_of, list_start};
-use planus_layout::{Body, Declared};
-use planus_plan::Line;
+use planus_schema::{Body, Declared, Line};
 use std::alloc::{AllocError, Global};
 
 fn push_table(out: &mut Vec<usize>, index: usize, body: &Body) -> Result<(), AllocError>

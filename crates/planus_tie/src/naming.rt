@@ -4,7 +4,7 @@ ghost use Rattle.std.specs.Prelude.{◌≡◌};
 ghost use Rattle.planus_tie.specs.Wanted.{type_of as type_of_lem, member_of as member_of_lem};
 ghost use Rattle.planus_tie.specs.Wanted.{module_of as module_of_lem};
 
-use planus_layout::Declared;
+use planus_schema::Declared;
 
 /// The names of types, of their modules and of members, by the indices of declarations and the
 /// places in these.

@@ -6,7 +6,7 @@ ghost use Rattle.planus_tie.specs.Wanted.{base_word};
 
 use crate::kinds::scalar_name;
 use crate::naming::Naming;
-use planus_layout::Base;
+use planus_schema::Base;
 use std::alloc::AllocError;
 
 pub(crate) fn push_str(out: &mut Vec<u8>, text: &str) -> Result<(), AllocError>

@@ -7,7 +7,7 @@ ghost use Rattle.planus_tie.specs.Ranks.{rank_by as rank_by_lem, rank_in as rank
 ghost use Rattle.planus_tie.specs.Ranks.{is_total as is_total_lem, totals_of as totals_of_lem};
 ghost use Rattle.planus_tie.specs.Ranks.{is_total_body as is_total_body_lem, are_total as are_total_lem};
 
-use planus_layout::{Base, Body, Declared, StructField};
+use planus_schema::{Base, Body, Declared, StructField};
 use std::alloc::{AllocError, Global};
 
 pub(crate) fn is_table(body: &Body) -> bool

@@ -2,7 +2,7 @@
 
 ghost use Rattle.std.specs.Prelude.{◌≡◌, ◌++◌, IfOk, OnOk, IsTrue, codes, decimal};
 ghost use Rattle.std.specs.List.{flat_map};
-ghost use Rattle.planus_plan.specs.Plans.{line_of};
+ghost use Rattle.planus_schema.specs.Plans.{line_of};
 ghost use Rattle.planus_tie.specs.Shapes.{numbered, plural, value_kind, base_kind, bytes_kind};
 ghost use Rattle.planus_tie.specs.Shapes.{size_of as size_of_lem, field_kind, field_start};
 ghost use Rattle.planus_tie.specs.Shapes.{field_text, field_texts, range_text, tagged_text};
@@ -25,8 +25,7 @@ use crate::pieces::{push_number, push_str};
 use crate::ranks::rank_in;
 use crate::reading::{after, begins, body_of};
 use crate::shapes::{Range, Tagged, lines_of, ranges_of, tagged_of};
-use planus_layout::{Base, Declared, TableField, measure_of};
-use planus_plan::Line;
+use planus_schema::{Base, Declared, Line, TableField, measure_of};
 use std::alloc::{AllocError, Global};
 
 fn push_plural(out: &mut Vec<u8>, name: &str, vector: bool) -> Result<(), AllocError>

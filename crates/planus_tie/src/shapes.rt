@@ -9,8 +9,7 @@ ghost use Rattle.planus_tie.specs.Shapes.{fields_in as fields_in_lem, tagged as 
 ghost use Rattle.planus_tie.specs.Shapes.{tagged_in, tagged_from};
 
 use crate::ranks::rank_in;
-use planus_layout::{Body, Declared, Table, UnionMember};
-use planus_plan::{Line, Plan};
+use planus_schema::{Body, Declared, Line, Plan, Table, UnionMember};
 use std::alloc::{AllocError, Global};
 
 /// The fields of a table in the list of all.

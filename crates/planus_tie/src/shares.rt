@@ -1,8 +1,7 @@
 //! The cost of each field to the checker. A list above [`MOST`] is split into groups.
 
 use crate::kinds::has_default;
-use planus_layout::{Base, TableField};
-use planus_plan::Line;
+use planus_schema::{Base, Line, TableField};
 
 /// The greatest cost of a list.
 pub(crate) const MOST: usize = 1000;

@@ -2,12 +2,12 @@
 
 ghost use Rattle.std.specs.Prelude.{◌≡◌, IfOk, map};
 ghost use Rattle.std.specs.List.{list_all};
-ghost use Rattle.planus_plan.specs.Plans.{line_of};
+ghost use Rattle.planus_schema.specs.Plans.{line_of};
 ghost use Rattle.planus_tie.specs.Wanted.{letters_of as letters_of_lem};
 ghost use Rattle.planus_tie.specs.Wanted.{is_spelled as is_spelled_lem};
 
 use crate::naming::Naming;
-use planus_plan::Line;
+use planus_schema::Line;
 use std::alloc::{AllocError, Global};
 
 fn letters_of(alloc: Global, name: &[u8]) -> Result<Vec<u8>, AllocError>

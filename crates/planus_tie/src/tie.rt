@@ -2,7 +2,7 @@
 
 ghost use Rattle.std.specs.Prelude.{◌≡◌, IfOk, IsTrue, Some, map, ◌||◌, ◌==◌};
 ghost use Rattle.std.specs.Option.{option_copied};
-ghost use Rattle.planus_plan.specs.Plans.{line_of};
+ghost use Rattle.planus_schema.specs.Plans.{line_of};
 ghost use Rattle.planus_tie.specs.Ties.{has_lines as has_lines_lem, if_begins as if_begins_lem};
 ghost use Rattle.planus_tie.specs.Ties.{accessor_in as accessor_in_lem};
 ghost use Rattle.planus_tie.specs.Ties.{have_accessors as have_accessors_lem, IsTableTied};
@@ -17,8 +17,7 @@ use crate::groups::{Entry, entries_of};
 use crate::naming::Naming;
 use crate::reading::{after, begins, body_of, list_in, method_mark};
 use crate::spelling::are_spelled;
-use planus_layout::Table;
-use planus_plan::{Line, Plan};
+use planus_schema::{Line, Plan, Table};
 use std::alloc::{AllocError, Global};
 
 pub(crate) fn if_begins<'a>(text: Option<&'a [u8]>, wanted: &[u8]) -> Option<&'a [u8]>

@@ -2,7 +2,7 @@
 
 ghost use Rattle.std.specs.Prelude.{◌≡◌, ◌++◌, IfOk, OnOk, IsTrue, Some, map, slice_get};
 ghost use Rattle.std.specs.Option.{option_copied};
-ghost use Rattle.planus_plan.specs.Plans.{line_of};
+ghost use Rattle.planus_schema.specs.Plans.{line_of};
 ghost use Rattle.planus_tie.specs.Views.{is_value as is_value_lem, is_judged as is_judged_lem};
 ghost use Rattle.planus_tie.specs.Views.{view_function, is_flags_body as is_flags_body_lem};
 ghost use Rattle.planus_tie.specs.Views.{is_flags as is_flags_lem, is_constant as is_constant_lem};
@@ -21,8 +21,7 @@ use crate::pieces::{push_number, push_str};
 use crate::ranks::{is_total, rank_in};
 use crate::reading::{after, body_of, method_mark};
 use crate::tie::if_begins;
-use planus_layout::{Base, Body, Declared, Table, TableField};
-use planus_plan::{Line, Plan};
+use planus_schema::{Base, Body, Declared, Line, Plan, Table, TableField};
 use std::alloc::{AllocError, Global};
 
 fn is_value(base: Base) -> bool

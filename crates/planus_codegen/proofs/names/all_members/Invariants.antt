@@ -1,5 +1,5 @@
 use Rattle.std.proofs.Common.{◌≡◌, length, map, ◌++◌}
-use Rattle.planus_plan.specs.Spelling.{all_member_names, names_in}
+use Rattle.planus_schema.specs.Spelling.{all_member_names, names_in}
 use Rattle.planus_codegen.proofs.names.all_members.Given as goal
 
 abbrev pub invariant-declared : goal.invariant-declared

@@ -1,6 +1,6 @@
 use Rattle.std.proofs.Common.{◌∙◌, sym}
 use Rattle.std.specs.Str.{bytes_eq}
-use Rattle.planus_layout.proofs.Lists.{list_any-map}
+use Rattle.planus_schema.proofs.Lists.{list_any-map}
 use Rattle.planus_codegen.proofs.names.is_type.Goals as goal
 
 pub returns : goal.returns

@@ -1,7 +1,7 @@
 use Rattle.std.proofs.Common.{◌≡◌, ◌<◌, ◌++◌, ◌∷◌, [], length, arith}
 use Rattle.std.specs.Prelude.{slice_get, Some}
 use Rattle.std.proofs.lemmas.Option.{slice_get-get_or}
-use Rattle.planus_plan.specs.Spelling.{member_word, said_in, names_in, member_names, set_apart}
+use Rattle.planus_schema.specs.Spelling.{member_word, said_in, names_in, member_names, set_apart}
 use Rattle.planus_codegen.proofs.NameLemmas.{next_name}
 use Rattle.planus_codegen.proofs.names.members_of.Goals as goal
 use Rattle.planus_codegen.proofs.names.members_of.Goals.{in-Some+in_ok-word+in_ok-add, in_default}

@@ -1,5 +1,5 @@
 use Rattle.std.proofs.Common.{◌≡◌, map, drop}
-use Rattle.planus_plan.specs.Spelling.{scope_from, member_word, member_names, said_in, names_in}
+use Rattle.planus_schema.specs.Spelling.{scope_from, member_word, member_names, said_in, names_in}
 use Rattle.planus_codegen.proofs.names.members_of.Given as goal
 
 abbrev pub invariant-members : goal.invariant-members

@@ -1,6 +1,6 @@
 use Rattle.std.proofs.Common.{◌≡◌, length, map}
-use Rattle.planus_layout.specs.Distinct.{items_of}
-use Rattle.planus_plan.specs.Spelling.{scope_from, names_in}
+use Rattle.planus_schema.specs.Distinct.{items_of}
+use Rattle.planus_schema.specs.Spelling.{scope_from, names_in}
 use Rattle.planus_codegen.specs.Known.{module_word, modules_of}
 use Rattle.planus_codegen.proofs.names.module_names.Given as goal
 

@@ -1,5 +1,5 @@
 use Rattle.std.proofs.Common.{◌≡◌, length, map}
-use Rattle.planus_plan.specs.Spelling.{scope_from, names_in}
+use Rattle.planus_schema.specs.Spelling.{scope_from, names_in}
 use Rattle.planus_codegen.specs.Known.{type_word, type_names}
 use Rattle.planus_codegen.proofs.names.type_names.Given as goal
 

@@ -2,7 +2,7 @@ use Rattle.std.proofs.Common.{◌≡◌, List, [], sym, ◌∙◌}
 use Rattle.std.specs.Prelude.{Result, Ok, Err, IfOk, Vec}
 use Rattle.std.specs.declared.alloc.Global.{Global}
 use Rattle.std.specs.declared.alloc.AllocError.{AllocError}
-use Rattle.planus_layout.specs.declared.schema.Schema.{Schema}
+use Rattle.planus_schema.specs.declared.schema.Schema.{Schema}
 use Rattle.planus_conform.specs.declared.breaks.Break.{Break}
 use Rattle.planus_conform.specs.declared.breaks.Way.{Way}
 use Rattle.planus_conform.specs.declared.rename.Rename.{Rename}

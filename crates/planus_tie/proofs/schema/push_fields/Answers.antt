@@ -1,5 +1,5 @@
 use Rattle.planus_tie.proofs.Parts.{text_added}
-use Rattle.planus_plan.specs.Plans.{line_of}
+use Rattle.planus_schema.specs.Plans.{line_of}
 use Rattle.planus_tie.specs.Shapes.{field_text}
 use Rattle.planus_tie.proofs.schema.push_fields.Goals as goal
 

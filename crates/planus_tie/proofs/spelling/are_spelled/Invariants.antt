@@ -1,6 +1,6 @@
 use Rattle.std.proofs.Common.{◌≡◌, map, drop}
 use Rattle.std.specs.List.{list_all}
-use Rattle.planus_plan.specs.Plans.{line_of}
+use Rattle.planus_schema.specs.Plans.{line_of}
 use Rattle.planus_tie.specs.Wanted.{is_spelled}
 use Rattle.planus_tie.proofs.spelling.are_spelled.Given as goal
 

@@ -1,6 +1,6 @@
 use Rattle.std.proofs.Common.{◌≡◌, map, drop}
 use Rattle.std.specs.Prelude.{Some}
-use Rattle.planus_plan.specs.Plans.{line_of}
+use Rattle.planus_schema.specs.Plans.{line_of}
 use Rattle.planus_tie.specs.Views.{have_views}
 use Rattle.planus_tie.proofs.views.have_views.Given as goal
 

@@ -1,0 +1,431 @@
+-- What the words after the program's name ask for.
+use Rattle.std.specs.Prelude.{ℕ, Bool, true, false, ◌&&◌, ◌||◌, ◌==◌, nat_lt, List, [], ◌∷◌, ◌++◌}
+use Rattle.std.specs.Prelude.{fold, map, length, codes, slice_index, Option, Some, None, take}
+use Rattle.std.specs.Prelude.{if◌then◌else◌, not, nat_eq, drop}
+use Rattle.std.specs.Option.{option_map, option_or, unwrap_or}
+use Rattle.std.specs.List.{list_any, position_or_len, starts_with}
+use Rattle.std.specs.Str.{bytes_eq}
+use Rattle.planus_schema.specs.Numbers.{integer_said, without_mark, without_sign}
+use Rattle.planus_schema.specs.declared.number.Number.{Number}
+use Rattle.planus_cli.specs.declared.arguments.Command.{Command}
+use Rattle.planus_cli.specs.declared.arguments.Command.TheVariants.{Check, Format, View}
+use Rattle.planus_cli.specs.declared.arguments.Command.TheVariants.{Rattle as RattleCommand}
+use Rattle.planus_cli.specs.declared.arguments.Command.TheVariants.{Dot, Conform, Completions}
+use Rattle.planus_cli.specs.declared.arguments.Shell.{Shell}
+use Rattle.planus_cli.specs.declared.arguments.Shell.TheVariants.{Bash, Zsh, Fish}
+use Rattle.planus_cli.specs.declared.arguments.Choice.{Choice}
+use Rattle.planus_cli.specs.declared.arguments.Choice.TheVariants.{Folder, Write}
+use Rattle.planus_cli.specs.declared.arguments.Choice.TheVariants.{Root, SizePrefixed, Lines}
+use Rattle.planus_cli.specs.declared.arguments.Choice.TheVariants.{Bytes, Output}
+use Rattle.planus_cli.specs.declared.arguments.Choice.TheVariants.{Check as CheckChoice}
+use Rattle.planus_cli.specs.declared.arguments.Choice.TheVariants.{NoVerified, Backward, Forward}
+use Rattle.planus_cli.specs.declared.arguments.Choice.TheVariants.{Rename}
+use Rattle.planus_cli.specs.declared.arguments.Choice.TheVariants.{Help as HelpChoice}
+use Rattle.planus_cli.specs.declared.arguments.Joined.{Joined}
+use Rattle.planus_cli.specs.declared.arguments.Words.{Words}
+use Rattle.planus_cli.specs.declared.arguments.Request.{Request}
+use Rattle.planus_cli.specs.declared.arguments.Request.TheVariants as code
+
+pub record WordsV : Type 0 where
+  pub files : List (List ℕ)
+  pub folders : List (List ℕ)
+  pub write : Bool
+  pub root : Option (List ℕ)
+  pub size_prefixed : Bool
+  pub lines : Option (List ℕ)
+  pub bytes : Option (List ℕ)
+  pub output : Option (List ℕ)
+  pub check : Bool
+  pub no_verified : Bool
+  pub backward : Bool
+  pub forward : Bool
+  pub renames : List (List ℕ)
+  pub help : Bool
+  pub only_files : Bool
+  pub wants : Option Choice
+  pub unknown : Option (List ℕ)
+
+abbrev pub no_words : WordsV
+no_words = record {
+  files = [];
+  folders = [];
+  write = false;
+  root = None;
+  size_prefixed = false;
+  lines = None;
+  bytes = None;
+  output = None;
+  check = false;
+  no_verified = false;
+  backward = false;
+  forward = false;
+  renames = [];
+  help = false;
+  only_files = false;
+  wants = None;
+  unknown = None;
+}
+
+abbrev pub words_of : Words → WordsV
+words_of w = record {
+  files = map (λ s. s.now) w.files.items;
+  folders = map (λ s. s.now) w.folders.items;
+  write = w.write;
+  root = option_map (λ s. s.now) w.root;
+  size_prefixed = w.size_prefixed;
+  lines = option_map (λ s. s.now) w.lines;
+  bytes = option_map (λ s. s.now) w.bytes;
+  output = option_map (λ s. s.now) w.output;
+  check = w.check;
+  no_verified = w.no_verified;
+  backward = w.backward;
+  forward = w.forward;
+  renames = map (λ s. s.now) w.renames.items;
+  help = w.help;
+  only_files = w.only_files;
+  wants = w.wants;
+  unknown = option_map (λ s. s.now) w.unknown;
+}
+
+-- `-` alone names standard input
+abbrev pub is_option : List ℕ → Bool
+is_option w = nat_lt 1 (length w) && slice_index w 0 == 45
+
+abbrev pub view_option : List ℕ → Option Choice
+view_option w = if bytes_eq w (codes "-I") then Some Folder
+    else if bytes_eq w (codes "--root") then Some Root
+    else if bytes_eq w (codes "--size-prefixed") then Some SizePrefixed
+    else if bytes_eq w (codes "--lines") then Some Lines
+    else if bytes_eq w (codes "--bytes") then Some Bytes else None
+
+abbrev pub rattle_option : List ℕ → Option Choice
+rattle_option w = if bytes_eq w (codes "-I") then Some Folder
+    else if bytes_eq w (codes "-o") then Some Output
+    else if bytes_eq w (codes "--check") then Some CheckChoice
+    else if bytes_eq w (codes "--no-verified") then Some NoVerified else None
+
+abbrev pub conform_option : List ℕ → Option Choice
+conform_option w = if bytes_eq w (codes "-I") then Some Folder
+    else if bytes_eq w (codes "--backward") then Some Backward
+    else if bytes_eq w (codes "--forward") then Some Forward
+    else if bytes_eq w (codes "--rename") then Some Rename else None
+
+-- `--help`, or `-h`
+abbrev pub is_help : List ℕ → Bool
+is_help w = bytes_eq w (codes "--help") || bytes_eq w (codes "-h")
+
+-- `--version`, or `-V`
+abbrev pub is_version : List ℕ → Bool
+is_version w = bytes_eq w (codes "--version") || bytes_eq w (codes "-V")
+
+abbrev pub option_of : Command → List ℕ → Option Choice
+option_of command w = if is_help w then Some HelpChoice else option_in command
+  where
+    option_in : Command → Option Choice
+    option_in Check = if bytes_eq w (codes "-I") then Some Folder else None
+    option_in Format = if bytes_eq w (codes "--write") then Some Write
+        else if bytes_eq w (codes "--check") then Some CheckChoice else None
+    option_in View = view_option w
+    option_in RattleCommand = rattle_option w
+    option_in Conform = conform_option w
+    option_in Dot = if bytes_eq w (codes "-I") then Some Folder else None
+    option_in Completions = None
+
+-- an option, and its value in the same word
+pub record JoinedV : Type 0 where
+  pub choice : Choice
+  pub value : List ℕ
+
+abbrev pub joined_view : Joined → JoinedV
+joined_view joined = record { choice = joined.choice; value = joined.value.now }
+
+-- the value is what follows this beginning of the word
+abbrev pub joined_by : Choice → List ℕ → List ℕ → Option JoinedV
+joined_by choice start w = if starts_with nat_eq w start
+    then Some (record { choice = choice; value = drop (length start) w }) else None
+
+abbrev pub joined_in : Command → List ℕ → Option JoinedV
+joined_in Check w = joined_by Folder (codes "-I") w
+joined_in Dot w = joined_by Folder (codes "-I") w
+joined_in Format w = None
+joined_in Completions w = None
+joined_in View w = option_or (joined_by Folder (codes "-I") w)
+    (option_or (joined_by Root (codes "--root=") w)
+    (option_or (joined_by Lines (codes "--lines=") w) (joined_by Bytes (codes "--bytes=") w)))
+joined_in RattleCommand w = option_or (joined_by Folder (codes "-I") w)
+    (joined_by Output (codes "-o") w)
+joined_in Conform w = option_or (joined_by Folder (codes "-I") w)
+    (joined_by Rename (codes "--rename=") w)
+
+abbrev pub or_first : Option (List ℕ) → List ℕ → Option (List ℕ)
+or_first None w = Some w
+or_first (Some u) w = Some u
+
+abbrev pub with_choice : WordsV → Choice → WordsV
+with_choice ws Folder = record ws { wants = Some Folder }
+with_choice ws Root = record ws { wants = Some Root }
+with_choice ws Lines = record ws { wants = Some Lines }
+with_choice ws Bytes = record ws { wants = Some Bytes }
+with_choice ws Output = record ws { wants = Some Output }
+with_choice ws Rename = record ws { wants = Some Rename }
+with_choice ws Backward = record ws { backward = true }
+with_choice ws Forward = record ws { forward = true }
+with_choice ws SizePrefixed = record ws { size_prefixed = true }
+with_choice ws CheckChoice = record ws { check = true }
+with_choice ws NoVerified = record ws { no_verified = true }
+with_choice ws Write = record ws { write = true }
+with_choice ws HelpChoice = record ws { help = true }
+
+-- the value of an option
+abbrev pub with_value : WordsV → Choice → List ℕ → WordsV
+with_value ws Folder w = record ws { folders = ws.folders ++ w ∷ [] }
+with_value ws Root w = record ws { root = Some w }
+with_value ws Lines w = record ws { lines = Some w }
+with_value ws Bytes w = record ws { bytes = Some w }
+with_value ws Output w = record ws { output = Some w }
+with_value ws Rename w = record ws { renames = ws.renames ++ w ∷ [] }
+with_value ws Write w = ws
+with_value ws SizePrefixed w = ws
+with_value ws CheckChoice w = ws
+with_value ws NoVerified w = ws
+with_value ws Backward w = ws
+with_value ws Forward w = ws
+with_value ws HelpChoice w = ws
+
+abbrev pub with_joined : WordsV → List ℕ → Option JoinedV → WordsV
+with_joined ws w (Some joined) = with_value ws joined.choice joined.value
+with_joined ws w None = record ws { unknown = or_first ws.unknown w }
+
+-- the value of an option is the next word, or in the same one
+abbrev pub with_option : Command → WordsV → List ℕ → WordsV
+with_option command ws w = by_choice (option_of command w)
+  where
+    by_choice : Option Choice → WordsV
+    by_choice (Some choice) = with_choice ws choice
+    by_choice None = with_joined ws w (joined_in command w)
+
+abbrev pub with_word : Command → WordsV → List ℕ → WordsV
+with_word command ws w = by_want ws.wants
+  where
+    by_want : Option Choice → WordsV
+    by_want (Some choice) = with_value (record ws { wants = None }) choice w
+    by_want None = if ws.only_files || not (is_option w)
+        then record ws { files = ws.files ++ w ∷ [] }
+        else if bytes_eq w (codes "--") then record ws { only_files = true }
+        else with_option command ws w
+
+abbrev pub is_empty_word : List ℕ → Bool
+is_empty_word [] = true
+is_empty_word (b ∷ bs) = false
+
+-- present, and empty
+abbrev pub is_empty_value : Option (List ℕ) → Bool
+is_empty_value None = false
+is_empty_value (Some w) = is_empty_word w
+
+-- the first option whose value is empty
+abbrev pub empty_choice : WordsV → Option Choice
+empty_choice ws = if list_any is_empty_word ws.folders then Some Folder
+    else if is_empty_value ws.root then Some Root
+    else if is_empty_value ws.lines then Some Lines
+    else if is_empty_value ws.bytes then Some Bytes
+    else if is_empty_value ws.output then Some Output else None
+
+abbrev pub is_equals : ℕ → Bool
+is_equals b = b == 61
+
+-- what comes before the first `=`, or all
+abbrev pub before_equals : List ℕ → List ℕ
+before_equals w = take (position_or_len is_equals w) w
+
+abbrev pub after_first : List ℕ → List ℕ
+after_first [] = []
+after_first (b ∷ bs) = bs
+
+-- what follows the first `=`, or nothing
+abbrev pub after_equals : List ℕ → List ℕ
+after_equals w = after_first (drop (length (before_equals w)) w)
+
+-- two names with `=` between them
+abbrev pub is_rename : List ℕ → Bool
+is_rename w = not (is_empty_word (before_equals w)) && not (is_empty_word (after_equals w))
+
+-- the first that isn't
+abbrev pub wrong_rename : List (List ℕ) → Option (List ℕ)
+wrong_rename [] = None
+wrong_rename (w ∷ ws) = if is_rename w then wrong_rename ws else Some w
+
+abbrev pub not_negative : Option Number → Option ℕ
+not_negative None = None
+not_negative (Some n) = if n.negative then None else Some n.magnitude
+
+-- what follows a sign and the mark of a hexadecimal number
+abbrev pub digits_of : List ℕ → List ℕ
+digits_of w = without_mark (without_sign w)
+
+-- a number has a digit
+abbrev pub number_of : List ℕ → Option ℕ
+number_of w = if is_empty_word (digits_of w) then None else not_negative (integer_said w)
+
+abbrev pub is_none : Option ℕ → Bool
+is_none None = true
+is_none (Some n) = false
+
+-- present, and no number
+abbrev pub is_no_number : Option (List ℕ) → Bool
+is_no_number None = false
+is_no_number (Some w) = is_none (number_of w)
+
+-- what is asked for, or why the call is wrong
+pub data Asked : Type 0 where
+  help : Asked
+  help_of : Command → Asked
+  version : Asked
+  run : Command → WordsV → Asked
+  no_command : Asked
+  unknown_command : List ℕ → Asked
+  unknown_option : Command → List ℕ → Asked
+  no_value : Command → Choice → Asked
+  no_schema : Command → Asked
+  no_buffer : Asked
+  empty_value : Command → Choice → Asked
+  empty_file : Command → Asked
+  no_number : Choice → List ℕ → Asked
+  several_schemas : Command → Asked
+  no_output : Asked
+  write_and_check : Asked
+  no_pair : Asked
+  backward_and_forward : Asked
+  no_rename : List ℕ → Asked
+  completions : Shell → Asked
+  no_shell : Asked
+
+abbrev pub asked : Request → Asked
+asked code.Help = help
+asked (code.HelpOf command) = help_of command
+asked code.Version = version
+asked (code.Run command words) = run command (words_of words)
+asked code.NoCommand = no_command
+asked (code.UnknownCommand w) = unknown_command w.now
+asked (code.UnknownOption command w) = unknown_option command w.now
+asked (code.NoValue command choice) = no_value command choice
+asked (code.NoSchema command) = no_schema command
+asked code.NoBuffer = no_buffer
+asked (code.EmptyValue command choice) = empty_value command choice
+asked (code.EmptyFile command) = empty_file command
+asked (code.NoNumber choice w) = no_number choice w.now
+asked (code.SeveralSchemas command) = several_schemas command
+asked code.NoOutput = no_output
+asked code.WriteAndCheck = write_and_check
+asked code.NoPair = no_pair
+asked code.BackwardAndForward = backward_and_forward
+asked (code.NoRename w) = no_rename w.now
+asked (code.Completions shell) = completions shell
+asked code.NoShell = no_shell
+
+abbrev pub is_empty : List (List ℕ) → Bool
+is_empty [] = true
+is_empty (x ∷ xs) = false
+
+-- `view` needs a schema, a buffer and numbers
+abbrev pub view_request : WordsV → Asked
+view_request ws = if not (length ws.files == 2) then no_buffer
+    else if is_no_number ws.lines then no_number Lines (unwrap_or ws.lines [])
+    else if is_no_number ws.bytes then no_number Bytes (unwrap_or ws.bytes [])
+    else run View ws
+
+abbrev pub run_with : Option (List ℕ) → WordsV → Asked
+run_with None ws = no_output
+run_with (Some folder) ws = run RattleCommand ws
+
+-- `rattle` needs one schema and a folder
+abbrev pub rattle_request : WordsV → Asked
+rattle_request ws = if not (length ws.files == 1) then several_schemas RattleCommand
+    else run_with ws.output ws
+
+-- `dot` needs one schema
+abbrev pub dot_request : WordsV → Asked
+dot_request ws = if length ws.files == 1 then run Dot ws else several_schemas Dot
+
+-- `format` writes files or compares them
+abbrev pub format_request : WordsV → Asked
+format_request ws = if ws.write && ws.check then write_and_check else run Format ws
+
+abbrev pub run_renamed : Option (List ℕ) → WordsV → Asked
+run_renamed None ws = run Conform ws
+run_renamed (Some w) ws = no_rename w
+
+-- `conform` needs two schemas, looks in one direction or both, and renames one name to another
+abbrev pub conform_request : WordsV → Asked
+conform_request ws = if not (length ws.files == 2) then no_pair
+    else if ws.backward && ws.forward then backward_and_forward
+    else run_renamed (wrong_rename ws.renames) ws
+
+abbrev pub shell_of : List ℕ → Option Shell
+shell_of w = if bytes_eq w (codes "bash") then Some Bash
+    else if bytes_eq w (codes "zsh") then Some Zsh
+    else if bytes_eq w (codes "fish") then Some Fish else None
+
+abbrev pub script_or : Option Shell → Asked
+script_or None = no_shell
+script_or (Some shell) = completions shell
+
+-- `completions` needs one shell
+abbrev pub completions_request : List (List ℕ) → Asked
+completions_request [] = no_shell
+completions_request (w ∷ []) = script_or (shell_of w)
+completions_request (w ∷ v ∷ ws) = no_shell
+
+abbrev pub run_request : Command → WordsV → Asked
+run_request Check ws = run Check ws
+run_request Format ws = format_request ws
+run_request View ws = view_request ws
+run_request RattleCommand ws = rattle_request ws
+run_request Dot ws = dot_request ws
+run_request Conform ws = conform_request ws
+run_request Completions ws = completions_request ws.files
+
+abbrev pub request_by : Command → WordsV → Asked
+request_by command ws = unknown_or ws.unknown
+  where
+    empty_or : Option Choice → Asked
+    empty_or (Some choice) = empty_value command choice
+    empty_or None = if list_any is_empty_word ws.files then empty_file command
+        else if is_empty ws.files then no_schema command else run_request command ws
+
+    value_or : Option Choice → Asked
+    value_or (Some choice) = no_value command choice
+    value_or None = empty_or (empty_choice ws)
+
+    unknown_or : Option (List ℕ) → Asked
+    unknown_or (Some w) = unknown_option command w
+    unknown_or None = if ws.help then help_of command else value_or ws.wants
+
+abbrev pub command_of : List ℕ → Option Command
+command_of w = if bytes_eq w (codes "check") then Some Check
+    else if bytes_eq w (codes "format") then Some Format
+    else if bytes_eq w (codes "view") then Some View
+    else if bytes_eq w (codes "rattle") then Some RattleCommand
+    else if bytes_eq w (codes "dot") then Some Dot
+    else if bytes_eq w (codes "conform") then Some Conform
+    else if bytes_eq w (codes "completions") then Some Completions else None
+
+abbrev pub request_after : List ℕ → List (List ℕ) → Option Command → Asked
+request_after w rest None = unknown_command w
+request_after w rest (Some command) = request_by command (fold (with_word command) no_words rest)
+
+abbrev pub help_by : List ℕ → Option Command → Asked
+help_by w None = if bytes_eq w (codes "help") || is_help w then help else unknown_command w
+help_by w (Some command) = help_of command
+
+-- after `help`
+abbrev pub help_request : List (List ℕ) → Asked
+help_request [] = help
+help_request (w ∷ rest) = help_by w (command_of w)
+
+abbrev pub request_of : List (List ℕ) → Asked
+request_of [] = no_command
+request_of (w ∷ rest) = if bytes_eq w (codes "help") then help_request rest
+    else if is_help w then help
+    else if is_version w then version
+    else request_after w rest (command_of w)

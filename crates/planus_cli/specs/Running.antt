@@ -1,0 +1,115 @@
+-- What a call does with files.
+use Rattle.std.specs.Prelude.{◌≡◌, ◌⊎◌, ⊤, ℕ, Bool, true, false, not, List, [], ◌∷◌, max, Option, Some, None}
+use Rattle.std.specs.Io.KnownBytes.{Keeps}
+use Rattle.planus_schema.specs.declared.schema.Schema.{Schema}
+use Rattle.planus_cli.specs.Arguments.{WordsV, Asked, run}
+use Rattle.planus_cli.specs.Buffers.{ViewsBy}
+use Rattle.planus_cli.specs.Conforming.{ConformsFiles}
+use Rattle.planus_cli.specs.Disks.{Disk}
+use Rattle.planus_cli.specs.Drawing.{DrawsFiles}
+use Rattle.planus_cli.specs.Files.{SaysUnread}
+use Rattle.planus_cli.specs.Including.{file_named}
+use Rattle.planus_cli.specs.Loading.{Places}
+use Rattle.planus_cli.specs.Printing.{PrintsCode}
+use Rattle.planus_cli.specs.Rewriting.{FormatsFile}
+use Rattle.planus_cli.specs.Said.{SaidV, SaysBy, said_of}
+use Rattle.planus_cli.specs.Sources.{ChecksFile, HasNoSchema, MeansAll}
+use Rattle.planus_cli.specs.declared.arguments.Command.{Command}
+use Rattle.planus_cli.specs.declared.arguments.Command.TheVariants.{Check, Format, View}
+use Rattle.planus_cli.specs.declared.arguments.Command.TheVariants.{Rattle as RattleCommand}
+use Rattle.planus_cli.specs.declared.arguments.Command.TheVariants.{Dot, Conform, Completions}
+
+-- A status, what was written before and after, and what was reported.
+abbrev pub Does : Type 1
+Does = ℕ → Option (List ℕ) → Option (List ℕ) → Option (List ℕ) → Option (List ℕ) → Type 0
+
+abbrev pub places_in : Disk → WordsV → Places
+places_in disk words = record { disk = disk; folders = words.folders }
+
+-- what `format` does with one file, or `check`
+abbrev pub RunsFile : Disk → Bool → WordsV → List ℕ → Does
+RunsFile disk true words word status before after unsaid said =
+    FormatsFile disk words word status before after unsaid said
+RunsFile disk false words word status before after unsaid said =
+    (after ≡ before) × ChecksFile (places_in disk words) (file_named word) status unsaid said
+
+-- One file after the other. The worst status before stays.
+abbrev pub RunsFiles : (List ℕ → Does) → List (List ℕ) → ℕ → Does
+RunsFiles One [] worst status before after unsaid said =
+    (status ≡ worst) × (after ≡ before) × (said ≡ unsaid)
+RunsFiles One (word ∷ words) worst status before after unsaid said =
+    (one : ℕ) × (written : Option (List ℕ)) × (told : Option (List ℕ))
+    × One word one before written unsaid told
+    × RunsFiles One words (max worst one) status written after told said
+
+-- A file was read and viewed.
+pub record ViewsRead (disk : Disk) (schema : Schema) (words : WordsV) (name : List ℕ) (status : ℕ)
+    (before after unsaid said : Option (List ℕ)) : Type 0 where
+  pub bytes : List ℕ
+  pub holds : disk.Holds name bytes
+  pub told : Option (List ℕ)
+  pub kept : Keeps unsaid told
+  pub views : ViewsBy schema words name bytes status before after told said
+
+abbrev pub ViewsFile : Disk → Schema → WordsV → List ℕ → Does
+ViewsFile disk schema words name status before after unsaid said =
+    ((status ≡ 2) × (after ≡ before) × SaysUnread disk name unsaid said)
+    ⊎ ViewsRead disk schema words name status before after unsaid said
+
+-- What a schema means was found, and the buffer's file viewed by it.
+pub record ViewsMeaning (disk : Disk) (words : WordsV) (schema buffer : List ℕ) (status : ℕ)
+    (before after unsaid said : Option (List ℕ)) : Type 0 where
+  pub means : Schema
+  pub told : Option (List ℕ)
+  pub found : MeansAll (places_in disk words) (file_named schema) (Some means) unsaid told
+  pub views : ViewsFile disk means words buffer status before after told said
+
+-- what `view` does with a schema and a buffer
+abbrev pub ViewsPair : Disk → WordsV → List ℕ → List ℕ → Does
+ViewsPair disk words schema buffer status before after unsaid said =
+    ((after ≡ before) × HasNoSchema (places_in disk words) (file_named schema) status unsaid said)
+    ⊎ ViewsMeaning disk words schema buffer status before after unsaid said
+
+abbrev pub ViewsFiles : Disk → WordsV → List (List ℕ) → Does
+ViewsFiles disk words (schema ∷ buffer ∷ []) = ViewsPair disk words schema buffer
+ViewsFiles disk words other = λ status before after unsaid said. status ≡ 2
+
+abbrev pub RunsCommand : Disk → Command → WordsV → Does
+RunsCommand disk View words status before after unsaid said =
+    ViewsFiles disk words words.files status before after unsaid said
+RunsCommand disk RattleCommand words status before after unsaid said =
+    (after ≡ before) × (status ≡ 0 → PrintsCode (places_in disk words) words.check
+    (not words.no_verified) words.files unsaid said)
+RunsCommand disk Check words status before after unsaid said =
+    RunsFiles (RunsFile disk false words) words.files 0 status before after unsaid said
+RunsCommand disk Format words status before after unsaid said =
+    RunsFiles (RunsFile disk true words) words.files 0 status before after unsaid said
+RunsCommand disk Dot words status before after unsaid said =
+    DrawsFiles (places_in disk words) words.files status before after unsaid said
+RunsCommand disk Conform words status before after unsaid said = (after ≡ before)
+    × ConformsFiles (places_in disk words) words words.files status unsaid said
+RunsCommand disk Completions words status before after unsaid said = status ≡ 2
+
+-- what a call does with the files that it names
+abbrev pub Runs : Disk → Asked → Does
+Runs disk (run command words) status before after unsaid said =
+    RunsCommand disk command words status before after unsaid said
+Runs disk other status before after unsaid said = ⊤
+
+-- It was done, after nothing was said of the call.
+pub record RunsAfter (disk : Disk) (request : Asked) (status : ℕ)
+    (before after unsaid said : Option (List ℕ)) : Type 0 where
+  pub written : Option (List ℕ)
+  pub told : Option (List ℕ)
+  pub kept : Keeps before written
+  pub quiet : Keeps unsaid told
+  pub runs : Runs disk request status written after told said
+
+abbrev pub SaysOr : Does → Option SaidV → Does
+SaysOr runs None status before after unsaid said = runs status before after unsaid said
+SaysOr runs (Some s) status before after unsaid said =
+    SaysBy s.wrong s.text (Some status) before after unsaid said
+
+-- What is said of a call was written; or else what it asks for was done.
+abbrev pub SaysOrRuns : Disk → Asked → Does
+SaysOrRuns disk request = SaysOr (RunsAfter disk request) (said_of request)

@@ -1,0 +1,162 @@
+-- Help, version, and messages for wrong calls.
+use Rattle.std.specs.Prelude.{◌≡◌, ℕ, Bool, true, false, List, [], ◌∷◌, ◌++◌, codes}
+use Rattle.std.specs.Prelude.{Option, Some, None}
+use Rattle.std.specs.Io.KnownBytes.{Appends, Keeps}
+use Rattle.planus_cli.specs.declared.arguments.Command.{Command}
+use Rattle.planus_cli.specs.declared.arguments.Command.TheVariants.{Check, Format, View}
+use Rattle.planus_cli.specs.declared.arguments.Command.TheVariants.{Rattle as RattleCommand}
+use Rattle.planus_cli.specs.declared.arguments.Command.TheVariants.{Dot, Conform, Completions}
+use Rattle.planus_cli.specs.Completions.{option_words, script_of}
+use Rattle.planus_cli.specs.declared.arguments.Choice.{Choice}
+use Rattle.planus_cli.specs.declared.arguments.Choice.TheVariants.{Root, Lines, Bytes, Output}
+use Rattle.planus_cli.specs.declared.arguments.Choice.TheVariants.{Rename}
+use Rattle.planus_cli.specs.declared.said.Said.{Said}
+use Rattle.planus_cli.specs.Near.{nearest}
+use Rattle.planus_cli.specs.Shown.{shown}
+use Rattle.planus_cli.specs.Arguments.{Asked, help, help_of as help_asked, version, run}
+use Rattle.planus_cli.specs.Arguments.{no_command, unknown_command, unknown_option}
+use Rattle.planus_cli.specs.Arguments.{no_value, no_schema, no_buffer, no_number}
+use Rattle.planus_cli.specs.Arguments.{empty_value, empty_file}
+use Rattle.planus_cli.specs.Arguments.{several_schemas, no_output, write_and_check}
+use Rattle.planus_cli.specs.Arguments.{completions, no_shell, no_pair, backward_and_forward}
+use Rattle.planus_cli.specs.Arguments.{no_rename, before_equals}
+
+pub record SaidV : Type 0 where
+  pub wrong : Bool
+  pub text : List ℕ
+
+abbrev pub said_view : Said → SaidV
+said_view said = record { wrong = said.wrong; text = said.text.items }
+
+-- the words that a call may begin with
+abbrev pub command_words : List (List ℕ)
+command_words = codes "check" ∷ codes "format" ∷ codes "view" ∷ codes "rattle"
+    ∷ codes "dot" ∷ codes "conform" ∷ codes "completions" ∷ codes "help"
+    ∷ codes "--help" ∷ codes "-h" ∷ codes "--version" ∷ codes "-V" ∷ []
+
+-- what is said after a word that is no command or option: the nearest that is one, if one is near
+abbrev pub call_hint : Option (List ℕ) → List ℕ
+call_hint None = codes "see planus help"
+call_hint (Some w) = codes "did you mean `" ++ (w ++ codes "`?")
+
+abbrev pub version_text : List ℕ
+version_text = codes "planus 0.1.0\n"
+
+abbrev pub help_text : List ℕ
+help_text = codes "planus reads schemas of flatbuffers, shows buffers by them, and prints their code.\n\nusage: planus check [-I FOLDER].. SCHEMA..\n       planus format [--write | --check] SCHEMA..\n       planus view [OPTION].. SCHEMA BUFFER\n       planus rattle [--check] [--no-verified] [-I FOLDER].. SCHEMA -o FOLDER\n       planus dot [-I FOLDER].. SCHEMA\n       planus conform [OPTION].. OLD NEW\n       planus completions bash|zsh|fish\n       planus help [COMMAND], planus [COMMAND] --help, planus --version\n\nSCHEMA, BUFFER, OLD and NEW are files, or - for standard input; after --, each word is\none. The value of an option may be in the same word: -IFOLDER, -oFOLDER, --root=NAME.\n-h is --help, and -V is --version.\n"
+
+-- the usage line of a command, with which its help begins, or of the program; what is said of a
+-- wrong call ends with it
+unfoldable pub usage_of : Option Command → List ℕ
+usage_of None = codes "usage: planus COMMAND ..; the commands are check, format, view, rattle, dot, conform, completions and help\n"
+usage_of (Some Check) = codes "usage: planus check [-I FOLDER].. SCHEMA..\n"
+usage_of (Some Format) = codes "usage: planus format [--write | --check] SCHEMA..\n"
+usage_of (Some View) = codes "usage: planus view [OPTION].. SCHEMA BUFFER\n"
+usage_of (Some RattleCommand) = codes "usage: planus rattle [--check] [--no-verified] [-I FOLDER].. SCHEMA -o FOLDER\n"
+usage_of (Some Dot) = codes "usage: planus dot [-I FOLDER].. SCHEMA\n"
+usage_of (Some Conform) = codes "usage: planus conform [--backward | --forward] [--rename OLD=NEW].. [-I FOLDER].. OLD NEW\n"
+usage_of (Some Completions) = codes "usage: planus completions bash|zsh|fish\n"
+
+abbrev pub details_of : Command → List ℕ
+details_of Check = codes "\nSays on standard error what is wrong with each schema and the files that it includes,\nor nothing. Included files are sought beside the file and in each FOLDER.\nEnds with 0 where nothing is wrong, with 1 where a schema has a fault, and with 2\nwhere the call is wrong or a file can't be read.\n"
+details_of Format = codes "\nPrints the canonical text of each schema, with its comments.\n\n  --write  replaces each file by its text\n  --check  prints nothing, and says which files don't have that text\n\nEnds with 0 where nothing is wrong, with 1 where a schema has a fault or --check names\na file, and with 2 where the call is wrong or a file can't be read or written.\n"
+details_of View = codes "\nPrints what a buffer holds, a line a value, as far as the lines and bytes go.\n\n  --root NAME      the root is this table, and not that of the schema\n  --size-prefixed  BUFFER is any number of buffers, each after its size\n  --lines N        at most N lines, and not 1000\n  --bytes N        at most N bytes, and not 1048576\n  -I FOLDER        included files are sought in this folder too\n\nEnds with 0 where all is shown, with 1 where something is wrong with the buffer or\nmore follows, and with 2 where the call is wrong or a file can't be read.\n"
+details_of Dot = codes "\nPrints the graph of a schema for Graphviz: a node for each declaration, with its\nfields and their types, and an edge for each that names a declaration. For a picture,\nplanus dot a.fbs | dot -Tsvg -o a.svg. Included files are sought beside the file and\nin each FOLDER.\nEnds with 0 where the graph is printed, with 1 where the schema has a fault, and with\n2 where the call is wrong or a file can't be read.\n"
+details_of Conform = codes "\nSays on standard error what breaks where the schema NEW replaces OLD, or nothing: each\nchange by which code of one reads data of the other otherwise, and what to do instead.\n\n  --backward        only what breaks new code that reads old data\n  --forward         only what breaks old code that reads new data\n  --rename OLD=NEW  what is OLD in the old schema is NEW in the new one\n  -I FOLDER         included files are sought in this folder too\n\nEnds with 0 where nothing breaks, with 1 where something does or a schema has a fault,\nand with 2 where the call is wrong or a file can't be read.\n"
+details_of Completions = codes "\nPrints the script by which this shell completes calls of planus: commands, their\noptions, and files. It says how it is used.\n"
+details_of RattleCommand = codes "\nPrints the code of a schema as a crate: its files in FOLDER, whose last word is the\ncrate's name. A file that has its text already is left alone.\n\n  -o FOLDER        the folder of the crate, which is made if it isn't there\n  --check          writes nothing, and says which files aren't what is printed\n  --no-verified    prints no views of verified buffers, so that less is to be proved\n  -I FOLDER        included files are sought in this folder too\n\nEnds with 0 where all is printed, with 1 where the schema has a fault or something\nthat isn't supported, or --check names a file, and with 2 where the call is wrong or\na file can't be read or written.\n"
+
+abbrev pub help_of : Command → List ℕ
+help_of command = usage_of (Some command) ++ details_of command
+
+abbrev pub no_value_text : Choice → List ℕ
+no_value_text Root = codes "planus: no name follows --root\n"
+no_value_text Lines = codes "planus: no number follows --lines\n"
+no_value_text Bytes = codes "planus: no number follows --bytes\n"
+no_value_text Output = codes "planus: no folder follows -o\n"
+no_value_text Rename = codes "planus: no names follow --rename\n"
+no_value_text choice = codes "planus: no folder follows -I\n"
+
+abbrev pub no_shell_text : List ℕ
+no_shell_text = codes "planus: completions has one shell: bash, zsh or fish\n"
+
+abbrev pub several_schemas_text : Command → List ℕ
+several_schemas_text Dot = codes "planus: dot has one schema\n"
+several_schemas_text command = codes "planus: rattle has one schema\n"
+
+abbrev pub no_schema_text : Command → List ℕ
+no_schema_text Completions = no_shell_text
+no_schema_text command = codes "planus: no schema is named; - is standard input\n"
+
+abbrev pub empty_value_text : Choice → List ℕ
+empty_value_text Root = codes "planus: the name of --root is empty\n"
+empty_value_text Lines = codes "planus: the number of --lines is empty\n"
+empty_value_text Bytes = codes "planus: the number of --bytes is empty\n"
+empty_value_text Output = codes "planus: the folder of -o is empty\n"
+empty_value_text choice = codes "planus: the folder of -I is empty\n"
+
+-- after the value
+abbrev pub no_number_text : Choice → List ℕ
+no_number_text Lines = codes ", the value of --lines, is no number"
+no_number_text choice = codes ", the value of --bytes, is no number"
+
+abbrev pub said_text : Bool → List ℕ → Option SaidV
+said_text wrong text = Some (record { wrong = wrong; text = text })
+
+abbrev pub on_output : List ℕ → Option SaidV
+on_output text = said_text false text
+
+abbrev pub on_errors : List ℕ → Option SaidV
+on_errors text = said_text true text
+
+-- none where schemas are named
+abbrev pub said_of : Asked → Option SaidV
+said_of help = on_output help_text
+said_of (help_asked command) = on_output (help_of command)
+said_of version = on_output version_text
+said_of (run command words) = None
+said_of no_command = on_errors (codes "planus: no command is given\n" ++ usage_of None)
+said_of (unknown_command w) = on_errors (codes "planus: unknown command `" ++ (shown w
+    ++ (codes "`; " ++ (call_hint (nearest command_words w) ++ (codes "\n" ++ usage_of None)))))
+said_of (unknown_option command w) = on_errors (codes "planus: unknown option `" ++ (shown w
+    ++ (codes "`; " ++ (call_hint (nearest (option_words command) (before_equals w))
+    ++ (codes "\n" ++ usage_of (Some command))))))
+said_of (no_value command choice) = on_errors (no_value_text choice ++ usage_of (Some command))
+said_of (no_schema command) = on_errors (no_schema_text command ++ usage_of (Some command))
+said_of (completions shell) = on_output (script_of shell)
+said_of no_shell = on_errors (no_shell_text ++ usage_of (Some Completions))
+said_of no_buffer = on_errors (codes "planus: view has a schema and a buffer\n" ++ usage_of (Some View))
+said_of (empty_value command choice) = on_errors (empty_value_text choice ++ usage_of (Some command))
+said_of (empty_file command) = on_errors (codes "planus: the name of a file is empty\n"
+    ++ usage_of (Some command))
+said_of (no_number choice w) = on_errors (codes "planus: `" ++ (shown w
+    ++ (codes "`" ++ (no_number_text choice ++ (codes "\n" ++ usage_of (Some View))))))
+said_of (several_schemas command) =
+    on_errors (several_schemas_text command ++ usage_of (Some command))
+said_of no_output = on_errors (codes "planus: no folder is given: -o FOLDER\n"
+    ++ usage_of (Some RattleCommand))
+said_of write_and_check = on_errors (codes "planus: format has --write or --check, and not both\n"
+    ++ usage_of (Some Format))
+said_of no_pair = on_errors (codes "planus: conform has an old schema and a new one\n"
+    ++ usage_of (Some Conform))
+said_of backward_and_forward =
+    on_errors (codes "planus: conform has --backward or --forward, and not both\n"
+    ++ usage_of (Some Conform))
+said_of (no_rename w) = on_errors (codes "planus: `" ++ (shown w ++ (codes "`"
+    ++ (codes ", the value of --rename, isn't OLD=NEW" ++ (codes "\n" ++ usage_of (Some Conform))))))
+
+-- The text was written, on standard error with status 2 or on standard output with 0.
+abbrev pub SaysBy : Bool → List ℕ → Option ℕ → Option (List ℕ) → Option (List ℕ)
+    → Option (List ℕ) → Option (List ℕ) → Type 0
+SaysBy true text status before after unsaid said =
+    (status ≡ Some 2) × Keeps before after × Appends unsaid said text
+SaysBy false text status before after unsaid said =
+    (status ≡ Some 0) × Appends before after text × Keeps unsaid said
+
+-- This was written, and a status only if anything was.
+abbrev pub Says : Option SaidV → Option ℕ → Option (List ℕ) → Option (List ℕ)
+    → Option (List ℕ) → Option (List ℕ) → Type 0
+Says None status before after unsaid said =
+    (status ≡ None) × Keeps before after × Keeps unsaid said
+Says (Some s) status before after unsaid said =
+    SaysBy s.wrong s.text status before after unsaid said

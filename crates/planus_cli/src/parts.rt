@@ -1,0 +1,301 @@
+//! The words of schemas that a break is about: a declaration, or a part of one.
+
+ghost use Rattle.std.specs.Prelude.{◌≡◌, position};
+ghost use Rattle.std.specs.Option.{option_map};
+ghost use Rattle.planus_conform.specs.Breaks.{body_if as body_if_lem};
+ghost use Rattle.planus_cli.specs.Parts.{has_slot, has_distance, has_number, has_tag};
+ghost use Rattle.planus_cli.specs.Parts.{is_field, is_part, is_value, is_member};
+ghost use Rattle.planus_cli.specs.Parts.{part_at as part_at_lem};
+ghost use Rattle.planus_cli.specs.Parts.{part_named as part_named_lem};
+ghost use Rattle.planus_cli.specs.Parts.{part_name as part_name_lem};
+ghost use Rattle.planus_cli.specs.Parts.{is_required as is_required_lem};
+ghost use Rattle.planus_cli.specs.Parts.{declaration_in as declaration_in_lem};
+ghost use Rattle.planus_cli.specs.Parts.{declaration_after as declaration_after_lem};
+ghost use Rattle.planus_cli.specs.Parts.{part_if as part_if_lem, name_if as name_if_lem};
+ghost use Rattle.planus_cli.specs.Parts.{old_word as old_word_lem};
+ghost use Rattle.planus_cli.specs.Parts.{new_word as new_word_lem};
+ghost use Rattle.planus_cli.specs.Parts.{part_after as part_after_lem};
+ghost use Rattle.planus_cli.specs.Parts.{declared_name as declared_name_lem};
+ghost use Rattle.planus_cli.specs.Parts.{stated_name as stated_name_lem};
+ghost use Rattle.planus_cli.specs.Parts.{subject as subject_lem};
+ghost use Rattle.planus_cli.specs.Parts.{is_moved as is_moved_lem};
+ghost use Rattle.planus_cli.specs.Parts.{is_needed as is_needed_lem};
+
+use planus_conform::{Break, Change, Place, Rename, named, renamed, same_number};
+use planus_schema::{
+    Body, Declared, EnumValue, Number, Schema, StructField, TableField, UnionMember,
+};
+
+/// A declaration by its index, and a part of it by its index.
+#[derive(Clone, Copy)]
+pub struct Word {
+    pub declaration: Option<usize>,
+    /// A field, a value or a member.
+    pub part: Option<usize>,
+}
+
+fn at_slot(fields: &[TableField], slot: usize) -> Option<usize>
+    ensures { result ≡ position (has_slot slot) fields.now }
+{
+    fields.iter().position(|f| f.slot == slot)
+}
+
+fn at_distance(fields: &[StructField], distance: usize) -> Option<usize>
+    ensures { result ≡ position (has_distance distance) fields.now }
+{
+    fields.iter().position(|f| f.distance == distance)
+}
+
+fn at_number(values: &[EnumValue], number: Number) -> Option<usize>
+    ensures { result ≡ position (has_number number) values.now }
+{
+    values.iter().position(|v| same_number(v.number, number))
+}
+
+fn at_tag(members: &[UnionMember], tag: u8) -> Option<usize>
+    ensures { result ≡ position (has_tag tag) members.now }
+{
+    members.iter().position(|m| m.tag == tag)
+}
+
+/// Returns the index of the part that has this place.
+fn part_at(body: &Body, place: Place) -> Option<usize>
+    ensures { result ≡ part_at_lem body.now place }
+{
+    match (body, place) {
+        (Body::Table(table), Place::Field(_, slot)) => at_slot(&table.fields, slot),
+        (Body::Struct(body), Place::Part(_, distance)) => at_distance(&body.fields, distance),
+        (Body::Enum(body), Place::Value(_, number)) => at_number(&body.values, number),
+        (Body::Union(body), Place::Member(_, tag)) => at_tag(&body.members, tag),
+        _ => None,
+    }
+}
+
+fn field_named(fields: &[TableField], name: &[u8]) -> Option<usize>
+    ensures { result ≡ position (is_field name.now) fields.now }
+{
+    fields.iter().position(|f| f.name.as_slice() == name)
+}
+
+fn struct_field_named(fields: &[StructField], name: &[u8]) -> Option<usize>
+    ensures { result ≡ position (is_part name.now) fields.now }
+{
+    fields.iter().position(|f| f.name.as_slice() == name)
+}
+
+fn value_named(values: &[EnumValue], name: &[u8]) -> Option<usize>
+    ensures { result ≡ position (is_value name.now) values.now }
+{
+    values.iter().position(|v| v.name.as_slice() == name)
+}
+
+fn member_named(members: &[UnionMember], name: &[u8]) -> Option<usize>
+    ensures { result ≡ position (is_member name.now) members.now }
+{
+    members.iter().position(|m| m.name.as_slice() == name)
+}
+
+/// Returns the index of the part that has this name.
+fn part_named(body: &Body, name: &[u8]) -> Option<usize>
+    ensures { result ≡ part_named_lem body.now name.now }
+{
+    match body {
+        Body::Table(table) => field_named(&table.fields, name),
+        Body::Struct(body) => struct_field_named(&body.fields, name),
+        Body::Enum(body) => value_named(&body.values, name),
+        Body::Union(body) => member_named(&body.members, name),
+    }
+}
+
+fn part_name(body: &Body, index: usize) -> Option<&[u8]>
+    ensures { option_map (λ w. w.now) result ≡ part_name_lem body.now index }
+{
+    match body {
+        Body::Table(table) => match table.fields.get(index) {
+            Some(field) => Some(&field.name),
+            None => None,
+        },
+        Body::Struct(body) => match body.fields.get(index) {
+            Some(field) => Some(&field.name),
+            None => None,
+        },
+        Body::Enum(body) => match body.values.get(index) {
+            Some(value) => Some(&value.name),
+            None => None,
+        },
+        Body::Union(body) => match body.members.get(index) {
+            Some(member) => Some(&member.name),
+            None => None,
+        },
+    }
+}
+
+fn is_required(body: &Body, index: usize) -> bool
+    ensures { result ≡ is_required_lem body.now index }
+{
+    match body {
+        Body::Table(table) => match table.fields.get(index) {
+            Some(field) => field.required,
+            None => false,
+        },
+        _ => false,
+    }
+}
+
+/// Returns the declaration of the old schema that a place is in.
+fn declaration_in(place: Place) -> Option<usize>
+    ensures { result ≡ declaration_in_lem place }
+{
+    match place {
+        Place::Declaration(index)
+        | Place::Field(index, _)
+        | Place::Part(index, _)
+        | Place::Value(index, _)
+        | Place::Member(index, _) => Some(index),
+        Place::Root | Place::Identifier => None,
+    }
+}
+
+fn body_if(declared: &[Declared], index: Option<usize>) -> Option<&Body>
+    ensures { option_map (λ b. b.now) result ≡ body_if_lem declared.now index }
+{
+    match index {
+        Some(index) => match declared.get(index) {
+            Some(one) => Some(&one.body),
+            None => None,
+        },
+        None => None,
+    }
+}
+
+/// Returns the declaration of the new schema that is that of the old one.
+fn declaration_after(
+    renames: &[Rename],
+    old: &[Declared],
+    new: &[Declared],
+    index: Option<usize>,
+) -> Option<usize>
+    ensures { result ≡ declaration_after_lem renames.now old.now new.now index }
+{
+    match declared_name(old, index) {
+        Some(name) => named(new, renamed(renames, name)),
+        None => None,
+    }
+}
+
+fn declared_name(declared: &[Declared], index: Option<usize>) -> Option<&[u8]>
+    ensures { option_map (λ w. w.now) result ≡ declared_name_lem declared.now index }
+{
+    match index {
+        Some(index) => match declared.get(index) {
+            Some(one) => Some(&one.name),
+            None => None,
+        },
+        None => None,
+    }
+}
+
+fn part_if(body: Option<&Body>, place: Place) -> Option<usize>
+    ensures { result ≡ part_if_lem (option_map (λ b. b.now) body.entry) place }
+{
+    match body {
+        Some(body) => part_at(body, place),
+        None => None,
+    }
+}
+
+/// Returns the name of a part.
+fn name_if(body: Option<&Body>, part: Option<usize>) -> Option<&[u8]>
+    ensures { option_map (λ w. w.now) result
+        ≡ name_if_lem (option_map (λ b. b.now) body.entry) part }
+{
+    match (body, part) {
+        (Some(body), Some(part)) => part_name(body, part),
+        _ => None,
+    }
+}
+
+fn is_moved(change: Change) -> bool
+    ensures { result ≡ is_moved_lem change }
+{
+    matches!(change, Change::Moved)
+}
+
+/// Returns what is to be reported in the old schema.
+pub(crate) fn old_word(old: &[Declared], one: Break) -> Word
+    ensures { result ≡ old_word_lem old.now one }
+{
+    let declaration = declaration_in(one.place);
+    let part = part_if(body_if(old, declaration), one.place);
+    Word { declaration, part }
+}
+
+/// Returns the part of the new declaration that is that of the old one: by its place, or by the name
+/// of what is moved.
+fn part_after(body: Option<&Body>, name: Option<&[u8]>, one: Break) -> Option<usize>
+    ensures { result ≡ part_after_lem (option_map (λ b. b.now) body.entry)
+        (option_map (λ w. w.now) name.entry) one }
+{
+    match (body, name) {
+        (Some(body), Some(name)) if is_moved(one.change) => part_named(body, name),
+        (Some(body), _) => part_at(body, one.place),
+        (None, _) => None,
+    }
+}
+
+/// Returns what is to be reported in the new schema.
+pub(crate) fn new_word(renames: &[Rename], old: &[Declared], new: &[Declared], one: Break) -> Word
+    ensures { result ≡ new_word_lem renames.now old.now new.now one }
+{
+    let before = old_word(old, one);
+    let name = name_if(body_if(old, before.declaration), before.part);
+    let declaration = declaration_after(renames, old, new, before.declaration);
+    let part = part_after(body_if(new, declaration), name, one);
+    Word { declaration, part }
+}
+
+/// Returns what a statement says: the name of the root, or the identifier.
+fn stated_name(schema: &Schema, place: Place) -> Option<&[u8]>
+    ensures { option_map (λ w. w.now) result ≡ stated_name_lem schema.now place }
+{
+    match place {
+        Place::Root => declared_name(&schema.declarations, schema.statements.root),
+        Place::Identifier => match &schema.statements.identifier {
+            Some(identifier) => Some(identifier),
+            None => None,
+        },
+        _ => None,
+    }
+}
+
+/// Returns the name that a report begins with: that of the part in the new schema, or else in the
+/// old one; where there is none, that of the declaration, or what the statement says.
+pub(crate) fn subject<'a>(
+    old: &'a Schema,
+    before: Word,
+    new: &'a Schema,
+    after: Word,
+    place: Place,
+) -> &'a [u8]
+    ensures { result.now ≡ subject_lem old.now before new.now after place }
+{
+    let old_body = body_if(&old.declarations, before.declaration);
+    let new_body = body_if(&new.declarations, after.declaration);
+    name_if(new_body, after.part)
+        .or(name_if(old_body, before.part))
+        .or(declared_name(&new.declarations, after.declaration))
+        .or(declared_name(&old.declarations, before.declaration))
+        .or(stated_name(new, place))
+        .or(stated_name(old, place))
+        .unwrap_or(&[])
+}
+
+/// Returns whether a word is a field that is `required`.
+pub(crate) fn is_needed(declared: &[Declared], word: Word) -> bool
+    ensures { result ≡ is_needed_lem declared.now word }
+{
+    match (body_if(declared, word.declaration), word.part) {
+        (Some(body), Some(part)) => is_required(body, part),
+        _ => false,
+    }
+}

@@ -1,0 +1,154 @@
+//! The messages of faults of meaning.
+
+ghost use Rattle.std.specs.Prelude.{◌≡◌, ◌++◌, map, slice_get, Some, IfOk, OnOk};
+ghost use Rattle.planus_cli.specs.Problems.{both_text as both_text_lem};
+ghost use Rattle.planus_cli.specs.Problems.{name_at as name_at_lem};
+ghost use Rattle.std.specs.Option.{option_map};
+ghost use Rattle.planus_resolve.specs.Names.{head_of};
+ghost use Rattle.planus_cli.specs.Near.{hint_of};
+ghost use Rattle.planus_cli.specs.Problems.{message_text as message_text_lem};
+ghost use Rattle.planus_cli.specs.Problems.{after as after_lem, before as before_lem};
+ghost use Rattle.planus_cli.specs.Problems.{problem_text as problem_text_lem};
+
+use crate::near::nearest_type;
+use planus_resolve::{Head, Problem};
+use std::alloc::{AllocError, Global};
+
+fn before(problem: Problem) -> &'static str
+    ensures { result.now ≡ before_lem problem }
+{
+    match problem {
+        Problem::UnknownType(_) => "unknown type ",
+        Problem::UnknownAttribute => "unknown attribute ",
+        _ => "",
+    }
+}
+
+fn after(problem: Problem) -> &'static str
+    ensures { result.now ≡ after_lem problem }
+{
+    match problem {
+        Problem::UnknownType(_) => "",
+        Problem::NameTaken => ": this name is declared before",
+        Problem::FieldNameTaken => ": a field before it has this name",
+        Problem::ValueNameTaken => ": a value before it has this name",
+        Problem::MemberNameTaken => ": a member before it has this name, or it is `NONE`",
+        Problem::ValueTaken => ": a value before it has the same number",
+        Problem::TagTaken => ": a member before it has the same number",
+        Problem::NoIntegerType => " is no integer type",
+        Problem::ValueOutOfRange => ": the type of the enum does not hold this number",
+        Problem::TagOutOfRange => ": the number of a member is from 1 to 255",
+        Problem::MemberIsNoTable => " is no table; unions of structs and strings are not supported",
+        Problem::NoStructField => ": a field of a struct is a scalar, an enum or a struct",
+        Problem::DeclaredLater =>
+            ": a struct holds only structs and enums that are declared before it",
+        Problem::DefaultInStruct => ": a field of a struct can't have a default other than zero",
+        Problem::AttributeInStruct => ": a field of a struct can't be `required` or `deprecated`",
+        Problem::EmptyStruct => ": a struct needs a field",
+        Problem::StructTooLarge => ": the struct has more than 65535 bytes",
+        Problem::WrongAlignment =>
+            ": the alignment is a power of two, from that of the fields to 32",
+        Problem::WrongDefault => ": the default is no value of the field's type",
+        Problem::UnknownValue => ": its enum has no value 0, so it needs a default",
+        Problem::RequiredScalar => ": a scalar or an enum can't be `required`",
+        Problem::IdMissing => ": it has no `id`, and other fields of the table have one",
+        Problem::WrongId => ": an `id` is a number from 0 to 65535, and that of a union from 1 on",
+        Problem::IdsWithGap =>
+            ": its `id`s are not all the numbers from 0 on, each once; a union takes two",
+        Problem::TooManySlots => ": the table has more than 32765 slots",
+        Problem::WrongKey => ": a `key` is a scalar, an enum or a string",
+        Problem::SecondKey => ": a field before it is the `key`",
+        Problem::WrongNested => ": only a `[ubyte]` can be a `nested_flatbuffer`",
+        Problem::NestedIsNoTable => ": its value has to be a table's name in quotes",
+        Problem::UnknownAttribute => "",
+        Problem::RootIsNoTable => " is no table",
+        Problem::WrongIdentifier => ": an identifier has exactly four bytes",
+        Problem::MethodNameTaken => ": a method before it has this name",
+        Problem::MethodIsNoTable => " is no table",
+        Problem::TwoMeanings { .. } => "",
+        Problem::FlagsInUnion =>
+            " is for enums: flatc numbers the members of such a union by flags",
+    }
+}
+
+fn problem_text(alloc: Global, problem: Problem, word: &[u8]) -> Result<Vec<u8>, AllocError>
+    ensures { IfOk result (λ text. text.items ≡ problem_text_lem problem word.now) }
+{
+    let mut text = Vec::from_slice(alloc, before(problem).as_bytes())?;
+    text.push(b'`')?;
+    text.extend_from_slice(word)?;
+    text.push(b'`')?;
+    text.extend_from_slice(after(problem).as_bytes())?;
+    Ok(text)
+}
+
+fn hint(alloc: Global, name: &[u8]) -> Result<Vec<u8>, AllocError>
+    ensures { IfOk result (λ text. text.items ≡ hint_of (Some name.now)) }
+{
+    let mut text = Vec::from_slice(alloc, b"; did you mean `")?;
+    text.extend_from_slice(name)?;
+    text.extend_from_slice(b"`?")?;
+    Ok(text)
+}
+
+fn put_hint(alloc: Global, text: &mut Vec<u8>, name: Option<&[u8]>) -> Result<(), AllocError>
+    ensures { OnOk result (text.new.items
+        ≡ text.old.items ++ hint_of (option_map (λ w. w.now) name.entry)) }
+{
+    match name {
+        None => Ok(()),
+        Some(name) => {
+            let hint = hint(alloc, name)?;
+            text.extend_from_slice(&hint)?;
+            Ok(())
+        }
+    }
+}
+
+fn name_at<'a>(heads: &'a [Head], index: usize) -> &'a [u8]
+    ensures { result.now ≡ name_at_lem (slice_get (map head_of heads.now) index) }
+{
+    match heads.get(index) {
+        Some(head) => &head.name,
+        None => &[],
+    }
+}
+
+fn both_text(
+    alloc: Global,
+    word: &[u8],
+    here: &[u8],
+    elsewhere: &[u8],
+) -> Result<Vec<u8>, AllocError>
+    ensures { IfOk result (λ text. text.items ≡ both_text_lem word.now here.now elsewhere.now) }
+{
+    let mut text = Vec::from_slice(alloc, b"`")?;
+    text.extend_from_slice(word)?;
+    text.extend_from_slice(b"` means `")?;
+    text.extend_from_slice(here)?;
+    text.extend_from_slice(b"`, but flatc takes it for `")?;
+    text.extend_from_slice(elsewhere)?;
+    text.extend_from_slice(b"`; declare it before its use")?;
+    Ok(text)
+}
+
+/// Returns the message of a fault, with the nearest type that may stand there for an unknown one,
+/// and with both for a name of two meanings. `heads` are the declarations of all files.
+pub fn message_text(
+    alloc: Global,
+    heads: &[Head],
+    problem: Problem,
+    word: &[u8],
+) -> Result<Vec<u8>, AllocError>
+    ensures { IfOk result (λ text. text.items
+        ≡ message_text_lem (map head_of heads.now) problem word.now) }
+{
+    if let Problem::TwoMeanings { here, elsewhere } = problem {
+        return both_text(alloc, word, name_at(heads, here), name_at(heads, elsewhere));
+    }
+    let mut text = problem_text(alloc, problem, word)?;
+    if let Problem::UnknownType(expected) = problem {
+        put_hint(alloc, &mut text, nearest_type(expected, heads, word))?;
+    }
+    Ok(text)
+}

@@ -1,0 +1,330 @@
+//! The command `rattle`: the code of a schema as a crate's files.
+
+ghost use Rattle.std.specs.Prelude.{◌≡◌, true, not, IfOk, OnOk, MatchOption};
+ghost use Rattle.std.specs.Io.KnownBytes.{Appends};
+ghost use Rattle.planus_cli.specs.Arguments.{words_of};
+ghost use Rattle.planus_cli.specs.Loading.{places_of};
+ghost use Rattle.planus_cli.specs.Printing.{crates_line, RefusesName, IsHeld};
+ghost use Rattle.planus_cli.specs.Printing.{TellsOther, PrintsBytes, PrintsFile, PrintsAll};
+ghost use Rattle.planus_cli.specs.Printing.{PrintsCrate, PrintsNamed};
+ghost use Rattle.planus_cli.specs.Printing.{PrintsCode};
+ghost use Rattle.planus_cli.specs.Printing.{is_small_letter as is_small_letter_lem};
+ghost use Rattle.planus_cli.specs.Printing.{is_in_name as is_in_name_lem};
+ghost use Rattle.planus_cli.specs.Printing.{is_word as is_word_lem};
+ghost use Rattle.planus_cli.specs.Printing.{is_of_planus as is_of_planus_lem};
+ghost use Rattle.planus_cli.specs.Printing.{name_fault as name_fault_lem};
+ghost use Rattle.planus_cli.specs.Printing.{is_crate_name as is_crate_name_lem};
+
+use crate::arguments::Words;
+use crate::file_error::FileError;
+use crate::files::{Files, put_file};
+use crate::libraries::is_library;
+use crate::said::{CLEAN, FAILED, FAULTY, fail};
+use crate::sources::schema_at;
+use crate::streams::{GREATEST_TEXT, RunError, say};
+use planus_codegen::{PrintedFile, Refusal, print_crate};
+use planus_resolve::Schema;
+use planus_schema::is_reserved;
+use std::alloc::{AllocError, Global};
+use std::io::Write;
+
+#[derive(Clone, Copy)]
+struct Folder<'a> {
+    path: &'a str,
+    name: &'a str,
+    /// Whether its files are compared and none is written.
+    check: bool,
+    /// Whether it has verified reading.
+    verified: bool,
+}
+
+fn last_word(path: &str) -> &str {
+    match path.rsplit_once('/') {
+        Some((_, word)) => word,
+        None => path,
+    }
+}
+
+fn is_small_letter(b: u8) -> bool
+    ensures { result ≡ is_small_letter_lem b }
+{
+    matches!(b, b'a'..=b'z')
+}
+
+fn is_in_name(b: u8) -> bool
+    ensures { result ≡ is_in_name_lem b }
+{
+    matches!(b, b'a'..=b'z' | b'0'..=b'9' | b'_')
+}
+
+fn is_word(word: &[u8]) -> bool
+    ensures { result ≡ is_word_lem word.now }
+{
+    let Some((first, rest)) = word.split_first() else {
+        return false;
+    };
+    'rest: for b in rest {
+        if !is_in_name(*b) {
+            return false;
+        }
+    }
+    is_small_letter(*first)
+}
+
+fn is_of_planus(word: &[u8]) -> bool
+    ensures { result ≡ is_of_planus_lem word.now }
+{
+    word.starts_with(b"planus")
+}
+
+fn is_crate_name(word: &[u8]) -> bool
+    ensures { result ≡ is_crate_name_lem word.now }
+{
+    is_word(word) && !(is_reserved(word) || is_library(word) || is_of_planus(word))
+}
+
+/// Returns why no crate can have a name, as it is said after it.
+fn name_fault(word: &[u8]) -> &'static str
+    ensures { result.now ≡ name_fault_lem word.now }
+{
+    if is_library(word) {
+        "`: a library of Rattle has it; the folder after -o needs another name"
+    } else if is_reserved(word) {
+        "`: it is a reserved word; the folder after -o needs another name"
+    } else if is_of_planus(word) {
+        "`: crates that printed code stands on begin so; the folder after -o needs another name"
+    } else {
+        "`: a name has small letters, digits and `_`, and first a letter"
+    }
+}
+
+/// Returns the folder of a crate, or reports why no crate can have its last word as its name.
+fn folder_or_report<'a, X: Write>(
+    alloc: Global,
+    path: &'a str,
+    check: bool,
+    verified: bool,
+    errors: &mut X,
+) -> Result<Option<Folder<'a>>, RunError>
+    ensures { IfOk result (λ found. MatchOption found
+        (RefusesName (X.contents errors.old) (X.contents errors.new))
+        (λ folder. (is_crate_name_lem folder.name.now ≡ true) × (folder.check ≡ check)
+        × (folder.verified ≡ verified) × (X.contents errors.new ≡ X.contents errors.old))) }
+{
+    let path = path.trim_end_matches('/');
+    let name = last_word(path);
+    if is_crate_name(name.as_bytes()) {
+        return Ok(Some(Folder {
+            path,
+            name,
+            check,
+            verified,
+        }));
+    }
+    let why = name_fault(name.as_bytes());
+    say(alloc, errors, "no crate can have the name `", name, why)?;
+    Ok(None)
+}
+
+/// Returns whether a file has these bytes, or why it can't be read.
+fn holds<F: Files>(
+    files: &F,
+    alloc: Global,
+    name: &str,
+    bytes: &[u8],
+) -> Result<Result<bool, FileError>, AllocError>
+    ensures { IfOk result (λ found. IsHeld (F.disk files.now) name.now bytes.now found) }
+{
+    match files.read(alloc, name) {
+        Ok(found) if found.len() > GREATEST_TEXT => Ok(Ok(false)),
+        Ok(found) if found.as_slice() == bytes => Ok(Ok(true)),
+        Ok(_) => Ok(Ok(false)),
+        Err(FileError::OutOfMemory) => Err(AllocError),
+        Err(error) => Ok(Err(error)),
+    }
+}
+
+/// Says that a file isn't what is printed, or why it can't be read.
+fn tell_other<X: Write>(
+    alloc: Global,
+    name: &str,
+    found: Result<bool, FileError>,
+    errors: &mut X,
+) -> Result<u8, RunError>
+    ensures { IfOk result (λ status. TellsOther name.now found status
+        (X.contents errors.old) (X.contents errors.new)) }
+{
+    let why = match found {
+        Ok(_) => " isn't what is printed",
+        Err(error) => error.after_name(),
+    };
+    say(alloc, errors, "", name, why)?;
+    Ok(FAULTY)
+}
+
+/// Writes a file that doesn't have these bytes, or tells of it. Returns the exit status.
+fn print_bytes<F: Files, X: Write>(
+    files: &F,
+    alloc: Global,
+    name: &str,
+    bytes: &[u8],
+    check: bool,
+    errors: &mut X,
+) -> Result<u8, RunError>
+    ensures { IfOk result (λ status. PrintsBytes (F.disk files.now) name.now bytes.now check status
+        (X.contents errors.old) (X.contents errors.new)) }
+{
+    let found = holds(files, alloc, name, bytes)?;
+    if matches!(found, Ok(true)) {
+        Ok(CLEAN)
+    } else if check {
+        tell_other(alloc, name, found, errors)
+    } else {
+        put_file(files, alloc, name, bytes, errors)
+    }
+}
+
+/// Writes or compares a printed file. Returns the exit status.
+fn print_file<F: Files, X: Write>(
+    files: &F,
+    alloc: Global,
+    folder: Folder<'_>,
+    file: &PrintedFile,
+    errors: &mut X,
+) -> Result<u8, RunError>
+    ensures { IfOk result (λ status. PrintsFile (F.disk files.now)
+        folder.entry.path.now folder.entry.check file.now status
+        (X.contents errors.old) (X.contents errors.new)) }
+{
+    let (folder_path, path) = (folder.path, file.path.as_str());
+    let name = format!(in alloc; "{folder_path}/{path}")?;
+    let bytes = file.text.as_bytes();
+    print_bytes(files, alloc, name.as_str(), bytes, folder.check, errors)
+}
+
+/// Stops at the first file that can't be written.
+fn print_files<F: Files, X: Write>(
+    files: &F,
+    alloc: Global,
+    folder: Folder<'_>,
+    printed: &[PrintedFile],
+    errors: &mut X,
+) -> Result<u8, RunError>
+    ensures { IfOk result (λ status. PrintsAll (F.disk files.now) folder.entry.path.now folder.entry.check
+        printed.now 0 status (X.contents errors.old) (X.contents errors.new)) }
+{
+    let mut worst = CLEAN;
+    'printed: for file in printed {
+        let status = print_file(files, alloc, folder, file, errors)?;
+        if status == FAILED {
+            return Ok(FAILED);
+        }
+        worst = worst.max(status);
+    }
+    Ok(worst)
+}
+
+fn say_unsupported<X: Write>(
+    alloc: Global,
+    what: &str,
+    name: &[u8],
+    errors: &mut X,
+) -> Result<u8, RunError>
+    ensures { IfOk result (λ status. status ≡ 1) }
+{
+    let name = std::str::from_utf8(name).unwrap_or("");
+    let why = format!(in alloc; ": {what} isn't supported by planus rattle")?;
+    say(alloc, errors, "", name, why.as_str())?;
+    Ok(FAULTY)
+}
+
+/// A crate of printed code stands on `planus` and `planus_views`.
+fn say_line<X: Write>(alloc: Global, name: &str, errors: &mut X) -> Result<(), RunError>
+    ensures { OnOk result (Appends (X.contents errors.old) (X.contents errors.new)
+        (crates_line name.now)) }
+{
+    say(
+        alloc,
+        errors,
+        "the line of crates.txt is `",
+        name,
+        ": planus planus_views`",
+    )
+}
+
+/// Writes or compares the files of a crate. Returns the exit status.
+fn print_to<F: Files, X: Write>(
+    files: &F,
+    alloc: Global,
+    schema: &Schema,
+    folder: Folder<'_>,
+    errors: &mut X,
+) -> Result<u8, RunError>
+    requires { is_crate_name_lem folder.name.now ≡ true }
+    ensures { IfOk result (λ status. status ≡ 0 → PrintsCrate (F.disk files.now)
+        folder.entry.path.now folder.entry.name.now folder.entry.check
+        folder.entry.verified schema.now (X.contents errors.old) (X.contents errors.new)) }
+{
+    match print_crate(alloc, schema, folder.name, folder.verified) {
+        Ok(printed) => {
+            let status = print_files(files, alloc, folder, &printed, errors)?;
+            if status == CLEAN && !folder.check {
+                say_line(alloc, folder.name, errors)?;
+            }
+            Ok(status)
+        }
+        Err(Refusal::OutOfMemory) => Err(RunError::OutOfMemory),
+        Err(Refusal::Untied) => fail(
+            alloc,
+            errors,
+            "",
+            folder.path,
+            ": its code isn't the schema's",
+        ),
+        Err(Refusal::Unsupported { what, name }) => say_unsupported(alloc, what, &name, errors),
+    }
+}
+
+/// Writes or compares the code of what a file means. Returns the exit status.
+fn print_named<F: Files, X: Write>(
+    files: &F,
+    alloc: Global,
+    folders: &[&str],
+    word: &str,
+    folder: Folder<'_>,
+    errors: &mut X,
+) -> Result<u8, RunError>
+    requires { is_crate_name_lem folder.name.now ≡ true }
+    ensures { IfOk result (λ status. status ≡ 0 → PrintsNamed
+        (places_of (F.disk files.now) folders.now) word.now folder.entry.path.now folder.entry.name.now folder.entry.check
+        folder.entry.verified (X.contents errors.old) (X.contents errors.new)) }
+{
+    let found = schema_at(files, alloc, folders, word, errors)?;
+    match &found {
+        Ok(schema) => print_to(files, alloc, schema, folder, errors),
+        Err(status) => Ok(*status),
+    }
+}
+
+/// Writes the code of a schema as a crate, or compares the crate with it. Returns the exit status.
+pub fn print_code<F: Files, X: Write>(
+    files: &F,
+    alloc: Global,
+    words: &Words<'_>,
+    errors: &mut X,
+) -> Result<u8, RunError>
+    ensures { IfOk result (λ status. status ≡ 0 → PrintsCode
+        (places_of (F.disk files.now) words.now.folders.items) words.now.check
+        (not words.now.no_verified) (words_of words.now).files
+        (X.contents errors.old) (X.contents errors.new)) }
+{
+    let path = words.output.unwrap_or("");
+    let verified = !words.no_verified;
+    let Some(folder) = folder_or_report(alloc, path, words.check, verified, errors)? else {
+        return Ok(FAILED);
+    };
+    match words.files.as_slice() {
+        [word] => print_named(files, alloc, &words.folders, *word, folder, errors),
+        _ => Ok(FAILED),
+    }
+}

@@ -1,0 +1,147 @@
+//! The report of a fault: its place, its message, its line, a mark.
+
+ghost use Rattle.std.specs.Prelude.{◌≡◌, ◌≤◌, ◌++◌, count_by, length, IfOk, OnOk};
+ghost use Rattle.std.specs.List.{flat_map};
+ghost use Rattle.std.specs.String.{string_bytes};
+ghost use Rattle.planus_cli.specs.Reports.{below as below_lem, first_line as first_line_lem};
+ghost use Rattle.planus_cli.specs.Reports.{marked_text, place_text, is_feed as is_feed_lem};
+ghost use Rattle.planus_cli.specs.Reports.{last_line as last_line_lem, report_text};
+ghost use Rattle.planus_cli.specs.Reports.{ends_line as ends_line_lem, front_shown, rest_shown};
+
+use crate::shown::put_shown;
+use std::alloc::{AllocError, Global};
+
+/// How many bytes of a line are shown on either side of a place.
+const MOST_BESIDE: usize = 80;
+
+fn is_feed(b: u8) -> bool
+    ensures { result ≡ is_feed_lem b }
+{
+    b == b'\n'
+}
+
+/// The number of line feeds, and the last line.
+fn last_line(bytes: &[u8]) -> (usize, &[u8])
+    ensures feeds { result.0 ≡ count_by is_feed_lem bytes.now }
+    ensures line { result.1.now ≡ last_line_lem bytes.now }
+    ensures bound { result.0 ≤ length bytes.now }
+    ensures within { length result.1.now ≤ length bytes.now }
+{
+    let mut feeds = 0;
+    let mut front = bytes;
+    let mut rest = bytes;
+    'bytes: while let Some((first, after)) = rest.split_first() {
+        if is_feed(*first) {
+            feeds += 1;
+            front = after;
+        }
+        rest = after;
+    }
+    (feeds, front)
+}
+
+fn ends_line(b: u8) -> bool
+    ensures { result ≡ ends_line_lem b }
+{
+    b == b'\n' || b == b'\r'
+}
+
+fn first_line(bytes: &[u8]) -> &[u8]
+    ensures { result.now ≡ first_line_lem bytes.now }
+{
+    let mut n = 0;
+    'bytes: while n < bytes.len() && !ends_line(bytes[n]) {
+        n += 1;
+    }
+    &bytes[..n]
+}
+
+fn put_front(out: &mut Vec<u8>, front: &[u8]) -> Result<(), AllocError>
+    ensures { OnOk result (out.new.items ≡ out.old.items ++ front_shown front.now) }
+{
+    if front.len() > MOST_BESIDE {
+        out.extend_from_slice(b"...")?;
+        let (_, beside) = front.split_at(front.len() - MOST_BESIDE);
+        put_shown(out, beside)
+    } else {
+        put_shown(out, front)
+    }
+}
+
+fn put_rest(out: &mut Vec<u8>, rest: &[u8]) -> Result<(), AllocError>
+    ensures { OnOk result (out.new.items ≡ out.old.items ++ rest_shown rest.now) }
+{
+    if rest.len() > MOST_BESIDE {
+        let (beside, _) = rest.split_at(MOST_BESIDE);
+        put_shown(out, beside)?;
+        out.extend_from_slice(b"...")?;
+        Ok(())
+    } else {
+        put_shown(out, rest)
+    }
+}
+
+fn put_space(out: &mut Vec<u8>, b: u8) -> Result<(), AllocError>
+    ensures { OnOk result (out.new.items ≡ out.old.items ++ below_lem b) }
+{
+    match b {
+        b'\t' => out.push(b'\t')?,
+        128..=191 => {}
+        _ => out.push(b' ')?,
+    }
+    Ok(())
+}
+
+fn put_below(out: &mut Vec<u8>, bytes: &[u8]) -> Result<(), AllocError>
+    ensures { OnOk result (out.new.items ≡ out.old.items ++ flat_map below_lem bytes.now) }
+{
+    for b in bytes {
+        put_space(out, *b)?;
+    }
+    Ok(())
+}
+
+fn head(alloc: Global, name: &str, before: &[u8]) -> Result<String, AllocError>
+    ensures { IfOk result (λ text. string_bytes text ≡ place_text name.now before.now) }
+{
+    let (feeds, front) = last_line(before);
+    let line = feeds + 1;
+    let column = front.len() + 1;
+    format!(in alloc; "{name}:{line}:{column}: ")
+}
+
+fn marked(alloc: Global, front: &[u8], rest: &[u8]) -> Result<Vec<u8>, AllocError>
+    ensures { IfOk result (λ out. out.items ≡ marked_text front.now rest.now) }
+{
+    let mut front_shown = Vec::new(alloc);
+    put_front(&mut front_shown, front)?;
+    let mut out = Vec::from_slice(alloc, &front_shown)?;
+    put_rest(&mut out, first_line(rest))?;
+    out.push(b'\n')?;
+    put_below(&mut out, &front_shown)?;
+    out.extend_from_slice(b"^\n")?;
+    Ok(out)
+}
+
+/// Returns the report of a fault in this text, at the byte of index `at`.
+pub fn report(
+    alloc: Global,
+    name: &str,
+    text: &[u8],
+    at: usize,
+    message: &[u8],
+) -> Result<Vec<u8>, AllocError>
+    requires { at ≤ length text.now }
+    ensures { IfOk result (λ out. out.items
+        ≡ report_text name.now text.now at message.now) }
+{
+    let (before, rest) = text.split_at(at);
+    let head = head(alloc, name, before)?;
+    let marked = marked(alloc, last_line(before).1, rest)?;
+    let mut out = Vec::new(alloc);
+    put_shown(&mut out, head.as_bytes())?;
+    put_shown(&mut out, message)?;
+    out.push(b'\n')?;
+    out.extend_from_slice(&marked)?;
+    Ok(out)
+}

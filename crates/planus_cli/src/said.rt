@@ -1,0 +1,484 @@
+//! Help, version, and messages for wrong calls.
+
+ghost use Rattle.std.specs.Prelude.{◌≡◌, ◌++◌, codes, map, true, false, IfOk};
+ghost use Rattle.planus_cli.specs.Outcomes.{line_of};
+ghost use Rattle.std.specs.Option.{option_map};
+ghost use Rattle.planus_cli.specs.Arguments.{asked};
+ghost use Rattle.planus_cli.specs.Arguments.{unknown_command as unknown_command_asked};
+ghost use Rattle.planus_cli.specs.Arguments.{unknown_option as unknown_option_asked};
+ghost use Rattle.planus_cli.specs.Arguments.{no_rename as no_rename_asked};
+ghost use Rattle.planus_cli.specs.Near.{nearest};
+ghost use Rattle.planus_cli.specs.Said.{command_words as command_words_lem, call_hint};
+ghost use Rattle.planus_cli.specs.Completions.{option_words as option_words_lem};
+ghost use Rattle.planus_cli.specs.Said.{help_of as help_of_lem, help_text, no_value_text};
+ghost use Rattle.planus_cli.specs.Completions.{script_of};
+ghost use Rattle.planus_cli.specs.Said.{empty_value_text, no_number_text, no_schema_text};
+ghost use Rattle.planus_cli.specs.Said.{several_schemas_text};
+ghost use Rattle.planus_cli.specs.Said.{usage_of as usage_of_lem, details_of as details_of_lem};
+ghost use Rattle.planus_cli.specs.Said.{said_text as said_text_lem};
+ghost use Rattle.planus_cli.specs.Said.{said_of as said_of_lem, said_view, Says};
+ghost use Rattle.planus_cli.specs.Shown.{shown};
+ghost use Rattle.std.specs.Io.KnownBytes.{Appends, Keeps};
+
+use crate::arguments::{Choice, Command, Request, Shell, before_equals};
+use crate::completions::script;
+use crate::near::nearest_word;
+use crate::shown::put_shown;
+use crate::streams::{RunError, say as say_line, write_out};
+use std::alloc::{AllocError, Global};
+use std::io::Write;
+
+const VERSION: &str = "planus 0.1.0\n";
+
+const HELP: &str = "\
+planus reads schemas of flatbuffers, shows buffers by them, and prints their code.
+
+usage: planus check [-I FOLDER].. SCHEMA..
+       planus format [--write | --check] SCHEMA..
+       planus view [OPTION].. SCHEMA BUFFER
+       planus rattle [--check] [--no-verified] [-I FOLDER].. SCHEMA -o FOLDER
+       planus dot [-I FOLDER].. SCHEMA
+       planus conform [OPTION].. OLD NEW
+       planus completions bash|zsh|fish
+       planus help [COMMAND], planus [COMMAND] --help, planus --version
+
+SCHEMA, BUFFER, OLD and NEW are files, or - for standard input; after --, each word is
+one. The value of an option may be in the same word: -IFOLDER, -oFOLDER, --root=NAME.
+-h is --help, and -V is --version.
+";
+
+const PROGRAM_USAGE: &str =
+    "usage: planus COMMAND ..; the commands are check, format, view, rattle, dot, conform, completions and help\n";
+
+const USAGE_OF_CHECK: &str = "usage: planus check [-I FOLDER].. SCHEMA..\n";
+
+const DETAILS_OF_CHECK: &str = "
+Says on standard error what is wrong with each schema and the files that it includes,
+or nothing. Included files are sought beside the file and in each FOLDER.
+Ends with 0 where nothing is wrong, with 1 where a schema has a fault, and with 2
+where the call is wrong or a file can't be read.
+";
+
+const USAGE_OF_FORMAT: &str = "usage: planus format [--write | --check] SCHEMA..\n";
+
+const DETAILS_OF_FORMAT: &str = "
+Prints the canonical text of each schema, with its comments.
+
+  --write  replaces each file by its text
+  --check  prints nothing, and says which files don't have that text
+
+Ends with 0 where nothing is wrong, with 1 where a schema has a fault or --check names
+a file, and with 2 where the call is wrong or a file can't be read or written.
+";
+
+const USAGE_OF_VIEW: &str = "usage: planus view [OPTION].. SCHEMA BUFFER\n";
+
+const DETAILS_OF_VIEW: &str = "
+Prints what a buffer holds, a line a value, as far as the lines and bytes go.
+
+  --root NAME      the root is this table, and not that of the schema
+  --size-prefixed  BUFFER is any number of buffers, each after its size
+  --lines N        at most N lines, and not 1000
+  --bytes N        at most N bytes, and not 1048576
+  -I FOLDER        included files are sought in this folder too
+
+Ends with 0 where all is shown, with 1 where something is wrong with the buffer or
+more follows, and with 2 where the call is wrong or a file can't be read.
+";
+
+const USAGE_OF_RATTLE: &str =
+    "usage: planus rattle [--check] [--no-verified] [-I FOLDER].. SCHEMA -o FOLDER\n";
+
+const DETAILS_OF_RATTLE: &str = "
+Prints the code of a schema as a crate: its files in FOLDER, whose last word is the
+crate's name. A file that has its text already is left alone.
+
+  -o FOLDER        the folder of the crate, which is made if it isn't there
+  --check          writes nothing, and says which files aren't what is printed
+  --no-verified    prints no views of verified buffers, so that less is to be proved
+  -I FOLDER        included files are sought in this folder too
+
+Ends with 0 where all is printed, with 1 where the schema has a fault or something
+that isn't supported, or --check names a file, and with 2 where the call is wrong or
+a file can't be read or written.
+";
+
+const USAGE_OF_DOT: &str = "usage: planus dot [-I FOLDER].. SCHEMA\n";
+
+const DETAILS_OF_DOT: &str = "
+Prints the graph of a schema for Graphviz: a node for each declaration, with its
+fields and their types, and an edge for each that names a declaration. For a picture,
+planus dot a.fbs | dot -Tsvg -o a.svg. Included files are sought beside the file and
+in each FOLDER.
+Ends with 0 where the graph is printed, with 1 where the schema has a fault, and with
+2 where the call is wrong or a file can't be read.
+";
+
+const USAGE_OF_CONFORM: &str =
+    "usage: planus conform [--backward | --forward] [--rename OLD=NEW].. [-I FOLDER].. OLD NEW\n";
+
+const DETAILS_OF_CONFORM: &str = "
+Says on standard error what breaks where the schema NEW replaces OLD, or nothing: each
+change by which code of one reads data of the other otherwise, and what to do instead.
+
+  --backward        only what breaks new code that reads old data
+  --forward         only what breaks old code that reads new data
+  --rename OLD=NEW  what is OLD in the old schema is NEW in the new one
+  -I FOLDER         included files are sought in this folder too
+
+Ends with 0 where nothing breaks, with 1 where something does or a schema has a fault,
+and with 2 where the call is wrong or a file can't be read.
+";
+
+const USAGE_OF_COMPLETIONS: &str = "usage: planus completions bash|zsh|fish\n";
+
+const DETAILS_OF_COMPLETIONS: &str = "
+Prints the script by which this shell completes calls of planus: commands, their
+options, and files. It says how it is used.
+";
+
+const NO_SHELL: &str = "planus: completions has one shell: bash, zsh or fish\n";
+
+const NO_COMMAND: &str = "planus: no command is given\n";
+
+const NO_SCHEMA: &str = "planus: no schema is named; - is standard input\n";
+
+const EMPTY_FILE: &str = "planus: the name of a file is empty\n";
+
+const NO_BUFFER: &str = "planus: view has a schema and a buffer\n";
+
+const SEVERAL_SCHEMAS: &str = "planus: rattle has one schema\n";
+
+const SEVERAL_FOR_DOT: &str = "planus: dot has one schema\n";
+
+const NO_PAIR: &str = "planus: conform has an old schema and a new one\n";
+
+const BACKWARD_AND_FORWARD: &str = "planus: conform has --backward or --forward, and not both\n";
+
+const NO_OUTPUT: &str = "planus: no folder is given: -o FOLDER\n";
+
+const WRITE_AND_CHECK: &str = "planus: format has --write or --check, and not both\n";
+
+/// The exit status where all went well.
+pub const CLEAN: u8 = 0;
+
+/// The exit status where a schema has a fault.
+pub const FAULTY: u8 = 1;
+
+/// The exit status where a call is wrong or a file unavailable.
+pub const FAILED: u8 = 2;
+
+/// Writes a line, as [`say_line`], and returns [`FAILED`].
+pub fn fail<X: Write>(
+    alloc: Global,
+    errors: &mut X,
+    before: &str,
+    name: &str,
+    after: &str,
+) -> Result<u8, RunError>
+    ensures { IfOk result (λ status. (status ≡ 2) × Appends (X.contents errors.old)
+        (X.contents errors.new) (line_of before.now name.now after.now)) }
+{
+    say_line(alloc, errors, before, name, after)?;
+    Ok(FAILED)
+}
+
+/// What is written, and whether it says that the call is wrong.
+#[derive(Drop)]
+pub struct Said {
+    pub wrong: bool,
+    pub text: Vec<u8>,
+}
+
+fn command_words() -> &'static [&'static str]
+    ensures { map (λ w. w.now) result.now ≡ command_words_lem }
+{
+    &[
+        "check",
+        "format",
+        "view",
+        "rattle",
+        "dot",
+        "conform",
+        "completions",
+        "help",
+        "--help",
+        "-h",
+        "--version",
+        "-V",
+    ]
+}
+
+pub(crate) fn option_words(command: Command) -> &'static [&'static str]
+    ensures { map (λ w. w.now) result.now ≡ option_words_lem command }
+{
+    match command {
+        Command::Check => &["-I", "--help", "-h"],
+        Command::Format => &["--write", "--check", "--help", "-h"],
+        Command::View => {
+            &[
+                "-I",
+                "--root",
+                "--size-prefixed",
+                "--lines",
+                "--bytes",
+                "--help",
+                "-h",
+            ]
+        }
+        Command::Rattle => &["-I", "-o", "--check", "--no-verified", "--help", "-h"],
+        Command::Dot => &["-I", "--help", "-h"],
+        Command::Conform => { &["-I", "--backward", "--forward", "--rename", "--help", "-h"] }
+        Command::Completions => &["--help", "-h"],
+    }
+}
+
+/// Returns what is said after a word that is none of these.
+fn hint(alloc: Global, words: &[&str], word: &[u8]) -> Result<Vec<u8>, AllocError>
+    ensures { IfOk result (λ text. text.items
+        ≡ call_hint (nearest (map (λ w. w.now) words.now) word.now)) }
+{
+    let Some(near) = nearest_word(words, word) else {
+        return Vec::from_slice(alloc, b"see planus help");
+    };
+    let mut text = Vec::from_slice(alloc, b"did you mean `")?;
+    text.extend_from_slice(near)?;
+    text.extend_from_slice(b"`?")?;
+    Ok(text)
+}
+
+fn help() -> &'static str
+    ensures { result.now ≡ help_text }
+{
+    HELP
+}
+
+/// Returns how a command is called, or the program.
+#[tactic(auto, unfolding(crate::specs::Said::usage_of))]
+fn usage_of(command: Option<Command>) -> &'static str
+    ensures { result.now ≡ usage_of_lem command }
+{
+    match command {
+        None => PROGRAM_USAGE,
+        Some(Command::Check) => USAGE_OF_CHECK,
+        Some(Command::Format) => USAGE_OF_FORMAT,
+        Some(Command::View) => USAGE_OF_VIEW,
+        Some(Command::Rattle) => USAGE_OF_RATTLE,
+        Some(Command::Dot) => USAGE_OF_DOT,
+        Some(Command::Conform) => USAGE_OF_CONFORM,
+        Some(Command::Completions) => USAGE_OF_COMPLETIONS,
+    }
+}
+
+fn details_of(command: Command) -> &'static str
+    ensures { result.now ≡ details_of_lem command }
+{
+    match command {
+        Command::Check => DETAILS_OF_CHECK,
+        Command::Format => DETAILS_OF_FORMAT,
+        Command::View => DETAILS_OF_VIEW,
+        Command::Rattle => DETAILS_OF_RATTLE,
+        Command::Dot => DETAILS_OF_DOT,
+        Command::Conform => DETAILS_OF_CONFORM,
+        Command::Completions => DETAILS_OF_COMPLETIONS,
+    }
+}
+
+fn no_value(choice: Choice) -> &'static str
+    ensures { result.now ≡ no_value_text choice }
+{
+    match choice {
+        Choice::Root => "planus: no name follows --root\n",
+        Choice::Lines => "planus: no number follows --lines\n",
+        Choice::Bytes => "planus: no number follows --bytes\n",
+        Choice::Output => "planus: no folder follows -o\n",
+        Choice::Rename => "planus: no names follow --rename\n",
+        _ => "planus: no folder follows -I\n",
+    }
+}
+
+fn empty_value(choice: Choice) -> &'static str
+    ensures { result.now ≡ empty_value_text choice }
+{
+    match choice {
+        Choice::Root => "planus: the name of --root is empty\n",
+        Choice::Lines => "planus: the number of --lines is empty\n",
+        Choice::Bytes => "planus: the number of --bytes is empty\n",
+        Choice::Output => "planus: the folder of -o is empty\n",
+        _ => "planus: the folder of -I is empty\n",
+    }
+}
+
+fn no_number(choice: Choice) -> &'static str
+    ensures { result.now ≡ no_number_text choice }
+{
+    match choice {
+        Choice::Lines => ", the value of --lines, is no number",
+        _ => ", the value of --bytes, is no number",
+    }
+}
+
+fn said_text(alloc: Global, wrong: bool, text: &str) -> Result<Option<Said>, AllocError>
+    ensures { IfOk result (λ said. option_map said_view said ≡ said_text_lem wrong text.now) }
+{
+    let text = Vec::from_slice(alloc, text.as_bytes())?;
+    Ok(Some(Said { wrong, text }))
+}
+
+fn help_of(alloc: Global, command: Command) -> Result<Option<Said>, AllocError>
+    ensures { IfOk result (λ said. option_map said_view said
+        ≡ said_text_lem false (help_of_lem command)) }
+{
+    let mut text = Vec::from_slice(alloc, usage_of(Some(command)).as_bytes())?;
+    text.extend_from_slice(details_of(command).as_bytes())?;
+    Ok(Some(Said { wrong: false, text }))
+}
+
+fn wrong(alloc: Global, line: &str, command: Option<Command>) -> Result<Option<Said>, AllocError>
+    ensures { IfOk result (λ said. option_map said_view said
+        ≡ said_text_lem true (line.now ++ usage_of_lem command)) }
+{
+    let mut text = Vec::from_slice(alloc, line.as_bytes())?;
+    text.extend_from_slice(usage_of(command).as_bytes())?;
+    Ok(Some(Said { wrong: true, text }))
+}
+
+fn about(
+    alloc: Global,
+    before: &str,
+    word: &str,
+    after: &str,
+    hint: &[u8],
+    command: Option<Command>,
+) -> Result<Option<Said>, AllocError>
+    ensures { IfOk result (λ said. option_map said_view said ≡ said_text_lem true
+        (codes "planus: " ++ (before.now ++ (codes "`" ++ (shown word.now ++ (codes "`"
+        ++ (after.now ++ (hint.now ++ (codes "\n" ++ usage_of_lem command))))))))) }
+{
+    let mut text = Vec::from_slice(alloc, b"planus: ")?;
+    text.extend_from_slice(before.as_bytes())?;
+    text.push(b'`')?;
+    put_shown(&mut text, word.as_bytes())?;
+    text.push(b'`')?;
+    text.extend_from_slice(after.as_bytes())?;
+    text.extend_from_slice(hint)?;
+    text.push(b'\n')?;
+    text.extend_from_slice(usage_of(command).as_bytes())?;
+    Ok(Some(Said { wrong: true, text }))
+}
+
+fn no_schema(command: Command) -> &'static str
+    ensures { result.now ≡ no_schema_text command }
+{
+    match command {
+        Command::Completions => NO_SHELL,
+        _ => NO_SCHEMA,
+    }
+}
+
+fn several_schemas(command: Command) -> &'static str
+    ensures { result.now ≡ several_schemas_text command }
+{
+    match command {
+        Command::Dot => SEVERAL_FOR_DOT,
+        _ => SEVERAL_SCHEMAS,
+    }
+}
+
+fn script_said(alloc: Global, shell: Shell) -> Result<Option<Said>, AllocError>
+    ensures { IfOk result (λ said. option_map said_view said ≡ said_text_lem false (script_of shell)) }
+{
+    let text = script(alloc, shell)?;
+    Ok(Some(Said { wrong: false, text }))
+}
+
+fn unknown_command(alloc: Global, word: &str) -> Result<Option<Said>, AllocError>
+    ensures { IfOk result (λ said. option_map said_view said
+        ≡ said_of_lem (unknown_command_asked word.now)) }
+{
+    let hint = hint(alloc, command_words(), word.as_bytes())?;
+    about(alloc, "unknown command ", word, "; ", &hint, None)
+}
+
+fn unknown_option(alloc: Global, command: Command, word: &str) -> Result<Option<Said>, AllocError>
+    ensures { IfOk result (λ said. option_map said_view said
+        ≡ said_of_lem (unknown_option_asked command word.now)) }
+{
+    let near = before_equals(word.as_bytes());
+    let hint = hint(alloc, option_words(command), near)?;
+    about(alloc, "unknown option ", word, "; ", &hint, Some(command))
+}
+
+fn no_rename(alloc: Global, word: &str) -> Result<Option<Said>, AllocError>
+    ensures { IfOk result (λ said. option_map said_view said
+        ≡ said_of_lem (no_rename_asked word.now)) }
+{
+    let after = ", the value of --rename, isn't OLD=NEW";
+    about(alloc, "", word, after, b"", Some(Command::Conform))
+}
+
+/// Returns what is written of a request that names no schema.
+pub fn said_of(alloc: Global, request: &Request<'_>) -> Result<Option<Said>, AllocError>
+    ensures { IfOk result (λ said. option_map said_view said ≡ said_of_lem (asked request.now)) }
+{
+    match request {
+        Request::Run { .. } => Ok(None),
+        Request::Help => said_text(alloc, false, help()),
+        Request::HelpOf(command) => help_of(alloc, *command),
+        Request::Version => said_text(alloc, false, VERSION),
+        Request::NoCommand => wrong(alloc, NO_COMMAND, None),
+        Request::UnknownCommand(word) => unknown_command(alloc, *word),
+        Request::UnknownOption(command, word) => unknown_option(alloc, *command, *word),
+        Request::NoValue(command, choice) => wrong(alloc, no_value(*choice), Some(*command)),
+        Request::NoSchema(command) => wrong(alloc, no_schema(*command), Some(*command)),
+        Request::NoBuffer => wrong(alloc, NO_BUFFER, Some(Command::View)),
+        Request::EmptyValue(command, choice) => wrong(alloc, empty_value(*choice), Some(*command)),
+        Request::EmptyFile(command) => wrong(alloc, EMPTY_FILE, Some(*command)),
+        Request::NoNumber(choice, word) => {
+            about(
+                alloc,
+                "",
+                *word,
+                no_number(*choice),
+                b"",
+                Some(Command::View),
+            )
+        }
+        Request::SeveralSchemas(command) => wrong(alloc, several_schemas(*command), Some(*command)),
+        Request::NoOutput => wrong(alloc, NO_OUTPUT, Some(Command::Rattle)),
+        Request::WriteAndCheck => wrong(alloc, WRITE_AND_CHECK, Some(Command::Format)),
+        Request::NoPair => wrong(alloc, NO_PAIR, Some(Command::Conform)),
+        Request::BackwardAndForward => wrong(alloc, BACKWARD_AND_FORWARD, Some(Command::Conform)),
+        Request::NoRename(word) => no_rename(alloc, *word),
+        Request::Completions(shell) => script_said(alloc, *shell),
+        Request::NoShell => wrong(alloc, NO_SHELL, Some(Command::Completions)),
+    }
+}
+
+/// Writes help or the version, or reports a wrong call and how one is. Returns the exit status, or `None` for a
+/// command.
+///
+/// Fails where writing fails.
+pub fn say<W: Write, X: Write>(
+    alloc: Global,
+    request: &Request<'_>,
+    writer: &mut W,
+    errors: &mut X,
+) -> Result<Option<u8>, RunError>
+    ensures { IfOk result (λ status. Says (said_of_lem (asked request.now)) status
+        (W.contents writer.old) (W.contents writer.new)
+        (X.contents errors.old) (X.contents errors.new)) }
+{
+    match said_of(alloc, request)? {
+        None => Ok(None),
+        Some(said) => {
+            if said.wrong {
+                write_out(errors, &said.text)?;
+                Ok(Some(FAILED))
+            } else {
+                write_out(writer, &said.text)?;
+                Ok(Some(CLEAN))
+            }
+        }
+    }
+}

@@ -1,0 +1,108 @@
+//! Reading whole texts, and writing.
+
+ghost use Rattle.std.specs.Prelude.{◌≡◌, ◌+◌, take, IfOk, IfErr, IfSome, OnOk, OnErr};
+ghost use Rattle.std.specs.Io.KnownBytes.{Appends};
+ghost use Rattle.planus_dump.specs.Writing.{WritesBeginning};
+ghost use Rattle.planus_cli.specs.Outcomes.{greatest_text, line_of, reason_of as reason_lem};
+
+use crate::file_error::FileError;
+use crate::shown::put_shown;
+use std::alloc::{AllocError, Global};
+use std::io::{Read, Write};
+
+/// The greatest length of a text, in bytes.
+pub const GREATEST_TEXT: usize = 16777216;
+
+/// One byte more shows that a text is too long.
+const MOST_READ: u64 = GREATEST_TEXT as u64 + 1;
+
+/// Why a call ends before what it does is done.
+#[derive(Clone, Copy)]
+pub enum RunError {
+    /// Memory was refused.
+    OutOfMemory,
+    /// A word of the call can't be read.
+    Read,
+    /// Writing failed.
+    Write,
+    /// A schema isn't sound, so no buffer is shown by it.
+    BadSchema,
+}
+
+impl From<AllocError> for RunError {
+    ghost use Rattle.std.specs.Prelude.{◌≡◌};
+    ghost use Rattle.planus_cli.specs.declared.streams.RunError.TheVariants.{OutOfMemory};
+
+    ghost from_gives = { λ _ e. e ≡ OutOfMemory };
+
+    fn from(_error: AllocError) -> RunError {
+        RunError::OutOfMemory
+    }
+}
+
+/// Returns the bytes of a text, at most one more than [`GREATEST_TEXT`].
+pub fn read_all<R: Read>(alloc: Global, reader: &mut R) -> Result<Vec<u8>, FileError>
+    ensures { IfOk result (λ text. IfSome (R.remaining reader.old)
+        (λ bytes. text.items ≡ take (greatest_text + 1) bytes)) }
+{
+    let mut text = Vec::new(alloc);
+    match reader.take(MOST_READ).read_to_end(&mut text) {
+        Ok(_) => Ok(text),
+        Err(error) => Err(FileError::of(error.kind())),
+    }
+}
+
+/// Writes all bytes, and flushes. If this fails, what was written is a beginning of them.
+pub fn write_out<W: Write>(writer: &mut W, bytes: &[u8]) -> Result<(), RunError>
+    ensures bytes { OnOk result (Appends (W.contents writer.old) (W.contents writer.new)
+        bytes.now) }
+    ensures begun { OnErr result (WritesBeginning bytes.now (W.contents writer.old)
+        (W.contents writer.new)) }
+    ensures error { IfErr result (λ error. error ≡ RunError.Write) }
+{
+    match planus_dump::write_out(writer, bytes) {
+        Ok(()) => Ok(()),
+        Err(_) => Err(RunError::Write),
+    }
+}
+
+fn line(alloc: Global, before: &str, name: &str, after: &str) -> Result<Vec<u8>, AllocError>
+    ensures { IfOk result (λ line. line.items ≡ line_of before.now name.now after.now) }
+{
+    let mut line = Vec::from_slice(alloc, b"planus: ")?;
+    line.extend_from_slice(before.as_bytes())?;
+    put_shown(&mut line, name.as_bytes())?;
+    line.extend_from_slice(after.as_bytes())?;
+    line.push(b'\n')?;
+    Ok(line)
+}
+
+/// Writes a line: these words after `planus: `, the name as a terminal may show it.
+pub fn say<X: Write>(
+    alloc: Global,
+    errors: &mut X,
+    before: &str,
+    name: &str,
+    after: &str,
+) -> Result<(), RunError>
+    ensures said { OnOk result (Appends (X.contents errors.old) (X.contents errors.new)
+        (line_of before.now name.now after.now)) }
+    ensures begun { OnErr result (WritesBeginning (line_of before.now name.now after.now)
+        (X.contents errors.old) (X.contents errors.new)) }
+{
+    let line = line(alloc, before, name, after)?;
+    write_out(errors, &line)?;
+    Ok(())
+}
+
+/// Returns what is written where a call fails.
+pub fn reason_of(error: RunError) -> &'static str
+    ensures { result.now ≡ reason_lem error }
+{
+    match error {
+        RunError::OutOfMemory => "planus: out of memory\n",
+        RunError::Read => "planus: a word of the call is no text\n",
+        RunError::Write => "planus: can't write\n",
+        RunError::BadSchema => "planus: the schema isn't sound\n",
+    }
+}

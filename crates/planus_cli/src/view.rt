@@ -1,0 +1,601 @@
+//! The command `view`: what a buffer holds by a schema.
+
+ghost use Rattle.std.specs.Prelude.{◌≡◌, ℕ, List, MatchOption, IfOk, IfErr, OnOk, OnErr, position};
+ghost use Rattle.std.specs.Option.{option_map};
+ghost use Rattle.std.specs.Io.KnownBytes.{Appends};
+ghost use Rattle.planus_cli.specs.Buffers.{is_table_named as is_table_named_lem};
+ghost use Rattle.planus_cli.specs.Buffers.{root_of as root_lem, no_root_text};
+ghost use Rattle.planus_cli.specs.Buffers.{has_identifier as has_identifier_lem};
+ghost use Rattle.planus_cli.specs.Buffers.{other_identifier_text, ChecksIdentifier, limit_of};
+ghost use Rattle.planus_cli.specs.Buffers.{look_of, ViewsOne, ViewsSized, ViewsBytes, ViewsBy};
+ghost use Rattle.planus_cli.specs.Buffers.{one_of as one_of_lem, cut_one as cut_one_lem};
+ghost use Rattle.planus_cli.specs.Buffers.{ViewsAlone, ViewsNext, FailsNext, header_text};
+ghost use Rattle.planus_cli.specs.Buffers.{ReadsRoot, ReadsFirst, Advises, FailsAdvising};
+ghost use Rattle.planus_cli.specs.Buffers.{Views, FailsViews, ViewsAdvised, FailsAdvised};
+ghost use Rattle.planus_cli.specs.Buffers.{advice_of as advice_of_lem};
+ghost use Rattle.planus_cli.specs.Buffers.{lead_view, lead_of, look_left};
+ghost use Rattle.planus_cli.specs.Buffers.{limit_reached as limit_reached_lem};
+ghost use Rattle.planus_cli.specs.Buffers.{limits_after as limits_after_lem};
+ghost use Rattle.planus_cli.specs.Buffers.{FailsIdentifier, FailsOne, FailsSized, FailsBytes};
+ghost use Rattle.planus_cli.specs.Buffers.{FailsBy};
+ghost use Rattle.planus_dump.specs.Writing.{WritesBeginning};
+ghost use Rattle.planus_cli.specs.Arguments.{words_of};
+ghost use Rattle.planus_cli.specs.Running.{ViewsFile, ViewsPair, ViewsFiles};
+ghost use Rattle.planus_cli.specs.Viewing.{SplitsSized, EndsEarly};
+
+use crate::arguments::{Words, number_of};
+use crate::files::Files;
+use crate::said::{CLEAN, FAILED, FAULTY};
+use crate::shown::put_shown;
+use crate::sources::{bytes_of, schema_at};
+use crate::streams::{RunError, say, write_out};
+use crate::viewing::{Limits, end_text, is_clean, is_cut, view_buffer};
+use planus_dump::{End, Seen, view};
+use planus_inspect::dump_schema;
+use planus_schema::{Body, Declared, Schema};
+use std::alloc::{AllocError, Global};
+use std::io::Write;
+
+/// The default of `--lines`.
+const LINES: usize = 1000;
+
+/// The default of `--bytes`.
+const BYTES: usize = 1048576;
+
+/// Where the identifier begins, in bytes.
+const IDENTIFIER: usize = 4;
+
+fn limit(word: Option<&str>, otherwise: usize) -> usize
+    ensures { result ≡ limit_of (option_map (λ w. w.now) word.entry) otherwise }
+{
+    match word {
+        Some(word) => number_of(word).unwrap_or(otherwise),
+        None => otherwise,
+    }
+}
+
+fn is_table_named(declared: &Declared, name: &str) -> bool
+    ensures { result ≡ is_table_named_lem name.now declared.now }
+{
+    matches!(declared.body, Body::Table(_)) && declared.name.as_slice() == name.as_bytes()
+}
+
+fn table_named(declared: &[Declared], name: &str) -> Option<usize>
+    ensures { result ≡ position (is_table_named_lem name.now) declared.now }
+{
+    let mut n = 0;
+    'declared: while n < declared.len() && !is_table_named(&declared[n], name) {
+        n += 1;
+    }
+    if n < declared.len() { Some(n) } else { None }
+}
+
+fn root_of(schema: &Schema, root: Option<&str>) -> Option<usize>
+    ensures { result ≡ root_lem schema.now (option_map (λ name. name.now) root.entry) }
+{
+    match root {
+        Some(name) => table_named(&schema.declarations, name),
+        None => schema.statements.root,
+    }
+}
+
+fn say_no_root<X: Write>(alloc: Global, root: Option<&str>, errors: &mut X) -> Result<(), RunError>
+    ensures said { OnOk result (Appends (X.contents errors.old) (X.contents errors.new)
+        (no_root_text (option_map (λ name. name.now) root.entry))) }
+    ensures begun { OnErr result (WritesBeginning
+        (no_root_text (option_map (λ name. name.now) root.entry))
+        (X.contents errors.old) (X.contents errors.new)) }
+{
+    match root {
+        Some(name) => say(alloc, errors, "the schema has no table `", name, "`"),
+        None => say(alloc, errors, "the schema has no root; see --root", "", ""),
+    }
+}
+
+fn has_identifier(bytes: &[u8], identifier: &[u8]) -> bool
+    ensures { result ≡ has_identifier_lem identifier.now bytes.now }
+{
+    match bytes.get(IDENTIFIER..IDENTIFIER + 4) {
+        Some(found) => found == identifier,
+        None => false,
+    }
+}
+
+fn other_identifier(alloc: Global, name: &str, identifier: &[u8]) -> Result<Vec<u8>, AllocError>
+    ensures { IfOk result (λ text. text.items
+        ≡ other_identifier_text name.now identifier.now) }
+{
+    let mut text = Vec::from_slice(alloc, b"planus: ")?;
+    put_shown(&mut text, name.as_bytes())?;
+    text.extend_from_slice(b" doesn't have the identifier `")?;
+    put_shown(&mut text, identifier)?;
+    text.extend_from_slice(b"`\n")?;
+    Ok(text)
+}
+
+fn check_identifier<X: Write>(
+    alloc: Global,
+    schema: &Schema,
+    name: &str,
+    bytes: &[u8],
+    errors: &mut X,
+) -> Result<bool, RunError>
+    ensures told { IfOk result (λ known. ChecksIdentifier
+        (option_map (λ v. v.items) schema.now.statements.identifier) name.now bytes.now known
+        (X.contents errors.old) (X.contents errors.new)) }
+    ensures failed { OnErr result (FailsIdentifier
+        (option_map (λ v. v.items) schema.now.statements.identifier) name.now bytes.now
+        (X.contents errors.old) (X.contents errors.new)) }
+{
+    match &schema.statements.identifier {
+        Some(identifier) if !has_identifier(bytes, identifier) => {
+            let text = other_identifier(alloc, name, identifier)?;
+            write_out(errors, &text)?;
+            Ok(false)
+        }
+        _ => Ok(true),
+    }
+}
+
+fn split_sized(bytes: &[u8]) -> Option<(&[u8], &[u8])>
+    ensures { MatchOption result (EndsEarly bytes.now)
+        (λ parts. SplitsSized bytes.now parts.0.now parts.1.now) }
+{
+    let (head, rest) = bytes.split_first_chunk::<4>()?;
+    let size = u32::from_le_bytes(*head) as usize;
+    rest.split_at_checked(size)
+}
+
+#[derive(Clone, Copy)]
+struct View<'a> {
+    schema: &'a Schema,
+    shown: &'a planus_dump::Schema,
+    limits: Limits,
+    /// What messages call the file.
+    name: &'a str,
+}
+
+/// What became of a buffer.
+#[derive(Clone, Copy)]
+struct One {
+    status: u8,
+    /// Whether a limit was reached.
+    is_cut: bool,
+    /// What is left of the limits.
+    left: Limits,
+}
+
+fn one_of(known: bool, seen: Seen) -> One
+    ensures { result ≡ one_of_lem known seen }
+{
+    One {
+        status: if known && is_clean(seen) {
+            CLEAN
+        } else {
+            FAULTY
+        },
+        is_cut: is_cut(seen.end),
+        left: Limits {
+            lines: seen.lines_left,
+            bytes: seen.bytes_left,
+        },
+    }
+}
+
+fn view_one<W: Write, X: Write>(
+    alloc: Global,
+    view: &View<'_>,
+    bytes: &[u8],
+    writer: &mut W,
+    errors: &mut X,
+) -> Result<One, RunError>
+    ensures views { IfOk result (λ one. ViewsOne (look_of view.now) bytes.now one
+        (W.contents writer.old) (W.contents writer.new)
+        (X.contents errors.old) (X.contents errors.new)) }
+    ensures failed { IfErr result (λ error. FailsOne (look_of view.now) bytes.now error
+        (W.contents writer.old) (W.contents writer.new)
+        (X.contents errors.old) (X.contents errors.new)) }
+{
+    let known = check_identifier(alloc, view.schema, view.name, bytes, errors)?;
+    let seen = view_buffer(alloc, view.shown, bytes, view.limits, writer)?;
+    Ok(one_of(known, seen))
+}
+
+fn view_alone<W: Write, X: Write>(
+    alloc: Global,
+    view: &View<'_>,
+    bytes: &[u8],
+    writer: &mut W,
+    errors: &mut X,
+) -> Result<u8, RunError>
+    ensures views { IfOk result (λ status. ViewsAlone (look_of view.now) bytes.now status
+        (W.contents writer.old) (W.contents writer.new)
+        (X.contents errors.old) (X.contents errors.new)) }
+    ensures failed { IfErr result (λ error. FailsOne (look_of view.now) bytes.now error
+        (W.contents writer.old) (W.contents writer.new)
+        (X.contents errors.old) (X.contents errors.new)) }
+{
+    match view_one(alloc, view, bytes, writer, errors) {
+        Ok(one) => Ok(one.status),
+        Err(error) => Err(error),
+    }
+}
+
+/// Returns the line before a buffer, without its line feed.
+fn header(alloc: Global, number: usize, at: usize) -> Result<Vec<u8>, AllocError>
+    ensures { IfOk result (λ text. text.items ≡ header_text number at) }
+{
+    let mut text = Vec::from_slice(alloc, b"buffer ")?;
+    text.extend_from_slice(format!(in alloc; "{number}")?.as_bytes())?;
+    text.extend_from_slice(b" at byte ")?;
+    text.extend_from_slice(format!(in alloc; "{at}")?.as_bytes())?;
+    text.push(b':')?;
+    Ok(text)
+}
+
+/// Returns which limit has no room for a line.
+fn limit_reached(limits: Limits, line: &[u8]) -> Option<End>
+    ensures { result ≡ limit_reached_lem limits line.now }
+{
+    if limits.lines == 0 {
+        Some(End::TooManyLines)
+    } else if limits.bytes < line.len() {
+        Some(End::TooManyBytes)
+    } else {
+        None
+    }
+}
+
+/// Returns what is left of the limits after a line.
+fn limits_after(limits: Limits, line: &[u8]) -> Limits
+    ensures { result ≡ limits_after_lem limits line.now }
+{
+    Limits {
+        lines: limits.lines.saturating_sub(1),
+        bytes: limits.bytes.saturating_sub(line.len()),
+    }
+}
+
+/// What is written before a buffer.
+#[derive(Drop)]
+struct Lead {
+    text: Vec<u8>,
+    /// Whether a limit was reached.
+    is_cut: bool,
+    /// What is left of the limits.
+    left: Limits,
+}
+
+/// Returns the line before a buffer, or why no more follows if it has no room.
+fn lead_before(alloc: Global, limits: Limits, number: usize, at: usize) -> Result<Lead, AllocError>
+    ensures { IfOk result (λ lead. lead_view lead ≡ lead_of limits (header_text number at)) }
+{
+    let mut text = header(alloc, number, at)?;
+    if let Some(end) = limit_reached(limits, &text) {
+        let text = Vec::from_slice(alloc, end_text(end).as_bytes())?;
+        return Ok(Lead {
+            text,
+            is_cut: true,
+            left: limits,
+        });
+    }
+    let left = limits_after(limits, &text);
+    text.push(b'\n')?;
+    Ok(Lead {
+        text,
+        is_cut: false,
+        left,
+    })
+}
+
+/// Views one of several buffers, by what is left of the limits.
+fn view_next<W: Write, X: Write>(
+    alloc: Global,
+    view: &View<'_>,
+    number: usize,
+    at: usize,
+    bytes: &[u8],
+    writer: &mut W,
+    errors: &mut X,
+) -> Result<One, RunError>
+    ensures views { IfOk result (λ one. ViewsNext (look_of view.now) (header_text number at)
+        bytes.now one (W.contents writer.old) (W.contents writer.new)
+        (X.contents errors.old) (X.contents errors.new)) }
+    ensures failed { IfErr result (λ error. FailsNext (look_of view.now) (header_text number at)
+        bytes.now error (W.contents writer.old) (W.contents writer.new)
+        (X.contents errors.old) (X.contents errors.new)) }
+{
+    let lead = lead_before(alloc, view.limits, number, at)?;
+    write_out(writer, &lead.text)?;
+    if lead.is_cut {
+        return Ok(cut_one(lead.left));
+    }
+    let view = with_limits(view, lead.left);
+    view_one(alloc, &view, bytes, writer, errors)
+}
+
+fn cut_one(left: Limits) -> One
+    ensures { result ≡ cut_one_lem left }
+{
+    One {
+        status: FAULTY,
+        is_cut: true,
+        left,
+    }
+}
+
+fn with_limits<'a>(view: &View<'a>, limits: Limits) -> View<'a>
+    ensures { look_of result ≡ look_left (look_of view.now) limits }
+{
+    View {
+        schema: view.schema,
+        shown: view.shown,
+        limits,
+        name: view.name,
+    }
+}
+
+fn view_sized<W: Write, X: Write>(
+    alloc: Global,
+    view: &View<'_>,
+    bytes: &[u8],
+    writer: &mut W,
+    errors: &mut X,
+) -> Result<u8, RunError>
+    ensures views { IfOk result (λ status. (buffers : List (List ℕ))
+        × ViewsSized (look_of view.now) 0 0 buffers bytes.now 0 status
+        (W.contents writer.old) (W.contents writer.new)
+        (X.contents errors.old) (X.contents errors.new)) }
+    ensures failed { IfErr result (λ error. (buffers : List (List ℕ))
+        × FailsSized (look_of view.now) 0 0 buffers bytes.now error
+        (W.contents writer.old) (W.contents writer.new)
+        (X.contents errors.old) (X.contents errors.new)) }
+{
+    let mut rest = bytes;
+    let mut worst = CLEAN;
+    let mut number = 0;
+    let mut at = 0;
+    let mut left = view.limits;
+    'buffers: while !rest.is_empty() {
+        let Some((buffer, after)) = split_sized(rest) else {
+            say(alloc, errors, "", view.name, " ends before a buffer does")?;
+            return Ok(FAULTY);
+        };
+        let view = with_limits(view, left);
+        let one = view_next(alloc, &view, number + 1, at + 4, buffer, writer, errors)?;
+        worst = worst.max(one.status);
+        if one.is_cut {
+            return Ok(worst);
+        }
+        number += 1;
+        at += 4 + buffer.len();
+        left = one.left;
+        rest = after;
+    }
+    Ok(worst)
+}
+
+/// Views a buffer, or several, each after its size.
+fn view_held<W: Write, X: Write>(
+    alloc: Global,
+    view: &View<'_>,
+    prefixed: bool,
+    bytes: &[u8],
+    writer: &mut W,
+    errors: &mut X,
+) -> Result<u8, RunError>
+    ensures views { IfOk result (λ status. Views prefixed (look_of view.now) bytes.now status
+        (W.contents writer.old) (W.contents writer.new)
+        (X.contents errors.old) (X.contents errors.new)) }
+    ensures failed { IfErr result (λ error. FailsViews prefixed (look_of view.now) bytes.now error
+        (W.contents writer.old) (W.contents writer.new)
+        (X.contents errors.old) (X.contents errors.new)) }
+{
+    if prefixed {
+        view_sized(alloc, view, bytes, writer, errors)
+    } else {
+        view_alone(alloc, view, bytes, writer, errors)
+    }
+}
+
+/// Returns whether a table can be read at the root.
+fn reads_root(alloc: Global, schema: &planus_dump::Schema, bytes: &[u8]) -> Result<bool, RunError>
+    ensures { IfOk result (λ reads. ReadsRoot schema.now bytes.now reads) }
+{
+    let mut first = Vec::new(alloc);
+    let seen = view(alloc, schema, bytes, 1, usize::MAX, &mut first)?;
+    Ok(!seen.has_fault)
+}
+
+/// Returns whether bytes begin with a size and a buffer of this size at whose root a table can be
+/// read.
+fn reads_first(alloc: Global, schema: &planus_dump::Schema, bytes: &[u8]) -> Result<bool, RunError>
+    ensures { IfOk result (λ reads. ReadsFirst schema.now bytes.now reads) }
+{
+    match split_sized(bytes) {
+        Some((buffer, _)) => reads_root(alloc, schema, buffer),
+        None => Ok(false),
+    }
+}
+
+fn advice_of(prefixed: bool, whole: bool, first: bool) -> Option<&'static str>
+    ensures { option_map (λ w. w.now) result ≡ advice_of_lem prefixed whole first }
+{
+    match (prefixed, whole, first) {
+        (false, false, true) => Some(" may hold buffers, each after its size; see --size-prefixed"),
+        (true, true, false) => Some(" may be a buffer without its size; leave out --size-prefixed"),
+        _ => None,
+    }
+}
+
+/// Says that a file may hold a buffer where several are viewed, or several where one is.
+fn advise<X: Write>(
+    alloc: Global,
+    view: &View<'_>,
+    prefixed: bool,
+    bytes: &[u8],
+    errors: &mut X,
+) -> Result<(), RunError>
+    ensures said { OnOk result (Advises (look_of view.now) prefixed bytes.now
+        (X.contents errors.old) (X.contents errors.new)) }
+    ensures failed { OnErr result (FailsAdvising (look_of view.now) prefixed bytes.now
+        (X.contents errors.old) (X.contents errors.new)) }
+{
+    let whole = reads_root(alloc, view.shown, bytes)?;
+    let first = reads_first(alloc, view.shown, bytes)?;
+    match advice_of(prefixed, whole, first) {
+        Some(after) => say(alloc, errors, "", view.name, after),
+        None => Ok(()),
+    }
+}
+
+fn view_advised<W: Write, X: Write>(
+    alloc: Global,
+    view: &View<'_>,
+    prefixed: bool,
+    bytes: &[u8],
+    writer: &mut W,
+    errors: &mut X,
+) -> Result<u8, RunError>
+    ensures views { IfOk result (λ status. ViewsAdvised prefixed (look_of view.now) bytes.now status
+        (W.contents writer.old) (W.contents writer.new)
+        (X.contents errors.old) (X.contents errors.new)) }
+    ensures failed { IfErr result (λ error. FailsAdvised prefixed (look_of view.now) bytes.now error
+        (W.contents writer.old) (W.contents writer.new)
+        (X.contents errors.old) (X.contents errors.new)) }
+{
+    let status = view_held(alloc, view, prefixed, bytes, writer, errors)?;
+    advise(alloc, view, prefixed, bytes, errors)?;
+    Ok(status)
+}
+
+/// How a buffer is viewed.
+#[derive(Clone, Copy)]
+pub struct Viewing {
+    /// The index of the root's table among the declarations.
+    pub root: usize,
+    /// Whether the file holds buffers, each after its size.
+    pub size_prefixed: bool,
+    /// How much of the file is shown.
+    pub limits: Limits,
+}
+
+/// Writes what the bytes of a file hold by a schema; reports another identifier or an early end.
+/// Returns the exit status: 0 where all is shown and nothing is wrong, else 1.
+pub fn view_bytes<W: Write, X: Write>(
+    alloc: Global,
+    schema: &Schema,
+    how: Viewing,
+    name: &str,
+    bytes: &[u8],
+    writer: &mut W,
+    errors: &mut X,
+) -> Result<u8, RunError>
+    ensures views { IfOk result (λ status. ViewsBytes schema.now how name.now bytes.now status
+        (W.contents writer.old) (W.contents writer.new)
+        (X.contents errors.old) (X.contents errors.new)) }
+    ensures failed { IfErr result (λ error. FailsBytes schema.now how name.now bytes.now error
+        (W.contents writer.old) (W.contents writer.new)
+        (X.contents errors.old) (X.contents errors.new)) }
+{
+    let shown = dump_schema(alloc, schema, how.root)?;
+    let view = View {
+        schema,
+        shown: &shown,
+        limits: how.limits,
+        name,
+    };
+    view_advised(alloc, &view, how.size_prefixed, bytes, writer, errors)
+}
+
+/// Writes what the bytes of a file hold by a schema, as the words of the call say. Returns the exit
+/// status.
+pub fn view_by<W: Write, X: Write>(
+    alloc: Global,
+    schema: &Schema,
+    words: &Words<'_>,
+    name: &str,
+    bytes: &[u8],
+    writer: &mut W,
+    errors: &mut X,
+) -> Result<u8, RunError>
+    ensures views { IfOk result (λ status. ViewsBy schema.now (words_of words.now) name.now
+        bytes.now status (W.contents writer.old) (W.contents writer.new)
+        (X.contents errors.old) (X.contents errors.new)) }
+    ensures failed { IfErr result (λ error. FailsBy schema.now (words_of words.now) name.now
+        bytes.now error (W.contents writer.old) (W.contents writer.new)
+        (X.contents errors.old) (X.contents errors.new)) }
+{
+    let Some(root) = root_of(schema, words.root) else {
+        say_no_root(alloc, words.root, errors)?;
+        return Ok(FAILED);
+    };
+    let how = Viewing {
+        root,
+        size_prefixed: words.size_prefixed,
+        limits: Limits {
+            lines: limit(words.lines, LINES),
+            bytes: limit(words.bytes, BYTES),
+        },
+    };
+    view_bytes(alloc, schema, how, name, bytes, writer, errors)
+}
+
+/// Reads a file, and does what [`view_by`] does.
+fn view_by_file<F: Files, W: Write, X: Write>(
+    files: &F,
+    alloc: Global,
+    schema: &Schema,
+    words: &Words<'_>,
+    name: &str,
+    writer: &mut W,
+    errors: &mut X,
+) -> Result<u8, RunError>
+    ensures { IfOk result (λ status. ViewsFile (F.disk files.now) schema.now (words_of words.now)
+        name.now status (W.contents writer.old) (W.contents writer.new)
+        (X.contents errors.old) (X.contents errors.new)) }
+{
+    match bytes_of(files, alloc, name, errors)? {
+        Some(bytes) => view_by(alloc, schema, words, name, &bytes, writer, errors),
+        None => Ok(FAILED),
+    }
+}
+
+/// Reads a schema, and does what [`view_by_file`] does.
+fn view_pair<F: Files, W: Write, X: Write>(
+    files: &F,
+    alloc: Global,
+    words: &Words<'_>,
+    schema: &str,
+    buffer: &str,
+    writer: &mut W,
+    errors: &mut X,
+) -> Result<u8, RunError>
+    ensures { IfOk result (λ status. ViewsPair (F.disk files.now) (words_of words.now)
+        schema.now buffer.now status (W.contents writer.old) (W.contents writer.new)
+        (X.contents errors.old) (X.contents errors.new)) }
+{
+    let found = schema_at(files, alloc, &words.folders, schema, errors)?;
+    match &found {
+        Ok(schema) => view_by_file(files, alloc, schema, words, buffer, writer, errors),
+        Err(status) => Ok(*status),
+    }
+}
+
+/// Writes what a buffer holds by a schema, both of which are files. Returns the exit status.
+pub fn view_file<F: Files, W: Write, X: Write>(
+    files: &F,
+    alloc: Global,
+    words: &Words<'_>,
+    writer: &mut W,
+    errors: &mut X,
+) -> Result<u8, RunError>
+    ensures { IfOk result (λ status. ViewsFiles (F.disk files.now) (words_of words.now)
+        (words_of words.now).files status (W.contents writer.old) (W.contents writer.new)
+        (X.contents errors.old) (X.contents errors.new)) }
+{
+    match words.files.as_slice() {
+        [schema, buffer] => view_pair(files, alloc, words, *schema, *buffer, writer, errors),
+        _ => Ok(FAILED),
+    }
+}

@@ -1,7 +1,0 @@
-use Rattle.std.proofs.Common.{map, take}
-use Rattle.planus_schema.specs.Names.{head_of}
-use Rattle.planus_commands.specs.Checks.{AreReports}
-use Rattle.planus_commands.proofs.checking.reports.Given as goal
-
-abbrev pub invariant-faults : goal.invariant-faults
-invariant-faults l = AreReports (map head_of l.heads) l.files (take l.fault-index l.faults) l.out.items

@@ -1,8 +1,0 @@
-use Rattle.std.proofs.Common.{◌≡◌, [], map, reverse}
-use Rattle.std.specs.Prelude.{fold}
-use Rattle.planus_commands.specs.Including.{entered}
-use Rattle.planus_commands.proofs.include.walk.Given as goal
-
-abbrev pub invariant-path : goal.invariant-path
-invariant-path l =
-    reverse (map (λ s. s.now) l.segments.items) ≡ fold entered [] (map (λ s. s.now) l.yielded)

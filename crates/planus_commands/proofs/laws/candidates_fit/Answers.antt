@@ -1,5 +1,0 @@
-use Rattle.planus_commands.proofs.Fits.{all_fit}
-use Rattle.planus_commands.proofs.laws.candidates_fit.Goals as goal
-
-pub returns : goal.returns
-returns c = all_fit

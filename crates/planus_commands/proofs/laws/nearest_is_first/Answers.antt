@@ -1,5 +1,0 @@
-use Rattle.planus_commands.proofs.Nearest.{nearest_is_meant}
-use Rattle.planus_commands.proofs.laws.nearest_is_first.Goals as goal
-
-pub returns : goal.returns
-returns c = nearest_is_meant

@@ -1,5 +1,0 @@
-use Rattle.planus_commands.proofs.Listed.{options_listed}
-use Rattle.planus_commands.proofs.laws.options_are_listed.Goals as goal
-
-pub returns : goal.returns
-returns c = options_listed

@@ -1,6 +1,0 @@
-use Rattle.planus_commands.specs.Printing.{libraries}
-use Rattle.planus_commands.proofs.libraries.is_library.Goals as goal
-
-pub returns : goal.returns
-unfolding libraries
-returns c = c.is_one_of.ensures

@@ -1,7 +1,0 @@
-use Rattle.std.proofs.Common.{◌≡◌, ◌++◌, take}
-use Rattle.std.specs.List.{flat_map}
-use Rattle.planus_commands.specs.Reports.{below}
-use Rattle.planus_commands.proofs.report.put_below.Given as goal
-
-abbrev pub invariant-loop-b : goal.invariant-loop-b
-invariant-loop-b l = l.out.items ≡ l.fn.out.items ++ flat_map below (take l.b-index l.bytes)

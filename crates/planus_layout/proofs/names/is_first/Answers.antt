@@ -1,5 +1,0 @@
-use Rattle.planus_layout.proofs.NameLemmas.{first_is}
-use Rattle.planus_layout.proofs.names.is_first.Goals as goal
-
-pub returns : goal.returns
-returns c = first_is c.args.found c.args.index c.eq.result c.eq.ensures

@@ -1,7 +1,0 @@
-use Rattle.planus_layout.proofs.place.Layout.finished.Goals as goal
-
-pub returns-clause-size : goal.returns-clause-size
-returns-clause-size c = c.next_multiple.ensures.next
-
-pub returns-clause-is : goal.returns-clause-is
-returns-clause-is c = c.next_multiple.ensures.is

@@ -1,4 +1,0 @@
-pub mod Numbers
-pub mod Distinct
-pub mod Slots
-pub mod Layouts

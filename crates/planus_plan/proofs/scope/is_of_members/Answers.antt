@@ -1,6 +1,0 @@
-use Rattle.planus_plan.specs.Names.{words_of_members}
-use Rattle.planus_plan.proofs.scope.is_of_members.Goals as goal
-
-pub returns : goal.returns
-unfolding words_of_members
-returns c = c.is_one_of.ensures

@@ -1,3 +1,0 @@
-pub mod Names
-pub mod Plans
-pub mod Spelling

@@ -1,0 +1,15 @@
+pub mod Lists
+pub mod EnumLemmas
+pub mod IntegerLemmas
+pub mod StructLemmas
+pub mod MeasureLemmas
+pub mod UnionLemmas
+pub mod TableLemmas
+pub mod FaultLemmas
+pub mod UseLemmas
+pub mod WithinLemmas
+pub mod SchemaLemmas
+pub mod IndexLemmas
+pub mod SoundLemmas
+pub mod DefaultLemmas
+pub mod SlotLemmas

@@ -1,0 +1,90 @@
+-- One more field of a struct.
+use Rattle.std.proofs.Common.{◌≡◌, ℕ, ◌+◌, ◌<◌, ◌≤◌, max, true, false, List, [], ◌∷◌, ◌++◌, length, map, take, drop, get_or, suc, add-one, drop-cons, refl, sym, ap, subst, ◌∙◌, arith}
+use Rattle.std.proofs.lemmas.List.{map_push}
+use Rattle.std.proofs.lemmas.List.Sums.{fold-append}
+use Rattle.std.proofs.lemmas.Bool.{le-leb, lt-leb}
+use Rattle.std.proofs.lemmas.Bool.Decides.{nat_tests}
+use Rattle.planus_schema.specs.declared.schema.StructField.{StructField}
+use Rattle.std.proofs.lemmas.Grind.{common_steps}
+use Rattle.std.specs.Prelude.{Option, Some, None, not, nat_le, ◌==◌}
+use Rattle.planus_syntax.specs.Values.{Name, kind_of}
+use Rattle.planus_syntax.specs.declared.value.Field.{Field}
+use Rattle.planus_schema.specs.declared.measure.Measure.{Measure}
+use Rattle.planus_schema.specs.declared.schema.Base.{Base}
+use Rattle.planus_resolve.specs.declared.fault.Problem.TheVariants as problem
+use Rattle.planus_resolve.specs.declared.fault.Stop.{Stop}
+use Rattle.planus_resolve.specs.declared.fault.Stop.TheVariants as stop
+use Rattle.planus_resolve.specs.Names.{HeadV, SpaceV, type_named}
+use Rattle.planus_resolve.specs.Wrong.{Broken, broken, when, first, Stops}
+use Rattle.planus_resolve.specs.WrongStructs.{is_empty, wrong_plain, wrong_measure, wrong_type, measure_among, measure_in_type, wrong_struct_field, wrong_struct_fields, end_of, end_after, greatest_after, alignment_in, field_measure}
+use Rattle.planus_resolve.proofs.FaultLemmas.{skip, passes, stops_first, stops_next, stops_now}
+use Rattle.planus_schema.specs.Distinct.{Each2, is_in}
+use Rattle.planus_schema.specs.Layouts.{IsNext, Laid, greatest_alignment}
+
+pub each2_push : {A B : Type 0} (R : A → B → Type 0) (xs : List A) (ys : List B) (x : A) (y : B) → Each2 R xs ys → R x y → Each2 R (xs ++ x ∷ []) (ys ++ y ∷ [])
+each2_push R [] [] x y h r = (r, tt)
+each2_push R [] (b ∷ ys) x y h r = absurd h
+each2_push R (a ∷ xs) [] x y h r = absurd h
+each2_push R (a ∷ xs) (b ∷ ys) x y h r = (h.0, each2_push R xs ys x y h.1 r)
+
+pub laid_push : (at : ℕ) (fs : List StructField) (end : ℕ) (f : StructField) → Laid at fs end → IsNext f.alignment end f.distance → Laid at (fs ++ f ∷ []) (f.distance + f.size)
+laid_push at [] end f h n = (subst (λ e. IsNext f.alignment e f.distance) (sym h) n, refl)
+laid_push at (g ∷ fs) end f h n = (h.0, laid_push (g.distance + g.size) fs end f h.1 n)
+
+pub greatest_push : (fs : List StructField) (f : StructField) → greatest_alignment (fs ++ f ∷ []) ≡ max (greatest_alignment fs) f.alignment
+greatest_push fs f = fold-append (λ n (g : StructField). max n g.alignment) 1 fs (f ∷ [])
+
+pub map_next : {A B : Type 0} (f : A → B) (xs : List A) (i : ℕ) (x : A) → i < length xs → x ≡ get_or xs i x → map f (take (i + 1) xs) ≡ map f (take i xs) ++ f x ∷ []
+map_next f xs i x h e = ap (map f) (take-snoc xs i x h e) ∙ map_push f (take i xs) x
+  where
+    take-snoc : {A : Type 0} (xs : List A) (i : ℕ) (x : A) → i < length xs → x ≡ get_or xs i x → take (i + 1) xs ≡ take i xs ++ x ∷ []
+    take-snoc xs i x h e = grind (arith, common_steps)
+
+pub drop_next : {A : Type 0} (xs : List A) (i : ℕ) (x : A) → i < length xs → x ≡ get_or xs i x → drop i xs ≡ x ∷ drop (i + 1) xs
+drop_next xs i x h e = rw add-one (drop-cons xs i x h ∙ ap (λ y. y ∷ drop (suc i) xs) (sym e))
+
+pub map_rest : {A B : Type 0} (f : A → B) (xs : List A) (i : ℕ) (x : A) → i < length xs → x ≡ get_or xs i x → map f (drop i xs) ≡ f x ∷ map f (drop (i + 1) xs)
+map_rest f xs i x h e = ap (map f) (drop_next xs i x h e)
+
+pub struct_field_stops : (hs : List HeadV) (space : SpaceV) (ms : List (Option Measure)) (at : ℕ) (names : List Name) (fs : List Field) (d : Field) (ds : List Field) (all : Option Broken) (s : Stop) → fs ≡ d ∷ ds → wrong_struct_fields hs space ms at names fs ≡ all → Stops (wrong_struct_field hs space ms at d) s → Stops all s
+struct_field_stops hs space ms at names fs d ds all s here same h =
+    subst (λ o. Stops o s) (ap (wrong_struct_fields hs space ms at names) (sym here) ∙ same) (stops_first _ _ s h)
+
+pub struct_name_stops : (hs : List HeadV) (space : SpaceV) (ms : List (Option Measure)) (at : ℕ) (names : List Name) (fs : List Field) (d : Field) (ds : List Field) (all : Option Broken) → fs ≡ d ∷ ds → wrong_struct_fields hs space ms at names fs ≡ all → wrong_struct_field hs space ms at d ≡ None → is_in names d.name.items ≡ true → Stops all (stop.Wrong problem.FieldNameTaken d.left)
+struct_name_stops hs space ms at names fs d ds all here same field used =
+    subst (λ o. Stops o (stop.Wrong problem.FieldNameTaken d.left)) (ap (wrong_struct_fields hs space ms at names) (sym here) ∙ same)
+    (stops_next _ _ (stop.Wrong problem.FieldNameTaken d.left) field (stops_now _ problem.FieldNameTaken d.left _ used))
+
+pub struct_fields_next : (hs : List HeadV) (space : SpaceV) (ms : List (Option Measure)) (at : ℕ) (names : List Name) (fs : List Field) (d : Field) (ds : List Field) (all : Option Broken) (at' : ℕ) (names' : List Name) → fs ≡ d ∷ ds → wrong_struct_fields hs space ms at names fs ≡ all → wrong_struct_field hs space ms at d ≡ None → is_in names d.name.items ≡ false → at' ≡ end_of at (field_measure hs space ms d) → names' ≡ names ++ d.name.items ∷ [] → wrong_struct_fields hs space ms at' names' ds ≡ all
+struct_fields_next hs space ms at names fs d ds all at' names' here same field new end named =
+    rw (end, named) (sym (skip (when (is_in names d.name.items) problem.FieldNameTaken d.left) _ (passes _ problem.FieldNameTaken d.left new))
+    ∙ sym (skip (wrong_struct_field hs space ms at d) _ field)
+    ∙ ap (wrong_struct_fields hs space ms at names) (sym here) ∙ same)
+
+pub end_next : (hs : List HeadV) (space : SpaceV) (ms : List (Option Measure)) (at : ℕ) (fs : List Field) (d : Field) (ds : List Field) (all at' : ℕ) → fs ≡ d ∷ ds → end_after hs space ms at fs ≡ all → at' ≡ end_of at (field_measure hs space ms d) → end_after hs space ms at' ds ≡ all
+end_next hs space ms at fs d ds all at' here same end = rw end (ap (end_after hs space ms at) (sym here) ∙ same)
+
+pub greatest_next : (hs : List HeadV) (space : SpaceV) (ms : List (Option Measure)) (n : ℕ) (fs : List Field) (d : Field) (ds : List Field) (all m n' : ℕ) → fs ≡ d ∷ ds → greatest_after hs space ms n fs ≡ all → n' ≡ max n m → m ≡ alignment_in (field_measure hs space ms d) → greatest_after hs space ms n' ds ≡ all
+greatest_next hs space ms n fs d ds all m n' here same e is = rw (e, is) (ap (greatest_after hs space ms n) (sym here) ∙ same)
+
+pub field_known : (hs : List HeadV) (space : SpaceV) (ms : List (Option Measure)) (at : ℕ) (f : Field) (b : Base) → wrong_plain hs space f ≡ None → type_named hs space (kind_of f.kind) ≡ Some (record { vector = false; base = b }) → wrong_struct_field hs space ms at f ≡ first (wrong_measure b f.left (measure_among ms b)) (when (not (nat_le (end_of at (measure_among ms b)) 65535)) problem.StructTooLarge f.left)
+field_known hs space ms at f b p t = skip (wrong_plain hs space f) _ p ∙ ap (wrong_type ms at f.left) t
+
+pub measure_known : (hs : List HeadV) (space : SpaceV) (ms : List (Option Measure)) (f : Field) (b : Base) (m : Measure) → type_named hs space (kind_of f.kind) ≡ Some (record { vector = false; base = b }) → measure_among ms b ≡ Some m → field_measure hs space ms f ≡ Some m
+measure_known hs space ms f b m t a = ap (measure_in_type ms) t ∙ a
+
+pub ends_within : (at end left : ℕ) (o : Option Measure) (m : Measure) → o ≡ Some m → end ≡ end_of at (Some m) → end ≤ 65535 → when (not (nat_le (end_of at o) 65535)) problem.StructTooLarge left ≡ None
+ends_within at end left o m e is h =
+    ap (λ x. when (not (nat_le (end_of at x) 65535)) problem.StructTooLarge left) e
+    ∙ ap (λ n. when (not (nat_le n 65535)) problem.StructTooLarge left) (sym is)
+    ∙ ap (λ b. when (not b) problem.StructTooLarge left) (le-leb end 65535 h)
+
+pub ends_after : (at end left : ℕ) (o : Option Measure) (m : Measure) → o ≡ Some m → end ≡ end_of at (Some m) → 65535 < end → when (not (nat_le (end_of at o) 65535)) problem.StructTooLarge left ≡ broken problem.StructTooLarge left
+ends_after at end left o m e is h =
+    ap (λ x. when (not (nat_le (end_of at x) 65535)) problem.StructTooLarge left) e
+    ∙ ap (λ n. when (not (nat_le n 65535)) problem.StructTooLarge left) (sym is)
+    ∙ ap (λ b. when (not b) problem.StructTooLarge left) (lt-leb end 65535 h)
+
+pub empty_is : (fs : List Field) → is_empty fs ≡ (length fs == 0)
+empty_is [] = refl
+empty_is (f ∷ fs) = grind (arith, nat_tests)

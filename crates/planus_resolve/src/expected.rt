@@ -1,0 +1,35 @@
+//! What stands at a place that names a type.
+
+ghost use Rattle.std.specs.Prelude.{◌≡◌};
+ghost use Rattle.planus_resolve.specs.Fitting.{fits as fits_lem};
+
+use planus_schema::Base;
+
+/// Which types may stand at a place.
+#[derive(Clone, Copy)]
+pub enum Expected {
+    /// Each: it is the type of a table's field.
+    AnyType,
+    /// Scalars, and enums and structs that are declared before the struct of this index: it is the
+    /// type of a struct's field.
+    InStruct { index: usize },
+    /// Tables: it is a root, a member of a union, or the request or the response of a method.
+    Table,
+}
+
+impl Expected {
+    /// Returns whether a type may stand there.
+    pub(crate) fn fits(self, base: Base) -> bool
+        ensures { result ≡ fits_lem self base }
+    {
+        match self {
+            Expected::AnyType => true,
+            Expected::InStruct { index } => match base {
+                Base::Scalar(_) => true,
+                Base::Enum(declared) | Base::Struct(declared) => declared < index,
+                _ => false,
+            },
+            Expected::Table => matches!(base, Base::Table(_)),
+        }
+    }
+}

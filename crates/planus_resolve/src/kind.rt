@@ -1,0 +1,116 @@
+//! The type that a name refers to.
+
+ghost use Rattle.std.specs.Prelude.{◌≡◌, map, IfOk, Some};
+ghost use Rattle.std.specs.Option.{option_map};
+ghost use Rattle.planus_syntax.specs.Values.{path_of, kind_of, item_of};
+ghost use Rattle.planus_resolve.specs.inner.Scopes.{scope_heads, scope_space};
+ghost use Rattle.planus_resolve.specs.Names.{used_as};
+ghost use Rattle.planus_resolve.specs.Names.{head_of, plain_base as plain_base_lem};
+ghost use Rattle.planus_resolve.specs.Names.{base_of_head};
+ghost use Rattle.planus_resolve.specs.Wrong.{Tells, wrong_base, wrong_kind, wrong_table};
+ghost use Rattle.planus_resolve.specs.Names.{base_as, type_named, item_at};
+
+use crate::expected::Expected;
+use crate::fault::{Problem, Stop, or_return, wrong};
+use crate::head::item_base;
+use crate::heads::Heads;
+use crate::lookup::{Wanted, found};
+use crate::scalar_names::scalar_named;
+use crate::scope::Scope;
+use planus_schema::{Base, FieldType};
+use planus_syntax::{Item, Kind, Path};
+use std::alloc::{AllocError, Global};
+
+pub(crate) fn plain_base(path: &Path) -> Option<Base>
+    ensures { result ≡ plain_base_lem (path_of path.now) }
+{
+    if !path.more.is_empty() {
+        return None;
+    }
+    if path.first.as_slice() == b"string".as_slice() {
+        return Some(Base::Text);
+    }
+    match scalar_named(&path.first) {
+        Some(scalar) => Some(Base::Scalar(scalar)),
+        None => None,
+    }
+}
+
+pub(crate) fn item_of_head<'b>(heads: &'b Heads, index: usize) -> Option<&'b Item>
+    ensures { option_map (λ i. item_of i.now) result ≡ item_at (map head_of heads.now) index }
+{
+    match heads.get(index) {
+        Some(head) => Some(&head.declaration.item),
+        None => None,
+    }
+}
+
+pub(crate) fn head_base(heads: &Heads, index: usize) -> Option<Base>
+    ensures { result ≡ base_of_head (item_at (map head_of heads.now) index) index }
+{
+    match item_of_head(heads, index) {
+        Some(item) => item_base(item, index),
+        None => None,
+    }
+}
+
+pub(crate) fn base_named(
+    scope: &Scope,
+    wanted: Wanted,
+    path: &Path,
+) -> Result<Option<Base>, AllocError>
+    ensures { IfOk result (λ o. o ≡ base_as (scope_heads scope.now) (used_as wanted)
+        (scope_space scope.now) (path_of path.now)) }
+{
+    if let Some(base) = plain_base(path) {
+        return Ok(Some(base));
+    }
+    match or_return!(found(scope, wanted, &path.first, &path.more)) {
+        Some(index) => Ok(head_base(scope.heads, index)),
+        None => Ok(None),
+    }
+}
+
+fn base_of(scope: &Scope, wanted: Wanted, path: &Path, expected: Expected) -> Result<Base, Stop>
+    ensures named { IfOk result (λ b. base_as (scope_heads scope.now) (used_as wanted)
+        (scope_space scope.now) (path_of path.now) ≡ Some b) }
+    ensures wrong { Tells (wrong_base expected (scope_heads scope.now) (used_as wanted)
+        (scope_space scope.now) path.now) result }
+{
+    match or_return!(base_named(scope, wanted, path), Stop::OutOfMemory) {
+        Some(base) => Ok(base),
+        None => Err(wrong(Problem::UnknownType(expected), path.left)),
+    }
+}
+
+pub(crate) fn type_of(scope: &Scope, kind: &Kind, expected: Expected) -> Result<FieldType, Stop>
+    ensures named { IfOk result (λ t. type_named (scope_heads scope.now)
+        (scope_space scope.now) (kind_of kind.now) ≡ Some t) }
+    ensures wrong { Tells (wrong_kind expected (scope_heads scope.now) (scope_space scope.now)
+        kind.now) result }
+{
+    let (vector, path) = match kind {
+        Kind::Single(path) => (false, path),
+        Kind::Vector(path) => (true, path),
+    };
+    let base = or_return!(base_of(scope, Wanted::AnyType, path, expected));
+    Ok(FieldType { vector, base })
+}
+
+pub(crate) fn table_at(
+    scope: &Scope,
+    wanted: Wanted,
+    path: &Path,
+    problem: Problem,
+) -> Result<usize, Stop>
+    ensures named { IfOk result (λ i. base_as (scope_heads scope.now) (used_as wanted)
+        (scope_space scope.now) (path_of path.now) ≡ Some (Base.Table i)) }
+    ensures wrong { Tells (wrong_table problem (scope_heads scope.now) (used_as wanted)
+        (scope_space scope.now) path.now) result }
+{
+    match base_of(scope, wanted, path, Expected::Table) {
+        Ok(Base::Table(index)) => Ok(index),
+        Ok(_) => Err(wrong(problem, path.left)),
+        Err(stop) => Err(stop),
+    }
+}

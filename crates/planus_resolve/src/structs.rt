@@ -1,0 +1,238 @@
+//! The places of a struct's fields.
+
+ghost use Rattle.std.specs.Prelude.{◌≡◌, ◌≤◌, ◌<◌, ◌+◌, true, false, map, IfOk, Some};
+ghost use Rattle.std.specs.Prelude.{[], codes, not};
+ghost use Rattle.std.specs.Option.{option_map};
+ghost use Rattle.planus_syntax.specs.Values.{field_of, attribute_of, literal_of};
+ghost use Rattle.planus_resolve.specs.inner.Read.{IsMeasureRead, IsStructFieldRead};
+ghost use Rattle.planus_resolve.specs.inner.Read.{IsLayoutRead, IsStructRead};
+ghost use Rattle.planus_resolve.specs.inner.Scopes.{scope_heads, scope_space, HasIntegers};
+ghost use Rattle.planus_resolve.specs.Names.{type_named, setting as setting_lem};
+ghost use Rattle.planus_schema.specs.Layouts.{is_alignment as is_alignment_lem};
+ghost use Rattle.planus_resolve.specs.Defaults.{value_of, some_default};
+ghost use Rattle.planus_resolve.specs.Structs.{is_plain, is_zero_said, is_zero_default};
+ghost use Rattle.planus_resolve.specs.Structs.{alignment_said, natural_of, number_in};
+ghost use Rattle.planus_schema.specs.Numbers.{integer_said};
+ghost use Rattle.planus_resolve.specs.Names.{attribute_named};
+ghost use Rattle.planus_resolve.specs.Wrong.{Tells, when};
+ghost use Rattle.planus_resolve.specs.WrongStructs.{wrong_plain, wrong_measure, wrong_struct};
+ghost use Rattle.planus_resolve.specs.WrongStructs.{wrong_struct_field, wrong_struct_fields};
+ghost use Rattle.planus_resolve.specs.WrongStructs.{measure_among, measures_of};
+ghost use Rattle.planus_resolve.specs.WrongStructs.{wrong_alignment};
+
+use crate::attributes::{has, setting};
+use crate::defaults::literal_default;
+use crate::expected::Expected;
+use crate::fault::{Problem, Stop, or_return, wrong};
+use crate::kind::type_of;
+use crate::names::{copied, take_key};
+use crate::scope::Scope;
+use planus_schema::{
+    Base, Declared, FieldType, Layout, Measure, Struct, StructField, Value, greater, integer,
+    is_alignment, measure_of, next_multiple,
+};
+use planus_syntax::{Attribute, Field, Literal, Record, between_quotes, is_number};
+use std::collections::BTreeMap;
+
+fn is_zero(value: &Option<Value>) -> bool
+    ensures { result ≡ is_zero_said (some_default (option_map value_of value.now)) }
+{
+    match value {
+        Some(Value::Integer(number)) => number.magnitude == 0,
+        Some(Value::Float(word)) => word.as_slice() == b"0".as_slice(),
+        _ => false,
+    }
+}
+
+fn check_zero(
+    scope: &Scope,
+    kind: FieldType,
+    literal: &Option<Literal>,
+    left: usize,
+) -> Result<(), Stop>
+    requires { HasIntegers scope.now }
+    ensures zero { IfOk result (λ _. is_zero_default (scope_heads scope.now) kind
+        (option_map literal_of literal.now) ≡ true) }
+    ensures wrong { Tells (when (not (is_zero_default (scope_heads scope.now) kind
+        (option_map literal_of literal.now))) Problem.DefaultInStruct left) result }
+{
+    let literal = match literal {
+        Some(literal) => literal,
+        None => return Ok(()),
+    };
+    let value = or_return!(
+        literal_default(scope.alloc, scope.heads, scope.integers, kind, literal),
+        Stop::OutOfMemory
+    );
+    if is_zero(&value) {
+        Ok(())
+    } else {
+        Err(wrong(Problem::DefaultInStruct, left))
+    }
+}
+
+fn base_in_struct(scope: &Scope, field: &Field) -> Result<Base, Stop>
+    requires { HasIntegers scope.now }
+    ensures kind { IfOk result (λ b. type_named (scope_heads scope.now) (scope_space scope.now)
+        (field_of field.now).kind ≡ Some (record { vector = false; base = b })) }
+    ensures plain { IfOk result (λ _. is_plain (field_of field.now) ≡ true) }
+    ensures zero { IfOk result (λ b. is_zero_default (scope_heads scope.now)
+        (record { vector = false; base = b }) (field_of field.now).default ≡ true) }
+    ensures wrong { Tells (wrong_plain (scope_heads scope.now) (scope_space scope.now) field.now)
+        result }
+{
+    if has(&field.attributes, b"required") || has(&field.attributes, b"deprecated") {
+        return Err(wrong(Problem::AttributeInStruct, field.left));
+    }
+    let expected = Expected::InStruct {
+        index: scope.begun.saturating_sub(1),
+    };
+    let kind = or_return!(type_of(scope, &field.kind, expected));
+    if kind.vector {
+        return Err(wrong(Problem::NoStructField, field.left));
+    }
+    or_return!(check_zero(scope, kind, &field.default, field.left));
+    Ok(kind.base)
+}
+
+#[tactic(auto, using(crate::proofs::MeasureLemmas::among))]
+fn measure_in_struct(bodies: &[Declared], base: Base, left: usize) -> Result<Measure, Stop>
+    ensures read { IfOk result (λ m. IsMeasureRead bodies.now base m) }
+    ensures wrong { Tells (wrong_measure base left (measure_among (measures_of bodies.now) base))
+        result }
+{
+    match measure_of(bodies, base) {
+        Some(measure)
+            if 0 < measure.alignment && measure.alignment <= 32 && measure.size <= 65535 => {
+            Ok(measure)
+        }
+        Some(_) => Err(wrong(Problem::StructTooLarge, left)),
+        None => match base {
+            Base::Enum(_) | Base::Struct(_) => Err(wrong(Problem::DeclaredLater, left)),
+            _ => Err(wrong(Problem::NoStructField, left)),
+        },
+    }
+}
+
+fn struct_field(
+    scope: &Scope,
+    bodies: &[Declared],
+    field: &Field,
+    at: usize,
+) -> Result<StructField, Stop>
+    requires at { at ≤ 65535 }
+    requires integers { HasIntegers scope.now }
+    ensures read { IfOk result (λ f. IsStructFieldRead (scope_heads scope.now)
+        (scope_space scope.now) bodies.now at field.now f) }
+    ensures wrong { Tells (wrong_struct_field (scope_heads scope.now) (scope_space scope.now)
+        (measures_of bodies.now) at field.now) result }
+{
+    let base = or_return!(base_in_struct(scope, field));
+    let measure = or_return!(measure_in_struct(bodies, base, field.left));
+    let distance = next_multiple(at, measure.alignment);
+    if distance + measure.size > 65535 {
+        return Err(wrong(Problem::StructTooLarge, field.left));
+    }
+    let name = or_return!(Vec::from_slice(scope.alloc, &field.name), Stop::OutOfMemory);
+    let docs = or_return!(copied(scope.alloc, &field.docs), Stop::OutOfMemory);
+    Ok(StructField {
+        name,
+        docs,
+        base,
+        distance,
+        size: measure.size,
+        alignment: measure.alignment,
+    })
+}
+
+fn struct_fields(scope: &Scope, bodies: &[Declared], declared: &[Field]) -> Result<Layout, Stop>
+    requires { HasIntegers scope.now }
+    ensures read { IfOk result (λ l. IsLayoutRead (scope_heads scope.now) (scope_space scope.now)
+        bodies.now declared.now l) }
+    ensures wrong { Tells (wrong_struct_fields (scope_heads scope.now) (scope_space scope.now)
+        (measures_of bodies.now) 0 [] declared.now) result }
+{
+    let mut fields = Vec::new(scope.alloc);
+    let mut names = BTreeMap::new(scope.alloc);
+    let mut end = 0;
+    let mut alignment = 1;
+    'fields: for declaration in declared {
+        let field = or_return!(struct_field(scope, bodies, declaration, end));
+        let new = or_return!(take_key(&mut names, &declaration.name), Stop::OutOfMemory);
+        if !new {
+            return Err(wrong(Problem::FieldNameTaken, declaration.left));
+        }
+        end = field.distance + field.size;
+        alignment = greater(alignment, field.alignment);
+        fields.push(field)?;
+    }
+    Ok(Layout {
+        fields,
+        end,
+        alignment,
+    })
+}
+
+fn natural(digits: &[u8]) -> Option<u64>
+    ensures { result ≡ natural_of (integer_said digits.now) }
+{
+    match integer(digits) {
+        Some(number) if !number.negative => Some(number.magnitude),
+        _ => None,
+    }
+}
+
+pub(crate) fn setting_number(attribute: &Attribute) -> Option<u64>
+    ensures { result ≡ number_in (attribute_of attribute.now).value }
+{
+    match &attribute.value {
+        Some(Literal::Number(digits)) => natural(digits),
+        Some(Literal::Text(string)) => {
+            let text = between_quotes(string);
+            if is_number(text) { natural(text) } else { None }
+        }
+        _ => None,
+    }
+}
+
+fn alignment_of(attributes: &[Attribute], greatest: usize, left: usize) -> Result<usize, Stop>
+    ensures said { IfOk result (λ n. alignment_said
+        (setting_lem (codes "force_align") (map attribute_of attributes.now)) greatest ≡ Some n) }
+    ensures aligned { IfOk result (λ n. is_alignment_lem n ≡ true) }
+    ensures greatest { IfOk result (λ n. greatest ≤ n) }
+    ensures wrong { Tells (wrong_alignment greatest left
+        (attribute_named (codes "force_align") attributes.now)) result }
+{
+    let (alignment, at) = match setting(attributes, b"force_align") {
+        Some(attribute) => match setting_number(attribute) {
+            Some(number) if number <= 32 => (number as usize, attribute.label.left),
+            _ => return Err(wrong(Problem::WrongAlignment, attribute.label.left)),
+        },
+        None => (greatest, left),
+    };
+    if is_alignment(alignment) && greatest <= alignment {
+        Ok(alignment)
+    } else {
+        Err(wrong(Problem::WrongAlignment, at))
+    }
+}
+
+pub(crate) fn struct_of(
+    scope: &Scope,
+    bodies: &[Declared],
+    declared: &Record,
+    left: usize,
+) -> Result<Struct, Stop>
+    requires { HasIntegers scope.now }
+    ensures read { IfOk result (λ s. IsStructRead (scope_heads scope.now) (scope_space scope.now)
+        bodies.now declared.now s) }
+    ensures wrong { Tells (wrong_struct (scope_heads scope.now) (scope_space scope.now)
+        (measures_of bodies.now) declared.now left) result }
+{
+    if declared.fields.is_empty() {
+        return Err(wrong(Problem::EmptyStruct, left));
+    }
+    let layout = or_return!(struct_fields(scope, bodies, &declared.fields));
+    let alignment = or_return!(alignment_of(&declared.attributes, layout.alignment, left));
+    Ok(layout.finished(alignment))
+}

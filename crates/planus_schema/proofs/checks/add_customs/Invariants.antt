@@ -1,8 +1,0 @@
-use Rattle.std.proofs.Common.{◌≡◌, ◌++◌, drop}
-use Rattle.planus_syntax.specs.Values.{names_of}
-use Rattle.planus_schema.specs.WrongServices.{customs_in}
-use Rattle.planus_schema.proofs.checks.add_customs.Given as goal
-
-abbrev pub invariant-declarations : goal.invariant-declarations
-invariant-declarations l = names_of l.known.items ++ customs_in (drop l.declaration-index l.declarations)
-    ≡ names_of l.fn.known.items ++ customs_in l.declarations

@@ -1,7 +1,0 @@
-use Rattle.std.proofs.Common.{◌≡◌, drop}
-use Rattle.planus_schema.specs.WrongServices.{wrong_in_fields}
-use Rattle.planus_schema.proofs.checks.check_fields.Given as goal
-
-abbrev pub invariant-fields : goal.invariant-fields
-invariant-fields l = wrong_in_fields l.known (drop l.field-index l.fields)
-    ≡ wrong_in_fields l.known l.fields

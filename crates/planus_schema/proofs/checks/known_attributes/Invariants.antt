@@ -1,8 +1,0 @@
-use Rattle.std.proofs.Common.{◌≡◌, ◌++◌, drop}
-use Rattle.planus_syntax.specs.Values.{names_of}
-use Rattle.planus_schema.specs.WrongServices.{customs_of, known_attributes}
-use Rattle.planus_schema.proofs.checks.known_attributes.Given as goal
-
-abbrev pub invariant-files : goal.invariant-files
-invariant-files l = names_of l.known.items ++ customs_of (drop l.declarations-index l.files)
-    ≡ known_attributes l.files

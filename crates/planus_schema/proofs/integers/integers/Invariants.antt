@@ -1,9 +1,0 @@
-use Rattle.std.proofs.Common.{◌≡◌, map, drop}
-use Rattle.planus_schema.specs.Names.{head_of}
-use Rattle.planus_schema.specs.Enums.{integers_from, integers_of}
-use Rattle.planus_schema.proofs.integers.integers.Given as goal
-
-abbrev pub invariant-heads : goal.invariant-heads
-invariant-heads l =
-    integers_from (map head_of l.heads) l.integers.items (map head_of (drop l.head-index l.heads))
-    ≡ integers_of (map head_of l.heads)
