@@ -257,7 +257,7 @@ def deprecate_required(schema):
 def rename_field(schema):
     _, field = pick(schema, lambda f: True)
     old, field.name = field.name, "renamed"
-    return Change("", renamed={"renamed": old})
+    return Change("", renamed={"renamed": old, "renamed_type": f"{old}_type"})
 
 
 def another_scalar(schema):
