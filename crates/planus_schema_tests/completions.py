@@ -47,7 +47,7 @@ def differences(program):
     script = said(program, "completions", "bash")
     rows = re.findall(r"^ +(\w+)\) options='(.*?)' arguments='(.*?)' ;;$", script, re.M)
     usage = re.findall(r"^(?:usage:|      ) planus (\w+)", said(program, "help"), re.M)
-    yield "commands", sorted(usage), sorted(name for name, _, _ in rows)
+    yield "commands", sorted(set(usage)), sorted(name for name, _, _ in rows)
     for name, options, _ in rows:
         if name != "help":
             named = set(OPTION.findall(OTHER.sub("", said(program, "help", name))))

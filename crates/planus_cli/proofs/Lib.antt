@@ -14,3 +14,4 @@ mod Led
 pub mod Listed
 mod Rows
 pub mod Conformed
+pub mod ConformedEach

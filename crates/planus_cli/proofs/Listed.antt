@@ -49,7 +49,7 @@ options_listed View w = simp some_of (move5 (bytes_eq w (codes "-I")) (bytes_eq 
     (bytes_eq w (codes "--help")) (bytes_eq w (codes "-h")))
 options_listed RattleCommand w = simp some_of (move4 (bytes_eq w (codes "-I")) (bytes_eq w (codes "-o")) (bytes_eq w (codes "--check")) (bytes_eq w (codes "--no-verified")) (bytes_eq w (codes "--help")) (bytes_eq w (codes "-h")))
 options_listed Dot w = simp some_of (move1 (bytes_eq w (codes "-I")) (bytes_eq w (codes "--help")) (bytes_eq w (codes "-h")))
-options_listed Conform w = simp some_of (move4 (bytes_eq w (codes "-I")) (bytes_eq w (codes "--backward")) (bytes_eq w (codes "--forward")) (bytes_eq w (codes "--rename")) (bytes_eq w (codes "--help")) (bytes_eq w (codes "-h")))
+options_listed Conform w = simp some_of (move5 (bytes_eq w (codes "-I")) (bytes_eq w (codes "--backward")) (bytes_eq w (codes "--forward")) (bytes_eq w (codes "--rename")) (bytes_eq w (codes "--against")) (bytes_eq w (codes "--help")) (bytes_eq w (codes "-h")))
 options_listed Completions w = simp some_of (move0 (bytes_eq w (codes "--help")) (bytes_eq w (codes "-h")))
 
 last7 : (a b c d e f g h : Bool) → (a || (b || (c || (d || (e || (f || (g || (h || false)))))))) ≡ ((a || (b || (c || (d || (e || (f || (g || false))))))) || h)

@@ -19,7 +19,7 @@ use Rattle.planus_cli.specs.declared.arguments.Choice.TheVariants.{Root, SizePre
 use Rattle.planus_cli.specs.declared.arguments.Choice.TheVariants.{Bytes, Output}
 use Rattle.planus_cli.specs.declared.arguments.Choice.TheVariants.{Check as CheckChoice}
 use Rattle.planus_cli.specs.declared.arguments.Choice.TheVariants.{NoVerified, Backward, Forward}
-use Rattle.planus_cli.specs.declared.arguments.Choice.TheVariants.{Rename}
+use Rattle.planus_cli.specs.declared.arguments.Choice.TheVariants.{Rename, Against}
 use Rattle.planus_cli.specs.declared.arguments.Choice.TheVariants.{Help as HelpChoice}
 use Rattle.planus_cli.specs.declared.arguments.Joined.{Joined}
 use Rattle.planus_cli.specs.declared.arguments.Words.{Words}
@@ -40,6 +40,7 @@ pub record WordsV : Type 0 where
   pub backward : Bool
   pub forward : Bool
   pub renames : List (List ℕ)
+  pub against : Option (List ℕ)
   pub help : Bool
   pub only_files : Bool
   pub wants : Option Choice
@@ -60,6 +61,7 @@ no_words = record {
   backward = false;
   forward = false;
   renames = [];
+  against = None;
   help = false;
   only_files = false;
   wants = None;
@@ -81,6 +83,7 @@ words_of w = record {
   backward = w.backward;
   forward = w.forward;
   renames = map (λ s. s.now) w.renames.items;
+  against = option_map (λ s. s.now) w.against;
   help = w.help;
   only_files = w.only_files;
   wants = w.wants;
@@ -108,7 +111,8 @@ abbrev pub conform_option : List ℕ → Option Choice
 conform_option w = if bytes_eq w (codes "-I") then Some Folder
     else if bytes_eq w (codes "--backward") then Some Backward
     else if bytes_eq w (codes "--forward") then Some Forward
-    else if bytes_eq w (codes "--rename") then Some Rename else None
+    else if bytes_eq w (codes "--rename") then Some Rename
+    else if bytes_eq w (codes "--against") then Some Against else None
 
 -- `--help`, or `-h`
 abbrev pub is_help : List ℕ → Bool
@@ -155,7 +159,7 @@ joined_in View w = option_or (joined_by Folder (codes "-I") w)
 joined_in RattleCommand w = option_or (joined_by Folder (codes "-I") w)
     (joined_by Output (codes "-o") w)
 joined_in Conform w = option_or (joined_by Folder (codes "-I") w)
-    (joined_by Rename (codes "--rename=") w)
+    (option_or (joined_by Rename (codes "--rename=") w) (joined_by Against (codes "--against=") w))
 
 abbrev pub or_first : Option (List ℕ) → List ℕ → Option (List ℕ)
 or_first None w = Some w
@@ -168,6 +172,7 @@ with_choice ws Lines = record ws { wants = Some Lines }
 with_choice ws Bytes = record ws { wants = Some Bytes }
 with_choice ws Output = record ws { wants = Some Output }
 with_choice ws Rename = record ws { wants = Some Rename }
+with_choice ws Against = record ws { wants = Some Against }
 with_choice ws Backward = record ws { backward = true }
 with_choice ws Forward = record ws { forward = true }
 with_choice ws SizePrefixed = record ws { size_prefixed = true }
@@ -184,6 +189,7 @@ with_value ws Lines w = record ws { lines = Some w }
 with_value ws Bytes w = record ws { bytes = Some w }
 with_value ws Output w = record ws { output = Some w }
 with_value ws Rename w = record ws { renames = ws.renames ++ w ∷ [] }
+with_value ws Against w = record ws { against = Some w }
 with_value ws Write w = ws
 with_value ws SizePrefixed w = ws
 with_value ws CheckChoice w = ws
@@ -229,7 +235,8 @@ empty_choice ws = if list_any is_empty_word ws.folders then Some Folder
     else if is_empty_value ws.root then Some Root
     else if is_empty_value ws.lines then Some Lines
     else if is_empty_value ws.bytes then Some Bytes
-    else if is_empty_value ws.output then Some Output else None
+    else if is_empty_value ws.output then Some Output
+    else if is_empty_value ws.against then Some Against else None
 
 abbrev pub is_equals : ℕ → Bool
 is_equals b = b == 61
@@ -355,9 +362,14 @@ abbrev pub run_renamed : Option (List ℕ) → WordsV → Asked
 run_renamed None ws = run Conform ws
 run_renamed (Some w) ws = no_rename w
 
--- `conform` needs two schemas, looks in one direction or both, and renames one name to another
+abbrev pub is_absent : Option (List ℕ) → Bool
+is_absent None = true
+is_absent (Some w) = false
+
+-- `conform` needs two schemas, or a folder; it looks in one direction or both, and renames one name
+-- to another
 abbrev pub conform_request : WordsV → Asked
-conform_request ws = if not (length ws.files == 2) then no_pair
+conform_request ws = if is_absent ws.against && not (length ws.files == 2) then no_pair
     else if ws.backward && ws.forward then backward_and_forward
     else run_renamed (wrong_rename ws.renames) ws
 

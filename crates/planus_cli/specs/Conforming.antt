@@ -1,6 +1,6 @@
 -- What `conform` reports of two schemas.
 use Rattle.std.specs.Prelude.{◌≡◌, ◌⊎◌, ℕ, Bool, true, false, List, [], ◌∷◌, ◌++◌}
-use Rattle.std.specs.Prelude.{slice_get, Option, Some, None}
+use Rattle.std.specs.Prelude.{slice_get, max, Option, Some, None}
 use Rattle.std.specs.String.{string_bytes}
 use Rattle.std.specs.Io.KnownBytes.{Appends}
 use Rattle.planus_schema.specs.declared.schema.Schema.{Schema}
@@ -17,7 +17,7 @@ use Rattle.planus_cli.specs.declared.spots.Spot.{Spot}
 use Rattle.planus_cli.specs.Arguments.{WordsV, before_equals, after_equals}
 use Rattle.planus_cli.specs.Changes.{before_text, change_text}
 use Rattle.planus_cli.specs.Checks.{Joins}
-use Rattle.planus_cli.specs.Including.{file_named}
+use Rattle.planus_cli.specs.Including.{file_named, file_in, last_part}
 use Rattle.planus_cli.specs.Loading.{Places}
 use Rattle.planus_cli.specs.Outcomes.{ReportsAt}
 use Rattle.planus_cli.specs.Sources.{HasNoSchema, HasMeaning}
@@ -135,8 +135,34 @@ ConformsPair places words old new status unsaid said =
     ⊎ ConformsFrom places words (file_named old) new status unsaid said
 
 -- `conform` has an old schema and a new one
-abbrev pub ConformsFiles : Places → WordsV → List (List ℕ) → ℕ → Option (List ℕ)
+abbrev pub ConformsTwo : Places → WordsV → List (List ℕ) → ℕ → Option (List ℕ)
     → Option (List ℕ) → Type 0
-ConformsFiles places words (old ∷ new ∷ []) status unsaid said =
+ConformsTwo places words (old ∷ new ∷ []) status unsaid said =
     ConformsPair places words old new status unsaid said
-ConformsFiles places words other status unsaid said = status ≡ 2
+ConformsTwo places words other status unsaid said = status ≡ 2
+
+-- what `conform --against` says of a schema: the old one is the file of its name in a folder
+abbrev pub ConformsAgainst : Places → WordsV → List ℕ → List ℕ → ℕ → Option (List ℕ)
+    → Option (List ℕ) → Type 0
+ConformsAgainst places words folder word status unsaid said =
+    ConformsPair places words (file_in folder (last_part word)) word status unsaid said
+
+-- One schema after the other. The worst status before stays.
+abbrev pub ConformsEach : (List ℕ → ℕ → Option (List ℕ) → Option (List ℕ) → Type 0)
+    → List (List ℕ) → ℕ → ℕ → Option (List ℕ) → Option (List ℕ) → Type 0
+ConformsEach One [] worst status unsaid said = (status ≡ worst) × (said ≡ unsaid)
+ConformsEach One (word ∷ words) worst status unsaid said =
+    (one : ℕ) × (told : Option (List ℕ)) × One word one unsaid told
+    × ConformsEach One words (max worst one) status told said
+
+-- `conform` has an old schema and a new one, or schemas and the folder of the old ones
+abbrev pub ConformsIn : Option (List ℕ) → Places → WordsV → ℕ → Option (List ℕ)
+    → Option (List ℕ) → Type 0
+ConformsIn None places words status unsaid said =
+    ConformsTwo places words words.files status unsaid said
+ConformsIn (Some folder) places words status unsaid said =
+    ConformsEach (ConformsAgainst places words folder) words.files 0 status unsaid said
+
+abbrev pub ConformsFiles : Places → WordsV → ℕ → Option (List ℕ) → Option (List ℕ) → Type 0
+ConformsFiles places words status unsaid said =
+    ConformsIn words.against places words status unsaid said

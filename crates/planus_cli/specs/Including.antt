@@ -1,6 +1,6 @@
 -- Which file an `include` names.
-use Rattle.std.specs.Prelude.{◌≡◌, ◌⊎◌, ℕ, ◌==◌, ◌&&◌, ◌||◌, not, Bool, true, false, List, [], ◌∷◌, ◌++◌}
-use Rattle.std.specs.Prelude.{map, fold, reverse, take, length, codes, nat_eq, Option, Some, None}
+use Rattle.std.specs.Prelude.{◌≡◌, ◌⊎◌, ℕ, ◌+◌, ◌==◌, ◌&&◌, ◌||◌, not, Bool, true, false, List, [], ◌∷◌, ◌++◌}
+use Rattle.std.specs.Prelude.{map, fold, reverse, take, drop, length, codes, nat_eq, Option, Some, None}
 use Rattle.std.specs.Prelude.{if◌then◌else◌}
 use Rattle.std.specs.List.{slice_split, join_by, starts_with}
 use Rattle.std.specs.Path.{rfind_below}
@@ -52,6 +52,14 @@ file_at (Some length) name path = file_in (take length name) path
 -- the file in the folder of another one
 abbrev pub file_beside : List ℕ → List ℕ → List ℕ
 file_beside name path = file_at (rfind_below 47 name (length name)) name path
+
+abbrev pub part_from : Option ℕ → List ℕ → List ℕ
+part_from None path = path
+part_from (Some length) path = drop (length + 1) path
+
+-- what follows the last slash of a path, or all
+abbrev pub last_part : List ℕ → List ℕ
+last_part path = part_from (rfind_below 47 path (length path)) path
 
 -- The first of these names under which there is a file.
 abbrev pub IsFirstThere : (List ℕ → Bool → Type 0) → List (List ℕ) → Option (List ℕ) → Type 0

@@ -87,7 +87,7 @@ RunsCommand disk Format words status before after unsaid said =
 RunsCommand disk Dot words status before after unsaid said =
     DrawsFiles (places_in disk words) words.files status before after unsaid said
 RunsCommand disk Conform words status before after unsaid said = (after ≡ before)
-    × ConformsFiles (places_in disk words) words words.files status unsaid said
+    × ConformsFiles (places_in disk words) words status unsaid said
 RunsCommand disk Completions words status before after unsaid said = status ≡ 2
 
 -- what a call does with the files that it names

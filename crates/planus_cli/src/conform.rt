@@ -10,7 +10,8 @@ ghost use Rattle.planus_cli.specs.Conforming.{ReportBreaks, text_of as text_of_l
 ghost use Rattle.planus_cli.specs.Spots.{spot_of_word as spot_of_word_lem};
 ghost use Rattle.planus_cli.specs.Conforming.{way_by as way_by_lem};
 ghost use Rattle.planus_cli.specs.Conforming.{IsRenameOf, AreRenamesOf, Compares};
-ghost use Rattle.planus_cli.specs.Conforming.{ConformsTo, ConformsPair, ConformsFiles};
+ghost use Rattle.planus_cli.specs.Conforming.{ConformsTo, ConformsPair, ConformsTwo};
+ghost use Rattle.planus_cli.specs.Conforming.{ConformsAgainst, ConformsEach, ConformsFiles};
 ghost use Rattle.planus_cli.specs.Loading.{places_of};
 ghost use Rattle.planus_cli.specs.Outcomes.{HasTokens};
 
@@ -18,6 +19,7 @@ use crate::arguments::{Words, after_equals, before_equals};
 use crate::changes::{BEFORE, change_text};
 use crate::check::File;
 use crate::files::Files;
+use crate::include::{file_in, last_part};
 use crate::meaning::Meaning;
 use crate::parts::{Word, is_needed, new_word, old_word, subject};
 use crate::placed::placed_report;
@@ -294,14 +296,51 @@ fn conform_pair<F: Files, X: Write>(
     }
 }
 
-/// Reports what breaks where the second of two schemas replaces the first. Returns the exit status.
-pub fn conform<F: Files, X: Write>(
+/// Compares a schema with the file of its name in a folder. Returns the exit status.
+fn conform_against<F: Files, X: Write>(
+    files: &F,
+    alloc: Global,
+    words: &Words<'_>,
+    folder: &str,
+    word: &str,
+    errors: &mut X,
+) -> Result<u8, RunError>
+    ensures { IfOk result (λ status. ConformsAgainst
+        (places_of (F.disk files.now) words.now.folders.items) (words_of words.now) folder.now
+        word.now status (X.contents errors.old) (X.contents errors.new)) }
+{
+    let old = file_in(alloc, folder, last_part(word))?;
+    conform_pair(files, alloc, words, old.as_str(), word, errors)
+}
+
+/// Compares each schema with the file of its name in a folder. Returns the worst exit status.
+fn conform_each<F: Files, X: Write>(
+    files: &F,
+    alloc: Global,
+    words: &Words<'_>,
+    folder: &str,
+    errors: &mut X,
+) -> Result<u8, RunError>
+    ensures { IfOk result (λ status. ConformsEach (ConformsAgainst
+        (places_of (F.disk files.now) words.now.folders.items) (words_of words.now) folder.now)
+        (words_of words.now).files 0 status (X.contents errors.old) (X.contents errors.new)) }
+{
+    let mut worst = CLEAN;
+    'words: for word in &words.files {
+        let status = conform_against(files, alloc, words, folder, *word, errors)?;
+        worst = worst.max(status);
+    }
+    Ok(worst)
+}
+
+/// Compares two schemas. Returns the exit status.
+fn conform_two<F: Files, X: Write>(
     files: &F,
     alloc: Global,
     words: &Words<'_>,
     errors: &mut X,
 ) -> Result<u8, RunError>
-    ensures { IfOk result (λ status. ConformsFiles
+    ensures { IfOk result (λ status. ConformsTwo
         (places_of (F.disk files.now) words.now.folders.items) (words_of words.now)
         (words_of words.now).files status
         (X.contents errors.old) (X.contents errors.new)) }
@@ -309,5 +348,23 @@ pub fn conform<F: Files, X: Write>(
     match words.files.as_slice() {
         [old, new] => conform_pair(files, alloc, words, *old, *new, errors),
         _ => Ok(FAILED),
+    }
+}
+
+/// Reports what breaks where the second of two schemas replaces the first, or where each replaces the
+/// file of its name in a folder. Returns the exit status.
+pub fn conform<F: Files, X: Write>(
+    files: &F,
+    alloc: Global,
+    words: &Words<'_>,
+    errors: &mut X,
+) -> Result<u8, RunError>
+    ensures { IfOk result (λ status. ConformsFiles
+        (places_of (F.disk files.now) words.now.folders.items) (words_of words.now) status
+        (X.contents errors.old) (X.contents errors.new)) }
+{
+    match words.against {
+        Some(folder) => conform_each(files, alloc, words, folder, errors),
+        None => conform_two(files, alloc, words, errors),
     }
 }

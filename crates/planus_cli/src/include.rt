@@ -1,6 +1,6 @@
 //! Names of included files.
 
-ghost use Rattle.std.specs.Prelude.{◌≡◌, map, reverse, length, IfOk, OnOk, IfSome};
+ghost use Rattle.std.specs.Prelude.{◌≡◌, ◌+◌, map, reverse, length, IfOk, OnOk, IfSome};
 ghost use Rattle.std.specs.Str.{IsCharBoundary};
 ghost use Rattle.std.specs.Path.{rfind_below};
 ghost use Rattle.std.specs.String.{string_bytes};
@@ -8,6 +8,7 @@ ghost use Rattle.planus_cli.specs.Including.{entered, walked, named as named_lem
 ghost use Rattle.planus_cli.specs.Including.{stays as stays_lem, leaves as leaves_lem};
 ghost use Rattle.planus_cli.specs.Including.{normal as normal_lem, file_in as file_in_lem};
 ghost use Rattle.planus_cli.specs.Including.{file_beside as file_beside_lem};
+ghost use Rattle.planus_cli.specs.Including.{last_part as last_part_lem};
 
 use std::alloc::{AllocError, Global};
 
@@ -87,6 +88,7 @@ pub fn file_in(alloc: Global, folder: &str, path: &str) -> Result<String, AllocE
 fn folder_length(name: &str) -> Option<usize>
     ensures found { result ≡ rfind_below 47 name.now (length name.now) }
     ensures boundary { IfSome result (λ n. IsCharBoundary name.now n) }
+    ensures behind { IfSome result (λ n. IsCharBoundary name.now (n + 1)) }
 {
     let bytes = name.as_bytes();
     let mut n = bytes.len();
@@ -97,6 +99,16 @@ fn folder_length(name: &str) -> Option<usize>
         }
     }
     None
+}
+
+/// Returns the last part of a path.
+pub fn last_part(path: &str) -> &str
+    ensures { result.now ≡ last_part_lem path.now }
+{
+    match folder_length(path) {
+        Some(length) => &path[length + 1..],
+        None => path,
+    }
 }
 
 /// Returns the name of a file beside another one.

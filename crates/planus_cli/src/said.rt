@@ -39,6 +39,7 @@ usage: planus check [-I FOLDER].. SCHEMA..
        planus rattle [--check] [--no-verified] [-I FOLDER].. SCHEMA -o FOLDER
        planus dot [-I FOLDER].. SCHEMA
        planus conform [OPTION].. OLD NEW
+       planus conform [OPTION].. --against FOLDER SCHEMA..
        planus completions bash|zsh|fish
        planus help [COMMAND], planus [COMMAND] --help, planus --version
 
@@ -114,13 +115,15 @@ Ends with 0 where the graph is printed, with 1 where the schema has a fault, and
 2 where the call is wrong or a file can't be read.
 ";
 
-const USAGE_OF_CONFORM: &str =
-    "usage: planus conform [--backward | --forward] [--rename OLD=NEW].. [-I FOLDER].. OLD NEW\n";
+const USAGE_OF_CONFORM: &str = "usage: planus conform [OPTION].. OLD NEW
+       planus conform [OPTION].. --against FOLDER SCHEMA..
+";
 
 const DETAILS_OF_CONFORM: &str = "
 Says on standard error what breaks where the schema NEW replaces OLD, or nothing: each
 change by which code of one reads data of the other otherwise, and what to do instead.
 
+  --against FOLDER  SCHEMA is NEW, and OLD the file of its name in this folder
   --backward        only what breaks new code that reads old data
   --forward         only what breaks old code that reads new data
   --rename OLD=NEW  what is OLD in the old schema is NEW in the new one
@@ -151,7 +154,7 @@ const SEVERAL_SCHEMAS: &str = "planus: rattle has one schema\n";
 
 const SEVERAL_FOR_DOT: &str = "planus: dot has one schema\n";
 
-const NO_PAIR: &str = "planus: conform has an old schema and a new one\n";
+const NO_PAIR: &str = "planus: conform has an old schema and a new one, or --against\n";
 
 const BACKWARD_AND_FORWARD: &str = "planus: conform has --backward or --forward, and not both\n";
 
@@ -228,7 +231,17 @@ pub(crate) fn option_words(command: Command) -> &'static [&'static str]
         }
         Command::Rattle => &["-I", "-o", "--check", "--no-verified", "--help", "-h"],
         Command::Dot => &["-I", "--help", "-h"],
-        Command::Conform => { &["-I", "--backward", "--forward", "--rename", "--help", "-h"] }
+        Command::Conform => {
+            &[
+                "-I",
+                "--backward",
+                "--forward",
+                "--rename",
+                "--against",
+                "--help",
+                "-h",
+            ]
+        }
         Command::Completions => &["--help", "-h"],
     }
 }
@@ -293,6 +306,7 @@ fn no_value(choice: Choice) -> &'static str
         Choice::Bytes => "planus: no number follows --bytes\n",
         Choice::Output => "planus: no folder follows -o\n",
         Choice::Rename => "planus: no names follow --rename\n",
+        Choice::Against => "planus: no folder follows --against\n",
         _ => "planus: no folder follows -I\n",
     }
 }
@@ -305,6 +319,7 @@ fn empty_value(choice: Choice) -> &'static str
         Choice::Lines => "planus: the number of --lines is empty\n",
         Choice::Bytes => "planus: the number of --bytes is empty\n",
         Choice::Output => "planus: the folder of -o is empty\n",
+        Choice::Against => "planus: the folder of --against is empty\n",
         _ => "planus: the folder of -I is empty\n",
     }
 }

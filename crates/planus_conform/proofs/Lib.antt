@@ -2,3 +2,4 @@ pub mod Parts
 pub mod Alike
 pub mod Witnesses
 pub mod AsRead
+pub mod NoBreaks

@@ -2,7 +2,7 @@
 use Rattle.std.proofs.Common.{◌≡◌, ℕ, suc, ◌+◌, ◌<◌, Bool, true, false, List, [], ◌∷◌, ◌++◌, length, drop, get_or, refl, sym, ap, ◌∙◌, add-one, drop-cons, Some, None, ◌⊎◌, inl, inr}
 use Rattle.std.specs.Prelude.{◌==◌, ◌&&◌, ◌||◌, not, if◌then◌else◌}
 use Rattle.std.specs.Str.{bytes_eq}
-use Rattle.std.proofs.lemmas.Bool.{eqb-true}
+use Rattle.std.proofs.lemmas.Bool.{eqb-true, eq-eqb}
 use Rattle.std.proofs.lemmas.Slice.Eq.{bytes_eq-Decides}
 use Rattle.planus_schema.specs.declared.number.Number.{Number}
 use Rattle.planus_schema.specs.declared.scalar.Scalar.{Scalar}
@@ -120,3 +120,17 @@ or_left false b e = absurd cc
 pub true_or_false : (b : Bool) → (b ≡ true) ⊎ (b ≡ false)
 true_or_false true = inl refl
 true_or_false false = inr refl
+
+pub truth_is_same : (b : Bool) → same_truth b b ≡ true
+truth_is_same true = refl
+truth_is_same false = refl
+
+pub number_is_same : (n : Number) → same_number n n ≡ true
+number_is_same n = rw (truth_is_same n.negative, eq-eqb n.magnitude n.magnitude refl) refl
+
+pub value_is_same : (v : ValueV) → same_value v v ≡ true
+value_is_same nothing = refl
+value_is_same (integer n) = number_is_same n
+value_is_same (float w) = (bytes_eq-Decides w w).1 refl
+value_is_same (text w) = (bytes_eq-Decides w w).1 refl
+value_is_same empty = refl

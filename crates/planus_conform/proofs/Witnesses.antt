@@ -1,17 +1,14 @@
 -- What the empty table shows.
 use Rattle.std.proofs.Common.{◌≡◌, ℕ, ◌+◌, ◌-◌, ◌*◌, Bool, true, false, List, [], ◌∷◌, refl, ap, subst, ◌∙◌, Option, Some, None, ◌⊎◌, inl, inr, arith, Ok}
 use Rattle.std.specs.Prelude.{◌&&◌, ◌||◌, not, if◌then◌else◌, nat_le, nat_lt}
-use Rattle.std.proofs.lemmas.Bool.{eq-eqb}
 use Rattle.std.proofs.lemmas.Bool.Decides.{nat_tests}
-use Rattle.std.proofs.lemmas.Slice.Eq.{bytes_eq-Decides}
 use Rattle.planus_read.specs.Tables.{Slot}
 use Rattle.planus_dump.specs.Answers.{Seen, table_at, union_at, unions_at}
-use Rattle.planus_schema.specs.declared.number.Number.{Number}
 use Rattle.planus_schema.specs.declared.schema.Base.{Base}
 use Rattle.planus_schema.specs.declared.schema.Base.TheVariants as base
 use Rattle.planus_schema.specs.declared.schema.Declared.{Declared}
 use Rattle.planus_schema.specs.declared.schema.TableField.{TableField}
-use Rattle.planus_resolve.specs.Defaults.{ValueV, absent as nothing, integer, float, text, empty}
+use Rattle.planus_resolve.specs.Defaults.{ValueV, empty}
 use Rattle.planus_conform.specs.declared.breaks.Change.{Change}
 use Rattle.planus_conform.specs.declared.breaks.Change.TheVariants as change
 use Rattle.planus_conform.specs.declared.breaks.Way.{Way}
@@ -20,10 +17,11 @@ use Rattle.planus_conform.specs.Found.{field, Found, unknown, withdrawn, absent,
 use Rattle.planus_conform.specs.Values.{body_at, fields_in, table_found}
 use Rattle.planus_conform.specs.Reads.{is_nothing, given, default_found, default_of, absent_found, field_in, placed_found, one_union_found, unions_found, found_by, found_if, called}
 use Rattle.planus_conform.specs.Alike.{Same, is_left_out, is_missing, is_excused, SameAnswers}
-use Rattle.planus_conform.specs.Types.{same_truth, same_type}
-use Rattle.planus_conform.specs.Defaults.{same_number, same_value, same_default}
+use Rattle.planus_conform.specs.Types.{same_type}
+use Rattle.planus_conform.specs.Defaults.{same_value, same_default}
 use Rattle.planus_conform.specs.Breaks.{meets_new, change_if, may_require, same_nested, kept_change, change_from}
 use Rattle.planus_conform.specs.Witnesses.{empty_table, shows_absent, ChangesShow}
+use Rattle.planus_conform.proofs.Parts.{value_is_same}
 
 abbrev seen : Seen
 seen = record { object = 4 ∷ 0 ∷ 0 ∷ 0 ∷ []; slots = [] }
@@ -59,22 +57,6 @@ once : (w : Way) (old new : List Declared) (i j n : ℕ) → SameAnswers w old n
 once w old new i j n (inl e) =
     inl (subst (λ b. (b || is_excused w (called old (table i seen) (field n)) (called new (table j seen) (field n))) ≡ true) (tables_not_excused w i j) e)
 once w old new i j n (inr s) = inr s
-
--- ---- equal values pass their tests
-
-truth_is_same : (b : Bool) → same_truth b b ≡ true
-truth_is_same true = refl
-truth_is_same false = refl
-
-number_is_same : (n : Number) → same_number n n ≡ true
-number_is_same n = rw (truth_is_same n.negative, eq-eqb n.magnitude n.magnitude refl) refl
-
-value_is_same : (v : ValueV) → same_value v v ≡ true
-value_is_same nothing = refl
-value_is_same (integer n) = number_is_same n
-value_is_same (float w) = (bytes_eq-Decides w w).1 refl
-value_is_same (text w) = (bytes_eq-Decides w w).1 refl
-value_is_same empty = refl
 
 abbrev given_in : Found → ValueV
 given_in (default v) = v

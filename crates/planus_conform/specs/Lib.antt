@@ -9,3 +9,4 @@ pub mod Breaks
 pub mod Conforms
 pub mod Witnesses
 pub mod AsRead
+pub mod NoBreaks

@@ -5,6 +5,7 @@ ghost use Rattle.planus_schema.specs.declared.schema.Declared as declared;
 ghost use Rattle.planus_conform.specs.declared.breaks.Way as ways;
 ghost use Rattle.planus_conform.specs.Witnesses.{ChangesShow};
 ghost use Rattle.planus_conform.specs.AsRead.{TextsAreFound, TablesAreFound};
+ghost use Rattle.planus_conform.specs.NoBreaks.{UnchangedBreaksNothing, AddedFieldsBreakNothing};
 
 use planus_dump::laws::readings_are_said;
 
@@ -28,3 +29,15 @@ pub fn tables_are_found()
 {
     readings_are_said();
 }
+
+/// Nothing breaks from a sound schema to itself, if each of its structs has a field and nothing is
+/// renamed: what hasn't changed is not reported.
+pub fn unchanged_schemas_conform()
+    ensures { UnchangedBreaksNothing }
+{}
+
+/// Nor does anything break to a sound schema that only has more fields of tables, and more
+/// declarations after the old ones.
+pub fn added_fields_conform()
+    ensures { AddedFieldsBreakNothing }
+{}

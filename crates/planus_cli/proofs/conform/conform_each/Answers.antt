@@ -1,0 +1,42 @@
+use Rattle.std.proofs.Common.{subst, sym, refl, ◌≤◌, drop, length, map, max, ◌+◌}
+use Rattle.planus_cli.specs.Arguments.{words_of}
+use Rattle.planus_cli.specs.Conforming.{ConformsAgainst, ConformsEach}
+use Rattle.planus_cli.specs.Loading.{places_of}
+use Rattle.planus_cli.proofs.ConformedEach.{next_each, all_each}
+use Rattle.planus_cli.proofs.conform.conform_each.Goals as goal
+
+pub words-preserved : goal.words-preserved
+words-preserved g c = λ status said rest.
+    let words = c.args.words.now in
+    let One = ConformsAgainst
+    (places_of (g.F.Files.disk c.args.files.now) words.folders.items) (words_of words)
+    c.args.folder.now in
+    let all = c.deref-word-items.result.now in
+    let same = c.deref-word-items.ensures.value in
+    let index = c.words.word-index in
+    let worst = c.words.worst in
+    let one = c.in_ok-status.status in
+    let unsaid = g.X.Write.contents c.words.errors in
+    let told = g.X.Write.contents c.conform_against.new.errors in
+    let more = subst (λ mid. ConformsEach One
+    (map (λ x. x.now) (drop (index + 1) words.files.items)) mid status told said)
+    c.max-worst.ensures rest in
+    let next = next_each One all index _ _ worst one unsaid told c.words-test.true refl
+    c.in_ok-status.ensures status said
+    (subst (λ ws. ConformsEach One (map (λ x. x.now) (drop (index + 1) ws)) (max worst one) status
+    told said) (sym same) more) in
+    c.words.invariant status said
+    (subst (λ ws. ConformsEach One (map (λ x. x.now) (drop index ws)) worst status unsaid said)
+    same next)
+
+pub returns : goal.returns
+returns g c =
+    let words = c.args.words.now in
+    let One = ConformsAgainst
+    (places_of (g.F.Files.disk c.args.files.now) words.folders.items) (words_of words)
+    c.args.folder.now in
+    let end = subst (λ ws. length ws ≤ c.words.word-index) c.deref-word-items.ensures.value
+    c.words-test.false in
+    c.words.invariant c.words.worst (g.X.Write.contents c.words.errors)
+    (all_each One words.files.items c.words.word-index c.words.worst
+    (g.X.Write.contents c.words.errors) end)
