@@ -327,12 +327,6 @@ def reorder_declarations(schema):
     return Change("")
 
 
-def used(schema, name):
-    return any(field.base == name for fields in schema.tables.values() for field in fields) or any(
-        base == name for fields in schema.structs.values() for _, base in fields
-    )
-
-
 def plain_enum(schema):
     return random.choice([name for name, one in schema.enums.items() if not one[1]])
 
