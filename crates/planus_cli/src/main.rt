@@ -1,5 +1,6 @@
 //! The program `planus`: checks schemas of flatbuffers, prints them in their canonical layout,
-//! shows what buffers hold by them, and prints their code as the files of a crate.
+//! shows what buffers hold by them, prints their code as the files of a crate, draws their graphs,
+//! and says what breaks from one to another. A command is a file of its name; start at `program`.
 #![tactic(auto)]
 
 mod arguments;

@@ -2,7 +2,6 @@
 
 ghost use Rattle.std.specs.Prelude.{◌≡◌, position};
 ghost use Rattle.std.specs.Option.{option_map};
-ghost use Rattle.planus_conform.specs.Breaks.{body_if as body_if_lem};
 ghost use Rattle.planus_cli.specs.Parts.{has_slot, has_distance, has_number, has_tag};
 ghost use Rattle.planus_cli.specs.Parts.{is_field, is_part, is_value, is_member};
 ghost use Rattle.planus_cli.specs.Parts.{part_at as part_at_lem};
@@ -21,7 +20,7 @@ ghost use Rattle.planus_cli.specs.Parts.{subject as subject_lem};
 ghost use Rattle.planus_cli.specs.Parts.{is_moved as is_moved_lem};
 ghost use Rattle.planus_cli.specs.Parts.{is_needed as is_needed_lem};
 
-use planus_conform::{Break, Change, Place, Rename, named, renamed, same_number};
+use planus_conform::{Break, Change, Place, Rename, body_if, named, renamed, same_number};
 use planus_schema::{
     Body, Declared, EnumValue, Number, Schema, StructField, TableField, UnionMember,
 };
@@ -153,18 +152,6 @@ fn declaration_in(place: Place) -> Option<usize>
         | Place::Value(index, _)
         | Place::Member(index, _) => Some(index),
         Place::Root | Place::Identifier => None,
-    }
-}
-
-fn body_if(declared: &[Declared], index: Option<usize>) -> Option<&Body>
-    ensures { option_map (λ b. b.now) result ≡ body_if_lem declared.now index }
-{
-    match index {
-        Some(index) => match declared.get(index) {
-            Some(one) => Some(&one.body),
-            None => None,
-        },
-        None => None,
     }
 }
 

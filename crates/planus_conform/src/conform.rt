@@ -20,7 +20,8 @@ use crate::ways::note;
 use planus_schema::{Body, Declared, Schema};
 use std::alloc::{AllocError, Global};
 
-fn body_if(declared: &[Declared], index: Option<usize>) -> Option<&Body>
+/// Returns what is declared at an index, if there is one.
+pub fn body_if(declared: &[Declared], index: Option<usize>) -> Option<&Body>
     ensures { option_map (λ b. b.now) result ≡ body_if_lem declared.now index }
 {
     match index {

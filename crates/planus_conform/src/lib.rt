@@ -16,7 +16,7 @@ mod unions;
 mod ways;
 
 pub use breaks::{Break, Change, Place, Way};
-pub use conform::conforms;
+pub use conform::{body_if, conforms};
 pub use defaults::same_number;
 pub use matching::{named, renamed};
 pub use rename::Rename;
