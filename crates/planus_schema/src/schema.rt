@@ -57,12 +57,14 @@ pub struct Table {
     pub fields: Vec<TableField>,
 }
 
-/// A field of a struct, `distance` bytes after its start.
+/// A field of a struct, `distance` bytes after its start. `count`: how many items an array has, one
+/// after another; `size` is that of them all, in bytes.
 #[derive(Drop)]
 pub struct StructField {
     pub name: Vec<u8>,
     pub docs: Vec<Vec<u8>>,
     pub base: Base,
+    pub count: Option<usize>,
     pub distance: usize,
     pub size: usize,
     pub alignment: usize,
