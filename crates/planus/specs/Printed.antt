@@ -8,7 +8,7 @@ pub use Rattle.planus_read.specs.Slices.{slice_bytes, slice_start}
 pub use Rattle.planus_read.specs.Plain.{Shape}
 pub use Rattle.planus_read.specs.Shapes.{u8_shape, u16_shape, u32_shape, u64_shape, i8_shape}
 pub use Rattle.planus_read.specs.Shapes.{i16_shape, i32_shape, i64_shape, bool_shape, f32_shape}
-pub use Rattle.planus_read.specs.Shapes.{f64_shape}
+pub use Rattle.planus_read.specs.Shapes.{f64_shape, array_shape}
 pub use Rattle.planus_read.specs.SizePrefixed.{IsPrefixed}
 pub use Rattle.planus_read.specs.Structs.{field, force_align, no_more, struct_layout, struct_shape}
 pub use Rattle.planus_write.specs.Finishing.{FinishGives, SizedFinishGives, EndsAs, FinishLeaves}

@@ -61,6 +61,8 @@ pub use planus_read::errors;
 pub use planus_read::has_identifier;
 pub use planus_read::known_or;
 pub use planus_read::located;
+pub use planus_read::put_array;
+pub use planus_read::read_array;
 pub use planus_read::read_size_prefixed;
 pub use planus_read::table_reader;
 pub use planus_unions::UnionVector;

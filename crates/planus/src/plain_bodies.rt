@@ -13,10 +13,10 @@ use planus_read::table_reader::Table;
 use planus_read::{Plain, SliceWithStartOffset};
 
 /// Writes the fields of a struct in the body of [`Plain::put`](crate::Plain::put), each by its name
-/// and size in bytes; `_` is padding.
+/// and size in bytes, that of an array in brackets; `_` is padding.
 ///
 /// ```text
-/// put_fields!(self, bytes; lat: 4, lon: 4, alt: 2, _: 2);
+/// put_fields!(self, bytes; lat: 4, lon: 4, marks: [6], alt: 2, _: 2);
 /// ```
 #[macro_export]
 macro_rules! put_fields {
@@ -31,23 +31,44 @@ macro_rules! put_fields {
         $crate::Plain::put(&$value.$field, field);
         $crate::put_fields!($value, $bytes; $($($rest)*)?)
     };
+    ($value:ident, $bytes:ident; $field:ident: [$size:literal] $(, $($rest:tt)*)?) => {
+        let (field, $bytes) = $bytes.split_at_mut($size);
+        $crate::put_array(&$value.$field, field);
+        $crate::put_fields!($value, $bytes; $($($rest)*)?)
+    };
 }
 
 /// Returns a struct in the body of [`Plain::read`](crate::Plain::read): its first field, and the
-/// others with their offsets in bytes.
+/// others with their offsets in bytes; an array, or an array's offset, stands in brackets.
 ///
 /// ```text
-/// read_fields!(Pos, buffer, offset; lat, lon: 4, alt: 8)
+/// read_fields!(Pos, buffer, offset; lat, lon: 4, marks: [8], alt: 14)
+/// read_fields!(Marks, buffer, offset; [marks], alt: 6)
 /// ```
 #[macro_export]
 macro_rules! read_fields {
+    (@field $buffer:ident, $offset:ident; [$at:literal]) => {
+        $crate::read_array($buffer, $offset + $at)?
+    };
+    (@field $buffer:ident, $offset:ident; $at:literal) => {
+        $crate::Plain::read($buffer, $offset + $at)?
+    };
     (
         $name:ident, $buffer:ident, $offset:ident;
-        $first:ident $(, $field:ident: $at:literal)* $(,)?
+        [$first:ident] $(, $field:ident: $at:tt)* $(,)?
+    ) => {
+        Ok($name {
+            $first: $crate::read_array($buffer, $offset)?,
+            $($field: $crate::read_fields!(@field $buffer, $offset; $at),)*
+        })
+    };
+    (
+        $name:ident, $buffer:ident, $offset:ident;
+        $first:ident $(, $field:ident: $at:tt)* $(,)?
     ) => {
         Ok($name {
             $first: $crate::Plain::read($buffer, $offset)?,
-            $($field: $crate::Plain::read($buffer, $offset + $at)?,)*
+            $($field: $crate::read_fields!(@field $buffer, $offset; $at),)*
         })
     };
 }
@@ -71,7 +92,7 @@ macro_rules! read_variant {
     }};
 }
 
-// What the macros write for a struct with padding and an enum.
+// What the macros write for a struct with padding and an array, and an enum.
 
 #[derive(Clone, Copy)]
 enum Choice {
@@ -105,25 +126,26 @@ struct Padded {
     left: i16,
     right: i16,
     choice: Choice,
+    choices: [Choice; 2],
 }
 
 impl Plain for Padded {
     ghost ALIGNMENT = { 2 };
 
-    ghost SIZE = { 6 };
+    ghost SIZE = { 8 };
 
     ghost shape = { padded_shape };
 
     const ALIGNMENT: usize = 2;
 
-    const SIZE: usize = 6;
+    const SIZE: usize = 8;
 
     fn put(&self, bytes: &mut [u8]) {
-        put_fields!(self, bytes; left: 2, right: 2, choice: 1, _: 1);
+        put_fields!(self, bytes; left: 2, right: 2, choice: 1, choices: [2], _: 1);
     }
 
     fn read(buffer: SliceWithStartOffset<'_>, offset: usize) -> Result<Padded, ErrorKind> {
-        read_fields!(Padded, buffer, offset; left, right: 2, choice: 4)
+        read_fields!(Padded, buffer, offset; left, right: 2, choice: 4, choices: [5])
     }
 }
 

@@ -7,3 +7,4 @@ pub mod ListItems
 pub mod SliceLaws
 pub mod ReadsBack
 pub mod SizePrefixed
+pub mod ArraySteps

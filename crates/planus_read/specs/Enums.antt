@@ -1,6 +1,6 @@
 -- Enums: variants that are encoded as their numbers.
-use Rattle.std.specs.Prelude.{◌≡◌, ℕ, ℤ, pos, Bool, nat_eq, List, [], ◌∷◌, Option, Some, None}
-use Rattle.std.specs.Prelude.{IsSome}
+use Rattle.std.specs.Prelude.{◌≡◌, ℕ, ◌+◌, ℤ, pos, Bool, nat_eq, nat_le, List, [], ◌∷◌, length}
+use Rattle.std.specs.Prelude.{Option, Some, None, IsSome}
 use Rattle.std.specs.Prelude.{if◌then◌else◌, Result, Ok, Err, FitsSigned}
 use Rattle.std.specs.Int.{Width, w8, w16, w32, w64, byte_len, to_le_bytes, cast_signed}
 use Rattle.std.specs.Int.{cast_unsigned}
@@ -14,7 +14,7 @@ use Rattle.planus_read.specs.Bytes.{Num}
 use Rattle.planus_read.specs.Clauses.{clause}
 use Rattle.planus_read.specs.Plain.{IsLayout, NumberFits, Shape}
 use Rattle.planus_read.specs.Reading.{number}
-use Rattle.planus_read.specs.lemmas.EnumLaws.{is_some, same_value}
+use Rattle.planus_read.specs.lemmas.EnumLaws.{is_some, is_found, same_value}
 use Rattle.planus_read.specs.lemmas.NumberLaws.{AreBytes, one_byte, two_bytes, four_bytes}
 use Rattle.planus_read.specs.lemmas.NumberLaws.{eight_bytes}
 use Rattle.planus_read.specs.lemmas.NumberLaws.{layout_of_one, layout_of_two, layout_of_four}
@@ -65,6 +65,11 @@ enum_shape {E} {N} width are layout bits read_as Fits few again tag equal varian
           same_value
           (sym stood ∙ ap (variant_in equal variants) (again (numbers x).number fits)
           ∙ (numbers x).found));
+      unbroken = λ S f x there. (
+        (is_found x (nat_le (f + byte_len width) (length S)) (number S f width)
+            (λ n. variant_in equal variants (read_as n)) there),
+        tt,
+      );
     }
 
 abbrev pub unsigned_enum :

@@ -10,6 +10,7 @@ pub mod Utf8
 pub mod Reading
 pub mod Plain
 pub mod Floats
+pub mod Arrays
 pub mod Shapes
 pub mod Enums
 pub mod Structs

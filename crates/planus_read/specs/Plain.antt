@@ -12,7 +12,8 @@ pub record IsLayout (size alignment : ℕ) : Type 0 where
   pub positive : 0 < size
   pub multiple : alignment ∣ size
 
--- Each value has `size` bytes; where these are, no clause fails and no other value is encoded.
+-- Each value has `size` bytes; where these are, no clause fails and no other value is encoded. Where
+-- a value is encoded by any bytes, no clause fails.
 pub record Shape (A : Type 0) (size alignment : ℕ) : Type 1 where
   pub encoded : A → List ℕ
   pub fits : A → Type 0
@@ -24,6 +25,7 @@ pub record Shape (A : Type 0) (size alignment : ℕ) : Type 1 where
       (S : List ℕ) (f : ℕ) (x : A) → fits x → BytesStand S f (encoded x) → AllHold (clauses S f)
   pub again :
       (S : List ℕ) (f : ℕ) (x y : A) → fits x → BytesStand S f (encoded x) → There S f y → y ≡ x
+  pub unbroken : (S : List ℕ) (f : ℕ) (x : A) → There S f x → AllHold (clauses S f)
 
 -- all bytes are in S, and the own clauses hold
 abbrev pub plain_reading :

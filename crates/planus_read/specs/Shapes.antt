@@ -1,14 +1,18 @@
--- The shapes of numbers, bools and floats.
-use Rattle.std.specs.Prelude.{ℕ, [], ◌∷◌, Bool, ◌==◌, not, ℤ, FitsSigned, ⊤, from_bits, to_bits}
+-- The shapes of numbers, bools, floats and arrays.
+use Rattle.std.specs.Prelude.{ℕ, ◌*◌, ◌<◌, List, [], ◌∷◌, Bool, ◌==◌, not, ℤ, FitsSigned, ⊤}
+use Rattle.std.specs.Prelude.{from_bits, to_bits}
 use Rattle.std.specs.Int.{Width, w8, w16, w32, w64, byte_len, to_le_bytes, cast_signed}
 use Rattle.std.specs.Int.{cast_unsigned, from_bool}
 use Rattle.std.proofs.Common.{refl, sym, subst, ◌∙◌, to_z-of_z}
 use lib.Ieee.{Float, Format, binary32, binary64}
 use lib.Ieee.Bits.{of_bits-to_bits, to_bits-lt}
+use Rattle.planus_read.specs.Arrays.{array_bytes, array_clauses, ArrayThere, ArrayFits}
 use Rattle.planus_read.specs.Bytes.{BytesStand}
 use Rattle.planus_read.specs.Floats.{FloatFits, FloatThere}
 use Rattle.planus_read.specs.Plain.{IsLayout, NumberFits, Shape}
 use Rattle.planus_read.specs.Reading.{NumberThere, SignedThere, TruthThere}
+use Rattle.planus_read.specs.lemmas.ArrayLaws.{array_layout, array_sized, array_holds}
+use Rattle.planus_read.specs.lemmas.ArrayLaws.{array_again, array_unbroken}
 use Rattle.planus_read.specs.lemmas.NumberLaws.{AreBytes, one_byte, two_bytes, four_bytes}
 use Rattle.planus_read.specs.lemmas.NumberLaws.{eight_bytes}
 use Rattle.planus_read.specs.lemmas.NumberLaws.{layout_of_one, layout_of_two, layout_of_four}
@@ -27,6 +31,7 @@ unsigned_shape width are layout = record {
   sized = are.sized;
   holds = λ S f n fits stands. tt;
   again = λ S f n m fits stands there. stood width are S f n m fits stands there;
+  unbroken = λ S f x there. tt;
 }
 
 abbrev pub signed_shape : (width : Width) → AreBytes width
@@ -44,6 +49,7 @@ signed_shape width are layout = record {
       stands
       there
       ∙ to_z-of_z fits;
+  unbroken = λ S f x there. tt;
 }
 
 abbrev pub float_shape : (width : Width) (format : Format) → AreBytes width
@@ -60,6 +66,7 @@ float_shape width format are small layout = record {
   again = λ S f x y fits stands there.
       stood_as (from_bits format) width are S f (to_bits format x) y (small x fits) stands there
       ∙ of_bits-to_bits format x fits;
+  unbroken = λ S f x there. tt;
 }
 
 abbrev pub u8_shape : Shape ℕ 1 1
@@ -90,6 +97,7 @@ i8_shape = record {
       (subst (λ bytes. BytesStand S f bytes) (sym (one_byte_is (cast_unsigned w8 z) may)) stands)
       there
       ∙ to_z-of_z fits);
+  unbroken = λ S f x there. tt;
 }
 
 abbrev pub i16_shape : Shape ℤ 2 2
@@ -115,6 +123,7 @@ bool_shape = record {
       stood_as (λ n. not (n == 0)) w8 one_byte S f (from_bool truth) y (truth_fits truth)
       (subst (λ bytes. BytesStand S f bytes) (sym (truth_bytes truth)) stands) there
       ∙ is_byte truth;
+  unbroken = λ S f x there. tt;
 }
 
 abbrev pub f32_shape : Shape Float 4 4
@@ -122,3 +131,19 @@ f32_shape = float_shape w32 binary32 four_bytes (to_bits-lt binary32) layout_of_
 
 abbrev pub f64_shape : Shape Float 8 8
 f64_shape = float_shape w64 binary64 eight_bytes (to_bits-lt binary64) layout_of_eight
+
+-- The format: `[T:n]`, of the alignment of its items.
+abbrev pub array_shape :
+    {A : Type 0} {size alignment : ℕ} (n : ℕ) → 0 < n → Shape A size alignment
+    → Shape (List A) (n * size) alignment
+array_shape n some shape = record {
+  encoded = array_bytes shape n;
+  fits = ArrayFits shape n;
+  There = λ S f xs. ArrayThere shape n S f xs;
+  clauses = λ S f. array_clauses shape n S f;
+  layout = array_layout n some shape.layout;
+  sized = λ xs. array_sized shape n xs;
+  holds = λ S f xs fits stands. array_holds shape n S f xs fits stands;
+  again = λ S f xs ys fits stands there. array_again shape n S f xs ys fits stands there;
+  unbroken = λ S f xs there. array_unbroken shape n S f xs there;
+}

@@ -13,7 +13,8 @@ use Rattle.planus_read.specs.lemmas.StructLaws.{parts_stand, behind, both_are, b
 abbrev pub gap : ℕ → ℕ → ℕ
 gap k alignment = (alignment - k % alignment) % alignment
 
--- Where the bytes of some are, no clause fails and no others are encoded.
+-- Where the bytes of some are, no clause fails and no others are encoded. Where
+-- some are encoded by any bytes, no clause fails.
 pub record Fields (A : Type 0) : Type 1 where
   pub size : ℕ → ℕ
   pub alignment : ℕ
@@ -30,6 +31,7 @@ pub record Fields (A : Type 0) : Type 1 where
   pub again :
       (k : ℕ) (S : List ℕ) (f : ℕ) (x y : A) → fits x → BytesStand S (place f k) (encoded k x)
       → There k S f y → values y ≡ values x
+  pub unbroken : (k : ℕ) (S : List ℕ) (f : ℕ) (x : A) → There k S f x → AllHold (clauses k S f)
 
 abbrev pub no_more : {A : Type 0} → Fields A
 no_more {A} = record {
@@ -44,6 +46,7 @@ no_more {A} = record {
   sized = λ k x. refl;
   holds = λ k S f x fits stands. tt;
   again = λ k S f x y fits stands there. refl;
+  unbroken = λ k S f x there. tt;
 }
 
 -- The format: each field of a struct is at a multiple of its alignment, with zeros between.
@@ -93,6 +96,11 @@ field {A} {B} {bytes} {align} get shape rest = record {
       (rest.again (k + g + bytes) S f x y fits.1
       (behind S f (k + g) (length a) bytes b (shape.sized (get x)) both.1)
       there.1));
+  unbroken = λ k S f x there.
+      (let g = gap k align in
+      both_hold (shape.clauses S (place f (k + g))) (rest.clauses (k + g + bytes) S f)
+      (shape.unbroken S (place f (k + g)) (get x) there.0)
+      (rest.unbroken (k + g + bytes) S f x there.1));
 }
 
 -- The format: `force_align`.
@@ -109,6 +117,7 @@ force_align alignment fields = record {
   sized = fields.sized;
   holds = fields.holds;
   again = fields.again;
+  unbroken = fields.unbroken;
 }
 
 -- The format: a struct has the greatest alignment of its fields, and its size is a multiple of it.
@@ -148,4 +157,5 @@ struct_shape fields layout make made = record {
       (let n = gap (fields.size 0) fields.alignment in
       let both = parts_stand S (fields.encoded 0 x) (replicate n 0) f stands in
       sym (made y) ∙ ap make (fields.again 0 S f x y fits both.0 there) ∙ made x);
+  unbroken = λ S f x there. fields.unbroken 0 S f x there;
 }

@@ -1,3 +1,4 @@
 pub mod EnumLaws
 pub mod NumberLaws
 pub mod StructLaws
+pub mod ArrayLaws

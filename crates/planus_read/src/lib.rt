@@ -2,6 +2,7 @@
 //! [`ReadAsRoot`] and [`TableRead`].
 #![tactic(auto)]
 
+mod arrays;
 pub mod errors;
 mod heads;
 mod impls;
@@ -17,6 +18,7 @@ pub mod table_reader;
 mod traits;
 mod unchecked;
 
+pub use arrays::{put_array, read_array};
 pub use errors::Error;
 pub use heads::array_from_buffer;
 pub use impls::known_or;
