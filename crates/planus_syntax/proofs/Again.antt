@@ -2,8 +2,8 @@
 use Rattle.std.proofs.Common.{◌≡◌, ℕ, Bool, true, false, List, [], ◌∷◌, length, Option, Some, None, Result, Ok, refl, ap, ◌∙◌}
 use Rattle.std.specs.Prelude.{codes, ◌==◌, ◌||◌, not}
 use Rattle.planus_syntax.specs.Tokens.{Piece, word, text, mark}
-use Rattle.planus_syntax.specs.Values.{closing_before, PathV, KindV, single, vector, LiteralV, numeral, named, quote, nothing, LabelV, AttributeV, FieldV, RecordV, VariantV, EnumerationV, MemberV, UnionV, MethodV, ServiceV, ItemV, include, native_include, namespace, attribute, table, struct, enumeration, union, service, root, identifier, extension, DeclarationV, SchemaV, Before, each_before, doc_before, docs_before, dotted_before, path_before, kind_before, literal_before, after_before, number_before, label_piece, label_before, attribute_before, next_before, attributes_before, field_before, record_before, variant_before, list_before, comma_before, enumeration_before, member_before, union_before, method_before, service_before, quoted_before, rooted_before, declared_before, namespace_before, item_before, declaration_before, schema_pieces}
-use Rattle.planus_syntax.specs.Reading.{begins_closing, closing_at, Fault, Reads, optional_at, ◌>>=◌, begins_mark, begins_doc, begins_next, has_more, inside, if_inside, mark_at, word_at, doc_at, number_at, label_at, list_at, with_items, docs_at, dotted_at, path_at, kind_at, brackets_at, name_at, literal_at, attribute_at, next_attribute_at, attributes_at, field_at, record_at, comma_at, variant_at, next_variant_at, variants_at, enumeration_at, member_at, next_member_at, members_at, union_at, method_at, service_at, quoted_at, rooted_at, namespace_at, declared_at, as_item, statement_at, item_at, declaration_at, schema_at}
+use Rattle.planus_syntax.specs.Values.{closing_before, PathV, KindV, single, vector, array, LiteralV, numeral, named, quote, nothing, LabelV, AttributeV, FieldV, RecordV, VariantV, EnumerationV, MemberV, UnionV, MethodV, ServiceV, ItemV, include, native_include, namespace, attribute, table, struct, enumeration, union, service, root, identifier, extension, DeclarationV, SchemaV, Before, each_before, doc_before, docs_before, dotted_before, path_before, kind_before, literal_before, after_before, number_before, label_piece, label_before, attribute_before, next_before, attributes_before, field_before, record_before, variant_before, list_before, comma_before, enumeration_before, member_before, union_before, method_before, service_before, quoted_before, rooted_before, declared_before, namespace_before, item_before, declaration_before, schema_pieces}
+use Rattle.planus_syntax.specs.Reading.{begins_closing, closing_at, Fault, Reads, optional_at, ◌>>=◌, begins_mark, begins_doc, begins_next, has_more, inside, if_inside, mark_at, word_at, doc_at, number_at, label_at, list_at, with_items, docs_at, dotted_at, path_at, kind_in_brackets, kind_at, brackets_at, name_at, literal_at, attribute_at, next_attribute_at, attributes_at, field_at, record_at, comma_at, variant_at, next_variant_at, variants_at, enumeration_at, member_at, next_member_at, members_at, union_at, method_at, service_at, quoted_at, rooted_at, namespace_at, declared_at, as_item, statement_at, item_at, declaration_at, schema_at}
 use Rattle.planus_syntax.specs.Values.{is_whole, is_whole_item, is_comma_after, AreWhole}
 use Rattle.planus_syntax.proofs.Many.{Again, list_again, suits_all, always, all_always}
 use Rattle.planus_syntax.proofs.Loops.{dotted_looped, docs_looped, attributes_looped, fields_looped, variants_looped, members_looped, methods_looped, declarations_looped}
@@ -60,11 +60,6 @@ closing_mark m (d ∷ docs) rest h = refl
 path_again : (p : PathV) (rest : List Piece) → begins_mark 46 rest ≡ false → path_at (path_before p rest) ≡ Ok (p, rest)
 unfolding path_at
 path_again p rest h = step (list_at (begins_mark 46) dotted_at (each_before dotted_before p.more rest)) (p.more, rest) _ (list_again (begins_mark 46) dotted_at dotted_before any always dotted_looped dotted_again p.more rest (all_always p.more) h refl)
-
-kind_again : (k : KindV) (rest : List Piece) → begins_mark 46 rest ≡ false → kind_at (kind_before k rest) ≡ Ok (k, rest)
-unfolding kind_at
-kind_again (single p) rest h = step (path_at (path_before p rest)) (p, rest) _ (path_again p rest h)
-kind_again (vector p) rest h = step (path_at (path_before p (mark 93 ∷ rest))) (p, mark 93 ∷ rest) _ (path_again p (mark 93 ∷ rest) refl)
 
 brackets_again : (rest : List Piece) → brackets_at (mark 91 ∷ mark 93 ∷ rest) ≡ Ok (nothing, rest)
 unfolding brackets_at
@@ -125,6 +120,21 @@ attributes_front n (a ∷ more) rest h k = h
 after_front : {A : Type 0} (m n : ℕ) (f : Before A) (x : Option A) (rest : List Piece) → (m == n) ≡ false → begins_mark n rest ≡ false → begins_mark n (after_before m f x rest) ≡ false
 after_front m n f None rest h k = k
 after_front m n f (Some x) rest h k = h
+
+bracketed_again : (p : PathV) (count : Option (List ℕ)) (rest : List Piece)
+    → kind_at (mark 91 ∷ path_before p (after_before 58 number_before count (mark 93 ∷ rest))) ≡ Ok (kind_in_brackets p count, rest)
+unfolding kind_at
+bracketed_again p count rest =
+    let end = mark 93 ∷ rest in
+    let tokens = after_before 58 number_before count end in
+    step (path_at (path_before p tokens)) (p, tokens) _ (path_again p tokens (after_front 58 46 number_before count end refl refl))
+    ∙ step (optional_at 58 number_at tokens) (count, end) _ (optional_again 58 number_at number_before number_again count end refl refl)
+
+kind_again : (k : KindV) (rest : List Piece) → begins_mark 46 rest ≡ false → kind_at (kind_before k rest) ≡ Ok (k, rest)
+unfolding kind_at
+kind_again (single p) rest h = step (path_at (path_before p rest)) (p, rest) _ (path_again p rest h)
+kind_again (vector p) rest h = bracketed_again p None rest
+kind_again (array p w) rest h = bracketed_again p (Some w) rest
 
 field_again : (f : FieldV) (rest : List Piece) → field_at (field_before f rest) ≡ Ok (f, rest)
 unfolding field_at

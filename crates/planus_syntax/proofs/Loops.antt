@@ -4,9 +4,9 @@ use Rattle.std.specs.Prelude.{codes, ◌==◌, ◌&&◌}
 use Rattle.std.specs.Str.{bytes_eq}
 use Rattle.std.proofs.lemmas.Bool.{eqb-true}
 use Rattle.planus_syntax.specs.Tokens.{Piece, word, number, text, doc, mark}
-use Rattle.planus_syntax.specs.Values.{closing_before, Name, PathV, KindV, single, vector, LiteralV, numeral, named, quote, nothing, LabelV, AttributeV, FieldV, RecordV, VariantV, EnumerationV, MemberV, UnionV, MethodV, ServiceV, ItemV, include, native_include, namespace, attribute, table, struct, enumeration, union, service, root, identifier, extension, DeclarationV, SchemaV, Before, each_before, doc_before, docs_before, dotted_before, path_before, kind_before, literal_before, after_before, number_before, label_before, attribute_before, next_before, attributes_before, field_before, record_before, variant_before, list_before, comma_before, enumeration_before, member_before, union_before, method_before, service_before, quoted_before, rooted_before, declared_before, namespace_before, item_before, declaration_before, schema_pieces}
+use Rattle.planus_syntax.specs.Values.{closing_before, Name, PathV, KindV, single, vector, array, LiteralV, numeral, named, quote, nothing, LabelV, AttributeV, FieldV, RecordV, VariantV, EnumerationV, MemberV, UnionV, MethodV, ServiceV, ItemV, include, native_include, namespace, attribute, table, struct, enumeration, union, service, root, identifier, extension, DeclarationV, SchemaV, Before, each_before, doc_before, docs_before, dotted_before, path_before, kind_before, literal_before, after_before, number_before, label_before, attribute_before, next_before, attributes_before, field_before, record_before, variant_before, list_before, comma_before, enumeration_before, member_before, union_before, method_before, service_before, quoted_before, rooted_before, declared_before, namespace_before, item_before, declaration_before, schema_pieces}
 use Rattle.planus_syntax.specs.declared.parse_fault.ParseFault.TheVariants as fault
-use Rattle.planus_syntax.specs.Reading.{closing_at, Looped, Takes, Fault, Reads, optional_at, begins_mark, begins_doc, begins_next, has_more, inside, if_inside, mark_at, word_at, doc_at, number_at, text_at, label_at, list_at, with_items, docs_at, dotted_at, path_at, kind_at, brackets_at, name_at, literal_at, attribute_at, next_attribute_at, attributes_at, field_at, record_at, comma_at, variant_at, next_variant_at, variants_at, enumeration_at, member_at, next_member_at, members_at, union_at, method_at, service_at, quoted_at, rooted_at, namespace_at, declared_at, as_item, statement_at, item_at, declaration_at, schema_at}
+use Rattle.planus_syntax.specs.Reading.{closing_at, Looped, Takes, Fault, Reads, optional_at, begins_mark, begins_doc, begins_next, has_more, inside, if_inside, mark_at, word_at, doc_at, number_at, text_at, label_at, list_at, with_items, docs_at, dotted_at, path_at, kind_in_brackets, kind_at, brackets_at, name_at, literal_at, attribute_at, next_attribute_at, attributes_at, field_at, record_at, comma_at, variant_at, next_variant_at, variants_at, enumeration_at, member_at, next_member_at, members_at, union_at, method_at, service_at, quoted_at, rooted_at, namespace_at, declared_at, as_item, statement_at, item_at, declaration_at, schema_at}
 use Rattle.planus_syntax.proofs.Many.{bind_ok, ok_is, ok, list_takes}
 
 guard : {A : Type 0} (b : Bool) (x y : A) (e : Fault) → cond b (ok x) (Err e) ≡ Ok y → (b ≡ true) × (x ≡ y)
@@ -107,22 +107,6 @@ path_takes ps x e =
     ((word_takes ps y0.0 y0.1) ∙ ap (λ (r : List Piece). word y0.0.0 ∷ r) (
     (list_takes (begins_mark 46) dotted_at dotted_before dotted_looped dotted_takes y0.0.1 y1.0 y1.1).0))
 
-pub kind_takes : Takes kind_at kind_before
-unfolding kind_at
-kind_takes ps x e = either (begins_mark 91 ps) _ _ (ps ≡ kind_before x.0 x.1) x e
-    (λ h.
-    let y0 = bind_ok _ _ x h in
-    let y1 = bind_ok _ _ x y0.2 in
-    let y2 = bind_ok _ _ x y1.2 in
-    subst (λ (y : KindV × List Piece). ps ≡ kind_before y.0 y.1) (ok_is _ x y2.2)
-    ((mark_takes 91 ps y0.0 y0.1) ∙ ap (λ (r : List Piece). mark 91 ∷ r) (
-    (path_takes y0.0 y1.0 y1.1) ∙ ap (λ (r : List Piece). path_before y1.0.0 r) (
-    mark_takes 93 y1.0.1 y2.0 y2.1))))
-    (λ h.
-    let y0 = bind_ok _ _ x h in
-    subst (λ (y : KindV × List Piece). ps ≡ kind_before y.0 y.1) (ok_is _ x y0.2)
-    (path_takes ps y0.0 y0.1))
-
 pub brackets_takes : Takes brackets_at literal_before
 unfolding brackets_at
 brackets_takes ps x e =
@@ -158,6 +142,30 @@ optional_takes {A} m item before takes ps x e = either (begins_mark m ps) _ _ (p
     takes y0.0 y1.0 y1.1)))
     (λ h.
     subst (λ (y : Option A × List Piece). ps ≡ after_before m before y.0 y.1) (ok_is (None, ps) x h) refl)
+
+brackets_before : (p : PathV) (count : Option (List ℕ)) (rest : List Piece)
+    → mark 91 ∷ path_before p (after_before 58 number_before count (mark 93 ∷ rest)) ≡ kind_before (kind_in_brackets p count) rest
+brackets_before p None rest = refl
+brackets_before p (Some w) rest = refl
+
+pub kind_takes : Takes kind_at kind_before
+unfolding kind_at
+kind_takes ps x e = either (begins_mark 91 ps) _ _ (ps ≡ kind_before x.0 x.1) x e
+    (λ h.
+    let y0 = bind_ok _ _ x h in
+    let y1 = bind_ok _ _ x y0.2 in
+    let y2 = bind_ok _ _ x y1.2 in
+    let y3 = bind_ok _ _ x y2.2 in
+    subst (λ (y : KindV × List Piece). ps ≡ kind_before y.0 y.1) (ok_is _ x y3.2)
+    ((mark_takes 91 ps y0.0 y0.1) ∙ ap (λ (r : List Piece). mark 91 ∷ r) (
+    (path_takes y0.0 y1.0 y1.1) ∙ ap (λ (r : List Piece). path_before y1.0.0 r) (
+    (optional_takes 58 number_at number_before number_takes y1.0.1 y2.0 y2.1) ∙ ap (λ (r : List Piece). after_before 58 number_before y2.0.0 r) (
+    mark_takes 93 y2.0.1 y3.0 y3.1)))
+    ∙ brackets_before y1.0.0 y2.0.0 y3.0))
+    (λ h.
+    let y0 = bind_ok _ _ x h in
+    subst (λ (y : KindV × List Piece). ps ≡ kind_before y.0 y.1) (ok_is _ x y0.2)
+    (path_takes ps y0.0 y0.1))
 
 pub attribute_takes : Takes attribute_at attribute_before
 unfolding attribute_at
@@ -270,6 +278,7 @@ attributes_longer (a ∷ more) rest =
 kind_longer : Longer kind_before
 kind_longer (single p) rest = path_longer p rest
 kind_longer (vector p) rest = omega (arith, path_longer p (mark 93 ∷ rest))
+kind_longer (array p w) rest = omega (arith, path_longer p (mark 58 ∷ number w ∷ mark 93 ∷ rest))
 
 docs_shrunk : (ps : List Piece) (docs : List (List ℕ)) (p : Piece) (rest after : List Piece) → ps ≡ docs_before docs (p ∷ rest) → length after ≤ length rest → length after < length ps
 docs_shrunk ps docs p rest after e h = omega (arith, ap length e, docs_longer docs (p ∷ rest))

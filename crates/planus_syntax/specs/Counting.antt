@@ -23,7 +23,7 @@ use Rattle.planus_syntax.specs.declared.value.Item.TheVariants as item
 use Rattle.planus_syntax.specs.declared.value.Declaration.{Declaration}
 use Rattle.planus_syntax.specs.declared.value.Schema.{Schema}
 use Rattle.planus_syntax.specs.declared.read_error.ReadError.{ReadError}
-use Rattle.planus_syntax.specs.Tokens.{Piece, word, mark}
+use Rattle.planus_syntax.specs.Tokens.{Piece, word, number, mark}
 use Rattle.planus_syntax.specs.Values.{Before, each_before, path_before, kind_before, literal_before}
 use Rattle.planus_syntax.specs.Values.{after_before, number_before, label_before, next_before}
 use Rattle.planus_syntax.specs.Values.{attribute_before, attributes_before, field_before}
@@ -41,6 +41,7 @@ PathCounted p rest = p.left ≡ length (path_before (path_of p) rest)
 abbrev pub KindCounted : Kind → List Piece → Type 0
 KindCounted (kind.Single p) rest = PathCounted p rest
 KindCounted (kind.Vector p) rest = PathCounted p (mark 93 ∷ rest)
+KindCounted (kind.Array p w) rest = PathCounted p (mark 58 ∷ number w.items ∷ mark 93 ∷ rest)
 
 abbrev pub LiteralCounted : Literal → List Piece → Type 0
 LiteralCounted (literal.Number w) rest = Unit {0}

@@ -10,8 +10,8 @@ use Rattle.planus_syntax.specs.declared.read_error.ReadError.{ReadError}
 use Rattle.planus_syntax.specs.declared.read_error.ReadError.TheVariants as errors
 use Rattle.planus_syntax.specs.Tokens.{Piece, word, number, text, doc, mark}
 use Rattle.planus_syntax.specs.Layout.{is_mark_of}
-use Rattle.planus_syntax.specs.Values.{Name, PathV, KindV, single, vector, LiteralV, numeral, named}
-use Rattle.planus_syntax.specs.Values.{quote, nothing, LabelV, AttributeV, FieldV, RecordV}
+use Rattle.planus_syntax.specs.Values.{Name, PathV, KindV, single, vector, array, LiteralV, numeral}
+use Rattle.planus_syntax.specs.Values.{named, quote, nothing, LabelV, AttributeV, FieldV, RecordV}
 use Rattle.planus_syntax.specs.Values.{VariantV, EnumerationV, MemberV, UnionV, MethodV, ServiceV}
 use Rattle.planus_syntax.specs.Values.{ItemV, include, native_include, namespace, attribute, table, struct}
 use Rattle.planus_syntax.specs.Values.{enumeration, union, service, root, identifier, extension}
@@ -176,12 +176,26 @@ path_at ps = do
   more ← list_at (begins_mark 46) dotted_at first.1
   Ok (record { first = first.0; more = more.0 }, more.1)
 
+-- what follows a mark, if the mark is first
+unfoldable pub optional_at : {A : Type 0} → ℕ → (List Piece → Reads A) → List Piece
+    → Reads (Option A)
+optional_at m item ps = if begins_mark m ps then (do
+  start ← mark_at m ps
+  x ← item start
+  Ok (Some x.0, x.1)) else Ok (None, ps)
+
+-- what is in brackets, with a number of items or without
+abbrev pub kind_in_brackets : PathV → Option (List ℕ) → KindV
+kind_in_brackets p None = vector p
+kind_in_brackets p (Some w) = array p w
+
 unfoldable pub kind_at : List Piece → Reads KindV
 kind_at ps = if begins_mark 91 ps then (do
   start ← mark_at 91 ps
   path ← path_at start
-  end ← mark_at 93 path.1
-  Ok (vector path.0, end)) else (path_at ps >>= λ path. Ok (single path.0, path.1))
+  count ← optional_at 58 number_at path.1
+  end ← mark_at 93 count.1
+  Ok (kind_in_brackets path.0 count.0, end)) else (path_at ps >>= λ path. Ok (single path.0, path.1))
 
 unfoldable pub brackets_at : List Piece → Reads LiteralV
 brackets_at ps = do
@@ -200,14 +214,6 @@ literal_at (text w ∷ ps) = Ok (quote w, ps)
 literal_at (doc w ∷ ps) = Err (fault.Literal, suc (length ps))
 literal_at (mark b ∷ ps) =
     if b == 91 then brackets_at (mark b ∷ ps) else Err (fault.Literal, suc (length ps))
-
--- what follows a mark, if the mark is first
-unfoldable pub optional_at : {A : Type 0} → ℕ → (List Piece → Reads A) → List Piece
-    → Reads (Option A)
-optional_at m item ps = if begins_mark m ps then (do
-  start ← mark_at m ps
-  x ← item start
-  Ok (Some x.0, x.1)) else Ok (None, ps)
 
 unfoldable pub attribute_at : List Piece → Reads AttributeV
 attribute_at ps = do

@@ -40,6 +40,7 @@ pub record PathV : Type 0 where
 pub data KindV : Type 0 where
   single : PathV → KindV
   vector : PathV → KindV
+  array : PathV → List ℕ → KindV
 
 pub data LiteralV : Type 0 where
   numeral : List ℕ → LiteralV
@@ -165,6 +166,7 @@ path_before p rest = word p.first ∷ each_before dotted_before p.more rest
 abbrev pub kind_before : Before KindV
 kind_before (single p) rest = path_before p rest
 kind_before (vector p) rest = mark 91 ∷ path_before p (mark 93 ∷ rest)
+kind_before (array p w) rest = mark 91 ∷ path_before p (mark 58 ∷ number w ∷ mark 93 ∷ rest)
 
 abbrev pub literal_before : Before LiteralV
 literal_before (numeral w) rest = number w ∷ rest
@@ -327,6 +329,7 @@ path_of p = record { first = p.first.items; more = names_of p.more.items }
 abbrev pub kind_of : Kind → KindV
 kind_of (kind.Single p) = single (path_of p)
 kind_of (kind.Vector p) = vector (path_of p)
+kind_of (kind.Array p w) = array (path_of p) w.items
 
 abbrev pub literal_of : Literal → LiteralV
 literal_of (literal.Number w) = numeral w.items

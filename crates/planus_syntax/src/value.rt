@@ -19,6 +19,8 @@ pub enum Kind {
     Single(Path),
     /// A vector of that type, as `[int]`.
     Vector(Path),
+    /// An array of a fixed number of items, as `[int:3]`; the number as it is written.
+    Array(Path, Vec<u8>),
 }
 
 /// A default, or the value of an attribute.

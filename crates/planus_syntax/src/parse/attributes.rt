@@ -4,11 +4,11 @@ ghost use Rattle.std.specs.Prelude.{map};
 ghost use Rattle.std.specs.Option.{option_map};
 ghost use Rattle.planus_syntax.specs.Tokens.{pieces_of};
 ghost use Rattle.planus_syntax.specs.Values.{Name, AttributeV, names_of, path_of};
-ghost use Rattle.planus_syntax.specs.Values.{attribute_of, digits_of};
+ghost use Rattle.planus_syntax.specs.Values.{attribute_of};
 ghost use Rattle.planus_syntax.specs.Reading.{Gives, list_at, optional_at};
 ghost use Rattle.planus_syntax.specs.Reading.{begins_mark as begins_mark_lem};
 ghost use Rattle.planus_syntax.specs.Reading.{begins_doc as begins_doc_lem, doc_at as doc_at_lem};
-ghost use Rattle.planus_syntax.specs.Reading.{number_at as number_at_lem, path_at as path_at_lem};
+ghost use Rattle.planus_syntax.specs.Reading.{path_at as path_at_lem};
 ghost use Rattle.planus_syntax.specs.Reading.{attribute_at as attribute_at_lem};
 ghost use Rattle.planus_syntax.specs.Reading.{next_attribute_at as next_attribute_at_lem};
 ghost use Rattle.planus_syntax.specs.Reading.{attributes_at as attributes_at_lem};
@@ -20,28 +20,12 @@ ghost use Rattle.planus_syntax.specs.Values.{attribute_before, doc_before, next_
 use crate::parse::lists::{Items, list_after, list_of};
 use crate::parse::literals::literal_after;
 use crate::parse::paths::path_at;
-use crate::parse::tokens::{after_mark, begins_mark, label_at, mark_at, number_at};
+use crate::parse::tokens::{after_mark, begins_mark, label_at, mark_at};
 use crate::parse_fault::ParseFault;
 use crate::read_error::ReadError;
 use crate::token::Token;
 use crate::value::{Attribute, Path};
 use std::alloc::Global;
-
-pub(crate) fn value_at(
-    alloc: Global,
-    tokens: &[Token],
-) -> Result<(Option<Vec<u8>>, &[Token]), ReadError>
-    ensures { Gives (λ x. (digits_of x.0, pieces_of x.1.now)) result
-        (optional_at 61 number_at_lem (pieces_of tokens.now)) }
-{
-    match after_mark(tokens, b'=') {
-        Some(rest) => {
-            let (value, rest) = or_return!(number_at(alloc, rest));
-            Ok((Some(value), rest))
-        }
-        None => Ok((None, tokens)),
-    }
-}
 
 pub(crate) fn target_at(
     alloc: Global,

@@ -14,10 +14,10 @@ ghost use Rattle.planus_syntax.specs.Reading.{enumeration_at as enumeration_at_l
 ghost use Rattle.planus_syntax.specs.Counting.{EachCounted, GivesCounted, ItemCounted, VariantCounted};
 ghost use Rattle.planus_syntax.specs.Values.{next_before, variant_before};
 
-use crate::parse::attributes::{attributes_at, closing_at, docs_at, value_at};
+use crate::parse::attributes::{attributes_at, closing_at, docs_at};
 use crate::parse::lists::{Items, list_after};
 use crate::parse::paths::path_at;
-use crate::parse::tokens::{after_mark, begins_next, inside, mark_at, word_at};
+use crate::parse::tokens::{after_mark, begins_next, inside, mark_at, number_after, word_at};
 use crate::read_error::ReadError;
 use crate::token::Token;
 use crate::value::{Enumeration, Item, Variant};
@@ -39,7 +39,7 @@ fn variant_at(alloc: Global, tokens: &[Token]) -> Result<(Variant, &[Token]), Re
 {
     let (docs, start) = or_return!(docs_at(alloc, tokens));
     let (name, rest) = or_return!(word_at(alloc, start));
-    let (value, rest) = or_return!(value_at(alloc, rest));
+    let (value, rest) = or_return!(number_after(alloc, b'=', rest));
     Ok((
         Variant {
             docs,

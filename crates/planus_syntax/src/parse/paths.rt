@@ -1,15 +1,17 @@
 //! Names with dots, and types.
 
-ghost use Rattle.planus_syntax.specs.Tokens.{pieces_of};
-ghost use Rattle.planus_syntax.specs.Values.{Name, path_of, kind_of};
+ghost use Rattle.std.specs.Prelude.{◌≡◌, ◌∷◌, List};
+ghost use Rattle.planus_syntax.specs.Tokens.{Piece, mark, pieces_of};
+ghost use Rattle.planus_syntax.specs.Values.{Name, path_of, kind_of, digits_of};
 ghost use Rattle.planus_syntax.specs.Reading.{Gives, begins_mark as begins_mark_lem};
 ghost use Rattle.planus_syntax.specs.Reading.{dotted_at as dotted_at_lem, path_at as path_at_lem};
 ghost use Rattle.planus_syntax.specs.Reading.{kind_at as kind_at_lem};
+ghost use Rattle.planus_syntax.specs.Reading.{kind_in_brackets as kind_in_brackets_lem};
 ghost use Rattle.planus_syntax.specs.Counting.{GivesCounted, KindCounted, PathCounted};
-ghost use Rattle.planus_syntax.specs.Values.{dotted_before};
+ghost use Rattle.planus_syntax.specs.Values.{after_before, dotted_before, number_before};
 
 use crate::parse::lists::{Items, list_of};
-use crate::parse::tokens::{after_mark, begins_mark, mark_at, word_at};
+use crate::parse::tokens::{after_mark, begins_mark, mark_at, number_after, word_at};
 use crate::read_error::ReadError;
 use crate::token::Token;
 use crate::value::{Kind, Path};
@@ -60,6 +62,19 @@ pub(crate) fn path_at(alloc: Global, tokens: &[Token]) -> Result<(Path, &[Token]
     ))
 }
 
+fn kind_in_brackets(path: Path, count: Option<Vec<u8>>) -> Kind
+    ensures value { kind_of result
+        ≡ kind_in_brackets_lem (path_of path) (digits_of count) }
+    ensures counted { (rest : List Piece)
+        → PathCounted path (after_before 58 number_before (digits_of count)
+        (mark 93 ∷ rest)) → KindCounted result rest }
+{
+    match count {
+        None => Kind::Vector(path),
+        Some(count) => Kind::Array(path, count),
+    }
+}
+
 pub(crate) fn kind_at(alloc: Global, tokens: &[Token]) -> Result<(Kind, &[Token]), ReadError>
     ensures { GivesCounted (λ x. KindCounted x.0 (pieces_of x.1.now))
         (λ x. (kind_of x.0, pieces_of x.1.now)) result
@@ -68,8 +83,9 @@ pub(crate) fn kind_at(alloc: Global, tokens: &[Token]) -> Result<(Kind, &[Token]
     match after_mark(tokens, b'[') {
         Some(rest) => {
             let (path, rest) = or_return!(path_at(alloc, rest));
+            let (count, rest) = or_return!(number_after(alloc, b':', rest));
             let rest = or_return!(mark_at(rest, b']'));
-            Ok((Kind::Vector(path), rest))
+            Ok((kind_in_brackets(path, count), rest))
         }
         None => {
             let (path, rest) = or_return!(path_at(alloc, tokens));

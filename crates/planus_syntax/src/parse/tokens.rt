@@ -2,13 +2,13 @@
 
 ghost use Rattle.std.specs.Prelude.{◌≡◌, true, false, Ok, MatchOption};
 ghost use Rattle.planus_syntax.specs.Tokens.{pieces_of};
-ghost use Rattle.planus_syntax.specs.Values.{label_of};
+ghost use Rattle.planus_syntax.specs.Values.{digits_of, label_of};
 ghost use Rattle.planus_syntax.specs.Reading.{Gives, begins_mark as begins_mark_lem};
 ghost use Rattle.planus_syntax.specs.Reading.{begins_next as begins_next_lem};
 ghost use Rattle.planus_syntax.specs.Reading.{inside as inside_lem, has_more as has_more_lem};
 ghost use Rattle.planus_syntax.specs.Reading.{begins_closing as begins_closing_lem};
 ghost use Rattle.planus_syntax.specs.Reading.{mark_at as mark_at_lem, word_at as word_at_lem};
-ghost use Rattle.planus_syntax.specs.Reading.{number_at as number_at_lem};
+ghost use Rattle.planus_syntax.specs.Reading.{optional_at, number_at as number_at_lem};
 ghost use Rattle.planus_syntax.specs.Reading.{text_at as text_at_lem, label_at as label_at_lem};
 ghost use Rattle.planus_syntax.specs.Counting.{GivesCounted, LabelCounted};
 
@@ -117,6 +117,24 @@ pub(crate) fn number_at(alloc: Global, tokens: &[Token]) -> Result<(Vec<u8>, &[T
             fault: ParseFault::Number,
             left: tokens.len(),
         }),
+    }
+}
+
+/// Returns the number after this mark, if the mark is first.
+pub(crate) fn number_after(
+    alloc: Global,
+    mark: u8,
+    tokens: &[Token],
+) -> Result<(Option<Vec<u8>>, &[Token]), ReadError>
+    ensures { Gives (λ x. (digits_of x.0, pieces_of x.1.now)) result
+        (optional_at mark number_at_lem (pieces_of tokens.now)) }
+{
+    match after_mark(tokens, mark) {
+        Some(rest) => {
+            let (number, rest) = or_return!(number_at(alloc, rest));
+            Ok((Some(number), rest))
+        }
+        None => Ok((None, tokens)),
     }
 }
 

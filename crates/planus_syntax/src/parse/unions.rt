@@ -12,11 +12,11 @@ ghost use Rattle.planus_syntax.specs.Reading.{union_at as union_at_lem};
 ghost use Rattle.planus_syntax.specs.Counting.{EachCounted, GivesCounted, ItemCounted, MemberCounted};
 ghost use Rattle.planus_syntax.specs.Values.{member_before, next_before};
 
-use crate::parse::attributes::{attributes_at, closing_at, docs_at, target_at, value_at};
+use crate::parse::attributes::{attributes_at, closing_at, docs_at, target_at};
 use crate::parse::enums::comma_at;
 use crate::parse::lists::{Items, list_after};
 use crate::parse::paths::path_at;
-use crate::parse::tokens::{begins_next, inside, mark_at, word_at};
+use crate::parse::tokens::{begins_next, inside, mark_at, number_after, word_at};
 use crate::read_error::ReadError;
 use crate::token::Token;
 use crate::value::{Item, Member, UnionBody};
@@ -30,7 +30,7 @@ fn member_at(alloc: Global, tokens: &[Token]) -> Result<(Member, &[Token]), Read
     let (docs, rest) = or_return!(docs_at(alloc, tokens));
     let (path, rest) = or_return!(path_at(alloc, rest));
     let (target, rest) = or_return!(target_at(alloc, rest));
-    let (value, rest) = or_return!(value_at(alloc, rest));
+    let (value, rest) = or_return!(number_after(alloc, b'=', rest));
     Ok((
         Member {
             docs,

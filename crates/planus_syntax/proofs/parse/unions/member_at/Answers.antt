@@ -20,15 +20,15 @@ pub returns-in-Err-target_at : goal.returns-in-Err-target_at
 unfolding member_at
 returns-in-Err-target_at c = fails_later _ _ _ _ c.in-Ok.ensures (fails_later _ _ _ _ c.in-Ok-path_at.ensures.0 (fails_here _ _ _ c.in-Err-target_at.ensures))
 
-pub returns-in-Err-value_at : goal.returns-in-Err-value_at
+pub returns-in-Err-number_after : goal.returns-in-Err-number_after
 unfolding member_at
-returns-in-Err-value_at c = fails_later _ _ _ _ c.in-Ok.ensures (fails_later _ _ _ _ c.in-Ok-path_at.ensures.0 (fails_later _ _ _ _ c.in-Ok-target_at.ensures.0 (fails_here _ _ _ c.in-Err-value_at.ensures)))
+returns-in-Err-number_after c = fails_later _ _ _ _ c.in-Ok.ensures (fails_later _ _ _ _ c.in-Ok-path_at.ensures.0 (fails_later _ _ _ _ c.in-Ok-target_at.ensures.0 (fails_here _ _ _ c.in-Err-number_after.ensures)))
 
 pub returns : goal.returns
 unfolding member_at
 returns c =
-    let e3 = optional_takes 61 number_at number_before number_takes _ _ c.in-Ok-value_at.ensures in
+    let e3 = optional_takes 61 number_at number_before number_takes _ _ c.in-Ok-number_after.ensures in
     let e2 = optional_takes 58 path_at path_before path_takes _ _ c.in-Ok-target_at.ensures.0 ∙ ap (after_before 58 path_before _) e3 in (
-      reads_on _ _ _ _ c.in-Ok.ensures (reads_on _ _ _ _ c.in-Ok-path_at.ensures.0 (reads_on _ _ _ _ c.in-Ok-target_at.ensures.0 (reads_on _ _ _ _ c.in-Ok-value_at.ensures refl))),
+      reads_on _ _ _ _ c.in-Ok.ensures (reads_on _ _ _ _ c.in-Ok-path_at.ensures.0 (reads_on _ _ _ _ c.in-Ok-target_at.ensures.0 (reads_on _ _ _ _ c.in-Ok-number_after.ensures refl))),
       (subst (PathCounted c.in-Ok-path_at.value.0) e2 c.in-Ok-path_at.ensures.1, subst (IfAny PathCounted c.in-Ok-target_at.value.0) e3 c.in-Ok-target_at.ensures.1),
     )

@@ -1,7 +1,7 @@
 use Rattle.std.proofs.Common.{refl, ◌∙◌}
 use Rattle.planus_syntax.specs.Reading.{optional_at}
 use Rattle.planus_syntax.proofs.Steps.{fails_here, fails_later, reads_on, first_way, other_way, fails_first}
-use Rattle.planus_syntax.proofs.parse.attributes.value_at.Goals as goal
+use Rattle.planus_syntax.proofs.parse.tokens.number_after.Goals as goal
 
 pub returns-in-Err : goal.returns-in-Err
 unfolding optional_at
