@@ -1,11 +1,12 @@
 -- The meaning of files is a sound schema.
 use Rattle.std.proofs.Common.{◌≡◌, ℕ, zero, suc, ◌+◌, ◌<◌, Bool, true, false, cond, List, [], ◌∷◌, ◌++◌, length, map, refl, sym, ap, subst, ◌∙◌, append_assoc, length-append}
-use Rattle.std.specs.Prelude.{Option, Some, None, slice_get, codes}
+use Rattle.std.specs.Prelude.{Option, Some, None, slice_get, codes, nat_le}
+use Rattle.std.proofs.lemmas.Bool.{and_parts, leb-true}
 use Rattle.std.specs.Option.{option_map}
 use Rattle.std.specs.List.{AllByRecursion}
 use Rattle.std.specs.Str.{bytes_eq}
 use Rattle.std.proofs.lemmas.Option.{slice_get_within}
-use Rattle.planus_syntax.specs.Values.{Name, PathV, KindV, single, vector, ItemV, include, native_include, namespace, attribute, table, struct, enumeration, union, service, root, identifier, extension, AttributeV, FieldV, MemberV, DeclarationV}
+use Rattle.planus_syntax.specs.Values.{Name, PathV, KindV, single, vector, array, ItemV, include, native_include, namespace, attribute, table, struct, enumeration, union, service, root, identifier, extension, AttributeV, FieldV, MemberV, DeclarationV}
 use Rattle.planus_schema.specs.declared.scalar.Scalar.{Scalar}
 use Rattle.planus_schema.specs.declared.schema.Base.{Base}
 use Rattle.planus_schema.specs.declared.schema.Base.TheVariants as base
@@ -16,13 +17,13 @@ use Rattle.planus_schema.specs.declared.schema.StructField.{StructField}
 use Rattle.planus_schema.specs.declared.schema.TableField.{TableField}
 use Rattle.planus_schema.specs.declared.schema.UnionMember.{UnionMember}
 use Rattle.planus_schema.specs.declared.measure.Measure.{Measure}
-use Rattle.planus_schema.specs.Numbers.{scalar_named}
+use Rattle.planus_schema.specs.Numbers.{scalar_named, integer_said}
 use Rattle.planus_resolve.specs.Names.{HeadV, SpaceV, base_of_item, base_of_head, base_found, plain_of, plain_base, base_or, base_named, base_as, space_at, begun_after, begun_in, type_named, table_in, found, words_of, words_in, space_after, setting, heads_of}
 use Rattle.planus_resolve.specs.Defaults.{value_of}
 use Rattle.planus_resolve.proofs.DefaultLemmas.{default_lawful}
 use Rattle.planus_schema.specs.Distinct.{AreDistinct, Each2}
 use Rattle.planus_schema.specs.Layouts.{measure_of_body, measure_in, body_in}
-use Rattle.planus_resolve.specs.Structs.{SaysStructField}
+use Rattle.planus_resolve.specs.Structs.{SaysStructField, natural_of, is_count, count_in, count_said}
 use Rattle.planus_resolve.specs.Unions.{SaysMember, target_of, wanted_of}
 use Rattle.planus_resolve.specs.Names.{UsedAs}
 use Rattle.planus_resolve.specs.Names.{as_type, as_record, as_root}
@@ -30,7 +31,7 @@ use Rattle.planus_resolve.specs.Tables.{SaysField, NestedIs, table_found, nested
 use Rattle.planus_resolve.specs.Schemas.{SaysBody, SayBodies, IsHeadOf, StatementsV, no_statements, after, after_file, after_files, said_of, Means}
 use Rattle.planus_schema.specs.declared.schema.Declared.{Declared}
 use Rattle.planus_schema.specs.declared.schema.Schema.{Schema}
-use Rattle.planus_resolve.specs.Sound.{IsTableAt, Refers, IsNested, RefersField, IsBelow, RefersBefore, RefersBody, AreSound, IsSound}
+use Rattle.planus_resolve.specs.Sound.{IsTableAt, Refers, IsNested, RefersField, IsBelow, IsCount, RefersBefore, RefersBody, AreSound, IsSound}
 
 pub base_of_body : Option Body → ℕ → Option Base
 base_of_body None i = None
@@ -119,6 +120,7 @@ typed v (Some b) t e = ap (λ (x : FieldType). Some x.base) (some_is _ t e)
 refers_type : (hs : List HeadV) (bs : List Body) (space : SpaceV) (k : KindV) (t : FieldType) → Matches hs bs → type_named hs space k ≡ Some t → Refers bs t.base
 refers_type hs bs space (single p) t m e = refers_named hs bs as_type space p t.base m (typed false (base_named hs space p) t e)
 refers_type hs bs space (vector p) t m e = refers_named hs bs as_type space p t.base m (typed true (base_named hs space p) t e)
+refers_type hs bs space (array p w) t m e = refers_named hs bs as_type space p t.base m (typed false (base_named hs space p) t e)
 
 refers_table : (hs : List HeadV) (bs : List Body) (space : SpaceV) (i : ℕ) (o : Option Name) → Matches hs bs → table_found hs space o ≡ Some (base.Table i) → IsTableAt bs i
 refers_table hs bs space i None m e = absurd cc
@@ -168,12 +170,36 @@ measure_kept before rest (base.Struct i) m e = measure_on before rest i m e
 measure_kept before rest (base.Table i) m e = e
 measure_kept before rest (base.Union i) m e = e
 
+counted_in : (o : Option ℕ) (count : Option ℕ) → count_in o ≡ Some count → IsCount count
+counted_in None count e = absurd cc
+counted_in (Some n) count e = by_test (is_count n) refl e
+  where
+    by_test : (b : Bool) → is_count n ≡ b → cond b (Some (Some n)) None ≡ Some count → IsCount count
+    by_test true t e =
+        let both = and_parts (nat_le 1 n) (nat_le n 65535) t in
+        subst IsCount (some_is (Some n) count e) (leb-true 1 n both.0, leb-true n 65535 both.1)
+    by_test false t e = absurd cc
+
+is_counted : (k : KindV) (count : Option ℕ) → count_said k ≡ Some count → IsCount count
+is_counted (single p) count e = subst IsCount (some_is None count e) tt
+is_counted (vector p) count e = subst IsCount (some_is None count e) tt
+is_counted (array p w) count e = counted_in (natural_of (integer_said w)) count e
+
 refers_before : (hs : List HeadV) (before rest : List Body) (space : SpaceV) (ds : List FieldV) (fs : List StructField) → Each2 (SaysStructField hs space before) ds fs → AllByRecursion (RefersBefore (before ++ rest) (length before)) fs
 refers_before hs before rest space [] [] x = tt
 refers_before hs before rest space [] (f ∷ fs) x = absurd x
 refers_before hs before rest space (d ∷ ds) [] x = absurd x
-refers_before hs before rest space (d ∷ ds) (f ∷ fs) x =
-    (record { below = below before f.base _ x.0.measure; measure = measure_kept before rest f.base _ x.0.measure }, refers_before hs before rest space ds fs x.1)
+refers_before hs before rest space (d ∷ ds) (f ∷ fs) x = (
+  record {
+    below = below before f.base _ x.0.measure;
+    item = x.0.item;
+    measure = measure_kept before rest f.base _ x.0.measure;
+    count = is_counted d.kind f.count x.0.count;
+    size = x.0.size;
+    alignment = x.0.alignment;
+  },
+  refers_before hs before rest space ds fs x.1,
+)
 
 refers_said : (hs : List HeadV) (space : SpaceV) (before rest : List Body) (item : ItemV) (b : Body) → Matches hs (before ++ rest) → SaysBody hs space before item b → RefersBody (before ++ rest) (length before) b
 refers_said hs space before rest (include w) b m h = absurd h

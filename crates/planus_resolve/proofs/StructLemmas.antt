@@ -7,6 +7,7 @@ use Rattle.std.proofs.lemmas.Bool.Decides.{nat_tests}
 use Rattle.planus_schema.specs.declared.schema.StructField.{StructField}
 use Rattle.std.proofs.lemmas.Grind.{common_steps}
 use Rattle.std.specs.Prelude.{Option, Some, None, not, nat_le, ◌==◌}
+use Rattle.std.specs.Option.{option_map}
 use Rattle.planus_syntax.specs.Values.{Name, kind_of}
 use Rattle.planus_syntax.specs.declared.value.Field.{Field}
 use Rattle.planus_schema.specs.declared.measure.Measure.{Measure}
@@ -15,8 +16,9 @@ use Rattle.planus_resolve.specs.declared.fault.Problem.TheVariants as problem
 use Rattle.planus_resolve.specs.declared.fault.Stop.{Stop}
 use Rattle.planus_resolve.specs.declared.fault.Stop.TheVariants as stop
 use Rattle.planus_resolve.specs.Names.{HeadV, SpaceV, type_named}
+use Rattle.planus_resolve.specs.Structs.{count_said}
 use Rattle.planus_resolve.specs.Wrong.{Broken, broken, when, first, Stops}
-use Rattle.planus_resolve.specs.WrongStructs.{is_empty, wrong_plain, wrong_measure, wrong_type, measure_among, measure_in_type, wrong_struct_field, wrong_struct_fields, end_of, end_after, greatest_after, alignment_in, field_measure}
+use Rattle.planus_resolve.specs.WrongStructs.{is_empty, wrong_plain, wrong_measure, wrong_array, wrong_type, measure_among, items_among, measure_of_items, measure_in_type, known_count, count_or_none, wrong_struct_field, wrong_struct_fields, end_of, end_after, greatest_after, alignment_in, field_measure}
 use Rattle.planus_resolve.proofs.FaultLemmas.{skip, passes, stops_first, stops_next, stops_now}
 use Rattle.planus_schema.specs.Distinct.{Each2, is_in}
 use Rattle.planus_schema.specs.Layouts.{IsNext, Laid, greatest_alignment}
@@ -67,11 +69,26 @@ end_next hs space ms at fs d ds all at' here same end = rw end (ap (end_after hs
 pub greatest_next : (hs : List HeadV) (space : SpaceV) (ms : List (Option Measure)) (n : ℕ) (fs : List Field) (d : Field) (ds : List Field) (all m n' : ℕ) → fs ≡ d ∷ ds → greatest_after hs space ms n fs ≡ all → n' ≡ max n m → m ≡ alignment_in (field_measure hs space ms d) → greatest_after hs space ms n' ds ≡ all
 greatest_next hs space ms n fs d ds all m n' here same e is = rw (e, is) (ap (greatest_after hs space ms n) (sym here) ∙ same)
 
-pub field_known : (hs : List HeadV) (space : SpaceV) (ms : List (Option Measure)) (at : ℕ) (f : Field) (b : Base) → wrong_plain hs space f ≡ None → type_named hs space (kind_of f.kind) ≡ Some (record { vector = false; base = b }) → wrong_struct_field hs space ms at f ≡ first (wrong_measure b f.left (measure_among ms b)) (when (not (nat_le (end_of at (measure_among ms b)) 65535)) problem.StructTooLarge f.left)
-field_known hs space ms at f b p t = skip (wrong_plain hs space f) _ p ∙ ap (wrong_type ms at f.left) t
+count_known : (f : Field) (count : Option ℕ) → count_said (kind_of f.kind) ≡ Some count → known_count f ≡ count
+count_known f count e = ap count_or_none e
 
-pub measure_known : (hs : List HeadV) (space : SpaceV) (ms : List (Option Measure)) (f : Field) (b : Base) (m : Measure) → type_named hs space (kind_of f.kind) ≡ Some (record { vector = false; base = b }) → measure_among ms b ≡ Some m → field_measure hs space ms f ≡ Some m
-measure_known hs space ms f b m t a = ap (measure_in_type ms) t ∙ a
+pub field_known : (hs : List HeadV) (space : SpaceV) (ms : List (Option Measure)) (at : ℕ) (f : Field) (b : Base) (count : Option ℕ) → wrong_plain hs space f ≡ None → type_named hs space (kind_of f.kind) ≡ Some (record { vector = false; base = b }) → wrong_array f f.kind ≡ None → count_said (kind_of f.kind) ≡ Some count
+    → wrong_struct_field hs space ms at f ≡ first (wrong_measure b f.left (measure_among ms b)) (when (not (nat_le (end_of at (items_among ms count b)) 65535)) problem.StructTooLarge f.left)
+field_known hs space ms at f b count p t a c =
+    skip (wrong_plain hs space f) _ p ∙ skip (wrong_array f f.kind) _ a
+    ∙ ap (λ n. wrong_type ms n at f.left (type_named hs space (kind_of f.kind))) (count_known f count c)
+    ∙ ap (wrong_type ms count at f.left) t
+
+pub array_stops : (hs : List HeadV) (space : SpaceV) (ms : List (Option Measure)) (at : ℕ) (f : Field) (s : Stop) → wrong_plain hs space f ≡ None → Stops (wrong_array f f.kind) s → Stops (wrong_struct_field hs space ms at f) s
+array_stops hs space ms at f s p h = stops_next _ _ s p (stops_first _ _ s h)
+
+pub items_known : (ms : List (Option Measure)) (count : Option ℕ) (b : Base) (m : Measure) → measure_among ms b ≡ Some m → items_among ms count b ≡ Some (measure_of_items count m)
+items_known ms count b m a = ap (option_map (measure_of_items count)) a
+
+pub measure_known : (hs : List HeadV) (space : SpaceV) (ms : List (Option Measure)) (f : Field) (b : Base) (count : Option ℕ) (m : Measure) → type_named hs space (kind_of f.kind) ≡ Some (record { vector = false; base = b }) → count_said (kind_of f.kind) ≡ Some count → measure_among ms b ≡ Some m → field_measure hs space ms f ≡ Some (measure_of_items count m)
+measure_known hs space ms f b count m t c a =
+    ap (λ n. measure_in_type ms n (type_named hs space (kind_of f.kind))) (count_known f count c)
+    ∙ ap (measure_in_type ms count) t ∙ items_known ms count b m a
 
 pub ends_within : (at end left : ℕ) (o : Option Measure) (m : Measure) → o ≡ Some m → end ≡ end_of at (Some m) → end ≤ 65535 → when (not (nat_le (end_of at o) 65535)) problem.StructTooLarge left ≡ None
 ends_within at end left o m e is h =

@@ -12,7 +12,7 @@ use Rattle.planus_resolve.specs.Wrong.{Broken, when, first, Stops, wrong_kind}
 use Rattle.planus_resolve.specs.declared.fault.Stop.{Stop}
 use Rattle.planus_resolve.specs.declared.fault.Stop.TheVariants as stop
 use Rattle.planus_resolve.proofs.FaultLemmas.{skip, passes, stops_first, stops_next, stops_now}
-use Rattle.planus_resolve.specs.WrongTables.{wrong_slot, wrong_default, wrong_nested, wrong_law, wrong_typed, field_type, field_slot, slots_at, slots_from, wrong_field, wrong_fields, names_in, are_among}
+use Rattle.planus_resolve.specs.WrongTables.{wrong_field_type, wrong_slot, wrong_default, wrong_nested, wrong_law, wrong_typed, field_type, field_slot, slots_at, slots_from, wrong_field, wrong_fields, names_in, are_among}
 use Rattle.planus_schema.specs.Slots.{slots_of, slots_taken}
 use Rattle.std.proofs.lemmas.List.{append-nil}
 use Rattle.std.proofs.lemmas.List.Folds.{list_all-append}
@@ -103,8 +103,8 @@ nothing_wrong hs space ids next key names d ds all f names' key' next' h a b n k
 pub names_are : (f : TableField) (d : Field) (t : FieldType) → f.kind ≡ t → f.name.items ≡ d.name.items → names_taken f ≡ names_in t d
 names_are f d t k n = ap (λ u. names_for u f.name.items) k ∙ ap (names_for t) n
 
-pub typed_is : (hs : List HeadV) (space : SpaceV) (ids : Bool) (next : ℕ) (f : Field) (t : FieldType) → wrong_kind expected.AnyType hs space f.kind ≡ None → type_named hs space (kind_of f.kind) ≡ Some t → wrong_field hs space ids next f ≡ wrong_typed hs space ids next f (Some t)
-typed_is hs space ids next f t k n = skip (wrong_kind expected.AnyType hs space f.kind) _ k ∙ ap (wrong_typed hs space ids next f) n
+pub typed_is : (hs : List HeadV) (space : SpaceV) (ids : Bool) (next : ℕ) (f : Field) (t : FieldType) → wrong_field_type hs space f ≡ None → type_named hs space (kind_of f.kind) ≡ Some t → wrong_field hs space ids next f ≡ wrong_typed hs space ids next f (Some t)
+typed_is hs space ids next f t k n = skip (wrong_field_type hs space f) _ k ∙ ap (wrong_typed hs space ids next f) n
 
 abbrev pub field_law : FieldType → Field → Option Broken
 field_law t f = wrong_law (is_required t (field_of f)) (has (codes "key") (field_of f).attributes) (has (codes "nested_flatbuffer") (field_of f).attributes) t f.left

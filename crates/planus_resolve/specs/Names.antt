@@ -4,7 +4,7 @@ use Rattle.std.specs.Prelude.{List, [], ◌∷◌, ◌++◌, length, take, fold,
 use Rattle.std.specs.Prelude.{Some, None, codes, slice_get, nat_lt, not, ◌&&◌, ◌||◌}
 use denote.Ref.{Bor}
 use Rattle.std.specs.Str.{bytes_eq}
-use Rattle.planus_syntax.specs.Values.{Name, PathV, KindV, single, vector}
+use Rattle.planus_syntax.specs.Values.{Name, PathV, KindV, single, vector, array}
 use Rattle.planus_syntax.specs.Values.{AttributeV, ItemV, include, namespace, attribute, table}
 use Rattle.planus_syntax.specs.Values.{native_include}
 use Rattle.planus_syntax.specs.Values.{struct}
@@ -315,11 +315,19 @@ table_in (Some (base.Struct i)) = None
 table_in (Some (base.Table i)) = Some i
 table_in (Some (base.Union i)) = None
 
+-- of an array, the type of its items
 abbrev pub type_named : List HeadV → SpaceV → KindV → Option FieldType
 type_named hs space (single p) =
     option_map (λ b. record { vector = false; base = b }) (base_named hs space p)
 type_named hs space (vector p) =
     option_map (λ b. record { vector = true; base = b }) (base_named hs space p)
+type_named hs space (array p w) =
+    option_map (λ b. record { vector = false; base = b }) (base_named hs space p)
+
+abbrev pub is_array : KindV → Bool
+is_array (single p) = false
+is_array (vector p) = false
+is_array (array p w) = true
 
 -- ---- attributes
 

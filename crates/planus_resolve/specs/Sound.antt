@@ -1,5 +1,5 @@
 -- What a schema is, whatever it was read from.
-use Rattle.std.specs.Prelude.{◌≡◌, ℕ, ◌+◌, ◌<◌, true, List, [], ◌∷◌, map, Option, Some, None}
+use Rattle.std.specs.Prelude.{◌≡◌, ℕ, ◌+◌, ◌*◌, ◌<◌, ◌≤◌, true, List, [], ◌∷◌, map, Option, Some, None}
 use Rattle.std.specs.Prelude.{slice_get}
 use Rattle.std.specs.List.{AllByRecursion}
 use Rattle.std.specs.Option.{option_map}
@@ -14,9 +14,11 @@ use Rattle.planus_schema.specs.declared.schema.Table.{Table}
 use Rattle.planus_schema.specs.declared.schema.TableField.{TableField}
 use Rattle.planus_schema.specs.declared.schema.Union.{Union}
 use Rattle.planus_schema.specs.declared.schema.Schema.{Schema}
+use Rattle.planus_schema.specs.declared.measure.Measure.{Measure}
 use Rattle.planus_schema.specs.Distinct.{AreDistinct}
 use Rattle.planus_resolve.specs.Defaults.{value_of, is_default}
 use Rattle.planus_schema.specs.Layouts.{measure_in, body_in}
+use Rattle.planus_resolve.specs.Structs.{items_in}
 use Rattle.planus_resolve.specs.Schemas.{IsBody, IsFour, said_of}
 
 abbrev pub IsTableAt : List Body → ℕ → Type 0
@@ -50,11 +52,19 @@ IsBelow n (base.Struct i) = i < n
 IsBelow n (base.Table i) = ⊥
 IsBelow n (base.Union i) = ⊥
 
+abbrev pub IsCount : Option ℕ → Type 0
+IsCount None = Unit {0}
+IsCount (Some n) = (1 ≤ n) × (n ≤ 65535)
+
 -- a field of the struct that is declaration n: its type is declared before, so no struct is in
--- itself
+-- itself, and its size is that of its items
 pub record RefersBefore (bs : List Body) (n : ℕ) (f : StructField) : Type 0 where
   pub below : IsBelow n f.base
-  pub measure : measure_in bs f.base ≡ Some (record { size = f.size; alignment = f.alignment })
+  pub item : Measure
+  pub measure : measure_in bs f.base ≡ Some item
+  pub count : IsCount f.count
+  pub size : f.size ≡ items_in f.count * item.size
+  pub alignment : f.alignment ≡ item.alignment
 
 abbrev pub RefersBody : List Body → ℕ → Body → Type 0
 RefersBody bs n (body.Table t) = AllByRecursion (RefersField bs) t.fields.items

@@ -14,7 +14,7 @@ use Rattle.planus_schema.specs.declared.schema.FieldType.{FieldType}
 use Rattle.planus_schema.specs.declared.schema.Table.{Table}
 use Rattle.planus_schema.specs.declared.schema.TableField.{TableField}
 use Rattle.planus_resolve.specs.Names.{HeadV, SpaceV, type_named, setting, has, found, base_found, is_set}
-use Rattle.planus_resolve.specs.Names.{as_record}
+use Rattle.planus_resolve.specs.Names.{as_record, is_array}
 use Rattle.planus_schema.specs.Slots.{is_union, slots_taken, AreSlots, Follow}
 use Rattle.planus_schema.specs.Distinct.{AreDistinct, Each2}
 use Rattle.planus_resolve.specs.Structs.{number_in}
@@ -127,6 +127,7 @@ pub record SaysField (hs : List HeadV) (space : SpaceV) (ids : Bool) (d : FieldV
   pub name : f.name.items ≡ d.name
   pub docs : names_of f.docs.items ≡ d.docs
   pub kind : type_named hs space d.kind ≡ Some f.kind
+  pub array : is_array d.kind ≡ false
   pub id : ids ≡ true → id_said d ≡ Some f.slot
   pub default : default_said hs f.kind d.default ≡ Some (option_map value_of f.default)
   pub required : f.required ≡ is_required f.kind d

@@ -52,6 +52,7 @@ wrong_base e hs w space p =
 abbrev pub path_in_kind : Kind → Path
 path_in_kind (kind.Single p) = p
 path_in_kind (kind.Vector p) = p
+path_in_kind (kind.Array p w) = p
 
 abbrev pub wrong_kind : Expected → List HeadV → SpaceV → Kind → Option Broken
 wrong_kind e hs space k = wrong_base e hs as_type space (path_in_kind k)

@@ -1,5 +1,5 @@
 -- Faults of structs.
-use Rattle.std.specs.Prelude.{ℕ, ◌+◌, ◌-◌, max, Bool, true, false, ◌&&◌, ◌||◌, not, nat_le, nat_lt}
+use Rattle.std.specs.Prelude.{ℕ, ◌+◌, ◌*◌, ◌-◌, max, Bool, true, false, ◌&&◌, ◌||◌, not, nat_le, nat_lt}
 use Rattle.std.specs.Prelude.{codes}
 use Rattle.std.specs.Prelude.{if◌then◌else◌, List, [], ◌∷◌, ◌++◌, map, Option, Some, None}
 use Rattle.std.specs.Prelude.{slice_get}
@@ -7,19 +7,23 @@ use Rattle.std.specs.Option.{option_map}
 use Rattle.planus_syntax.specs.Values.{Name, kind_of, attribute_of, literal_of}
 use Rattle.planus_syntax.specs.declared.value.Attribute.{Attribute}
 use Rattle.planus_syntax.specs.declared.value.Field.{Field}
+use Rattle.planus_syntax.specs.declared.value.Kind.{Kind}
+use Rattle.planus_syntax.specs.declared.value.Kind.TheVariants as kind
 use Rattle.planus_syntax.specs.declared.value.Record.{Record}
 use Rattle.planus_schema.specs.declared.schema.Base.{Base}
 use Rattle.planus_schema.specs.declared.schema.Base.TheVariants as base
 use Rattle.planus_schema.specs.declared.schema.Declared.{Declared}
 use Rattle.planus_schema.specs.declared.schema.FieldType.{FieldType}
 use Rattle.planus_schema.specs.declared.measure.Measure.{Measure}
-use Rattle.planus_schema.specs.Numbers.{scalar_size}
+use Rattle.planus_schema.specs.Numbers.{scalar_size, integer_said}
 use Rattle.planus_schema.specs.Distinct.{is_in}
 use Rattle.planus_schema.specs.Layouts.{next_multiple, is_alignment, measure_of_body}
 use Rattle.planus_resolve.specs.declared.expected.Expected.TheVariants as expected
 use Rattle.planus_resolve.specs.declared.fault.Problem.TheVariants as problem
 use Rattle.planus_resolve.specs.Names.{HeadV, SpaceV, type_named, has, setting, attribute_named}
+use Rattle.planus_resolve.specs.Names.{is_set}
 use Rattle.planus_resolve.specs.Structs.{number_in, alignment_said, is_zero_default}
+use Rattle.planus_resolve.specs.Structs.{natural_of, count_in, count_said, items_in}
 use Rattle.planus_resolve.specs.Tables.{at_most}
 use Rattle.planus_resolve.specs.Wrong.{Broken, broken, when, first, wrong_kind}
 
@@ -81,23 +85,53 @@ wrong_plain hs space f =
     (first (wrong_kind (expected.InStruct (space.begun - 1)) hs space f.kind)
     (wrong_single hs f (type_named hs space (kind_of f.kind))))
 
-abbrev pub wrong_type : List (Option Measure) → ℕ → ℕ → Option FieldType → Option Broken
-wrong_type ms at left None = None
-wrong_type ms at left (Some t) = first (wrong_measure t.base left (measure_among ms t.base))
-    (when (not (nat_le (end_of at (measure_among ms t.base)) 65535)) problem.StructTooLarge left)
+-- its number of items, and a default or a key, which an array can't have
+abbrev pub wrong_array : Field → Kind → Option Broken
+wrong_array f (kind.Single p) = None
+wrong_array f (kind.Vector p) = None
+wrong_array f (kind.Array p w) =
+    first (when (not (is_set (count_in (natural_of (integer_said w.items))))) problem.ArrayCount f.left)
+    (first (when (is_set f.default) problem.DefaultInStruct f.left)
+    (when (has (codes "key") (map attribute_of f.attributes.items)) problem.WrongKey f.left))
+
+-- the number of an array's items, if it is known
+abbrev pub count_or_none : Option (Option ℕ) → Option ℕ
+count_or_none None = None
+count_or_none (Some count) = count
+
+abbrev pub known_count : Field → Option ℕ
+known_count f = count_or_none (count_said (kind_of f.kind))
+
+-- all items together
+abbrev pub measure_of_items : Option ℕ → Measure → Measure
+measure_of_items count m =
+    record { size = items_in count * m.size; alignment = m.alignment }
+
+abbrev pub items_among : List (Option Measure) → Option ℕ → Base → Option Measure
+items_among ms count b = option_map (measure_of_items count) (measure_among ms b)
+
+abbrev pub wrong_type : List (Option Measure) → Option ℕ → ℕ → ℕ → Option FieldType
+    → Option Broken
+wrong_type ms count at left None = None
+wrong_type ms count at left (Some t) = first (wrong_measure t.base left (measure_among ms t.base))
+    (when (not (nat_le (end_of at (items_among ms count t.base)) 65535)) problem.StructTooLarge
+    left)
 
 -- a field after byte `at`
 abbrev pub wrong_struct_field : List HeadV → SpaceV → List (Option Measure) → ℕ → Field
     → Option Broken
 wrong_struct_field hs space ms at f =
-    first (wrong_plain hs space f) (wrong_type ms at f.left (type_named hs space (kind_of f.kind)))
+    first (wrong_plain hs space f) (first (wrong_array f f.kind)
+    (wrong_type ms (known_count f) at f.left (type_named hs space (kind_of f.kind))))
 
-abbrev pub measure_in_type : List (Option Measure) → Option FieldType → Option Measure
-measure_in_type ms None = None
-measure_in_type ms (Some t) = measure_among ms t.base
+abbrev pub measure_in_type : List (Option Measure) → Option ℕ → Option FieldType
+    → Option Measure
+measure_in_type ms count None = None
+measure_in_type ms count (Some t) = items_among ms count t.base
 
 abbrev pub field_measure : List HeadV → SpaceV → List (Option Measure) → Field → Option Measure
-field_measure hs space ms f = measure_in_type ms (type_named hs space (kind_of f.kind))
+field_measure hs space ms f =
+    measure_in_type ms (known_count f) (type_named hs space (kind_of f.kind))
 
 -- the fields after byte `at` and after those of these names
 abbrev pub wrong_struct_fields : List HeadV → SpaceV → List (Option Measure) → ℕ → List Name

@@ -14,7 +14,8 @@ use Rattle.planus_schema.specs.Slots.{is_union, width, are_whole, slot_said}
 use Rattle.planus_schema.specs.Distinct.{is_in}
 use Rattle.planus_resolve.specs.declared.expected.Expected.TheVariants as expected
 use Rattle.planus_resolve.specs.declared.fault.Problem.TheVariants as problem
-use Rattle.planus_resolve.specs.Names.{HeadV, SpaceV, type_named, has, is_set, attribute_named, table_in}
+use Rattle.planus_resolve.specs.Names.{HeadV, SpaceV, type_named, is_array, has, is_set}
+use Rattle.planus_resolve.specs.Names.{attribute_named, table_in}
 use Rattle.planus_resolve.specs.Tables.{has_ids, id_said, nested_name, table_found, is_required}
 use Rattle.planus_resolve.specs.Tables.{names_for, is_number, may_be_key, is_bytes}
 use Rattle.planus_resolve.specs.Defaults.{default_said}
@@ -73,9 +74,15 @@ wrong_typed hs space ids next f (Some t) =
     (wrong_law (is_required t (field_of f)) (has (codes "key") (field_of f).attributes)
     (has (codes "nested_flatbuffer") (field_of f).attributes) t f.left)))
 
+-- an array, or a name that means no type
+abbrev pub wrong_field_type : List HeadV → SpaceV → Field → Option Broken
+wrong_field_type hs space f =
+    first (when (is_array (kind_of f.kind)) problem.ArrayInTable f.left)
+    (wrong_kind expected.AnyType hs space f.kind)
+
 -- its type, slot and default, the nested buffer, and what it may be
 abbrev pub wrong_field : List HeadV → SpaceV → Bool → ℕ → Field → Option Broken
-wrong_field hs space ids next f = first (wrong_kind expected.AnyType hs space f.kind)
+wrong_field hs space ids next f = first (wrong_field_type hs space f)
     (wrong_typed hs space ids next f (type_named hs space (kind_of f.kind)))
 
 abbrev pub field_type : List HeadV → SpaceV → Field → FieldType

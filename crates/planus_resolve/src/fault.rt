@@ -36,7 +36,11 @@ pub enum Problem {
     NoStructField,
     /// A struct or an enum in a struct is declared after it, or is the struct itself.
     DeclaredLater,
-    /// A field of a struct has a default other than zero.
+    /// The number of an array's items is no integer from 1 to 65535.
+    ArrayCount,
+    /// A field of a table is an array.
+    ArrayInTable,
+    /// A field of a struct has a default other than zero, or an array has one.
     DefaultInStruct,
     /// A field of a struct is `required` or `deprecated`.
     AttributeInStruct,

@@ -8,7 +8,7 @@ ghost use Rattle.planus_resolve.specs.Names.{used_as};
 ghost use Rattle.planus_resolve.specs.Names.{head_of, plain_base as plain_base_lem};
 ghost use Rattle.planus_resolve.specs.Names.{base_of_head};
 ghost use Rattle.planus_resolve.specs.Wrong.{Tells, wrong_base, wrong_kind, wrong_table};
-ghost use Rattle.planus_resolve.specs.Names.{base_as, type_named, item_at};
+ghost use Rattle.planus_resolve.specs.Names.{base_as, type_named, item_at, is_array as is_array_lem};
 
 use crate::expected::Expected;
 use crate::fault::{Problem, Stop, or_return, wrong};
@@ -83,6 +83,16 @@ fn base_of(scope: &Scope, wanted: Wanted, path: &Path, expected: Expected) -> Re
     }
 }
 
+pub(crate) fn is_array(kind: &Kind) -> bool
+    ensures { result ≡ is_array_lem (kind_of kind.now) }
+{
+    match kind {
+        Kind::Array(_, _) => true,
+        _ => false,
+    }
+}
+
+/// Returns the type of a field, and of an array that of its items.
 pub(crate) fn type_of(scope: &Scope, kind: &Kind, expected: Expected) -> Result<FieldType, Stop>
     ensures named { IfOk result (λ t. type_named (scope_heads scope.now)
         (scope_space scope.now) (kind_of kind.now) ≡ Some t) }
@@ -92,6 +102,7 @@ pub(crate) fn type_of(scope: &Scope, kind: &Kind, expected: Expected) -> Result<
     let (vector, path) = match kind {
         Kind::Single(path) => (false, path),
         Kind::Vector(path) => (true, path),
+        Kind::Array(path, _) => (false, path),
     };
     let base = or_return!(base_of(scope, Wanted::AnyType, path, expected));
     Ok(FieldType { vector, base })

@@ -1,6 +1,6 @@
 //! The places of a struct's fields.
 
-ghost use Rattle.std.specs.Prelude.{◌≡◌, ◌≤◌, ◌<◌, ◌+◌, true, false, map, IfOk, Some};
+ghost use Rattle.std.specs.Prelude.{◌≡◌, ◌≤◌, ◌<◌, ◌+◌, true, false, map, IfOk, Some, None};
 ghost use Rattle.std.specs.Prelude.{[], codes, not};
 ghost use Rattle.std.specs.Option.{option_map};
 ghost use Rattle.planus_syntax.specs.Values.{field_of, attribute_of, literal_of};
@@ -8,17 +8,20 @@ ghost use Rattle.planus_resolve.specs.inner.Read.{IsMeasureRead, IsStructFieldRe
 ghost use Rattle.planus_resolve.specs.inner.Read.{IsLayoutRead, IsStructRead};
 ghost use Rattle.planus_resolve.specs.inner.Scopes.{scope_heads, scope_space, HasIntegers};
 ghost use Rattle.planus_resolve.specs.Names.{type_named, setting as setting_lem};
+ghost use Rattle.planus_resolve.specs.Names.{is_array, has as has_lem};
 ghost use Rattle.planus_schema.specs.Layouts.{is_alignment as is_alignment_lem};
 ghost use Rattle.planus_resolve.specs.Defaults.{value_of, some_default};
 ghost use Rattle.planus_resolve.specs.Structs.{is_plain, is_zero_said, is_zero_default};
 ghost use Rattle.planus_resolve.specs.Structs.{alignment_said, natural_of, number_in};
+ghost use Rattle.planus_resolve.specs.Structs.{count_said, items_in as items_in_lem};
 ghost use Rattle.planus_schema.specs.Numbers.{integer_said};
 ghost use Rattle.planus_resolve.specs.Names.{attribute_named};
 ghost use Rattle.planus_resolve.specs.Wrong.{Tells, when};
 ghost use Rattle.planus_resolve.specs.WrongStructs.{wrong_plain, wrong_measure, wrong_struct};
 ghost use Rattle.planus_resolve.specs.WrongStructs.{wrong_struct_field, wrong_struct_fields};
 ghost use Rattle.planus_resolve.specs.WrongStructs.{measure_among, measures_of};
-ghost use Rattle.planus_resolve.specs.WrongStructs.{wrong_alignment};
+ghost use Rattle.planus_resolve.specs.WrongStructs.{measure_of_items as measure_of_items_lem};
+ghost use Rattle.planus_resolve.specs.WrongStructs.{wrong_alignment, wrong_array};
 
 use crate::attributes::{has, setting};
 use crate::defaults::literal_default;
@@ -31,7 +34,7 @@ use planus_schema::{
     Base, Declared, FieldType, Layout, Measure, Struct, StructField, Value, greater, integer,
     is_alignment, measure_of, next_multiple,
 };
-use planus_syntax::{Attribute, Field, Literal, Record, between_quotes, is_number};
+use planus_syntax::{Attribute, Field, Kind, Literal, Record, between_quotes, is_number};
 use std::collections::BTreeMap;
 
 fn is_zero(value: &Option<Value>) -> bool
@@ -114,6 +117,54 @@ fn measure_in_struct(bodies: &[Declared], base: Base, left: usize) -> Result<Mea
     }
 }
 
+/// Returns the number of an array's items, which has no default and is no key.
+fn count_in_struct(field: &Field) -> Result<Option<usize>, Stop>
+    ensures count { IfOk result (λ c. count_said (field_of field.now).kind ≡ Some c) }
+    ensures default { IfOk result (λ _. is_array (field_of field.now).kind ≡ true
+        → (field_of field.now).default ≡ None) }
+    ensures key { IfOk result (λ _. is_array (field_of field.now).kind ≡ true
+        → has_lem (codes "key") (field_of field.now).attributes ≡ false) }
+    ensures small { IfOk result (λ c. items_in_lem c ≤ 65535) }
+    ensures wrong { Tells (wrong_array field.now field.now.kind) result }
+{
+    let Kind::Array(_, digits) = &field.kind else {
+        return Ok(None);
+    };
+    let count = match natural(digits) {
+        Some(number) if 1 <= number && number <= 65535 => number as usize,
+        _ => return Err(wrong(Problem::ArrayCount, field.left)),
+    };
+    if field.default.is_some() {
+        return Err(wrong(Problem::DefaultInStruct, field.left));
+    }
+    if has(&field.attributes, b"key") {
+        return Err(wrong(Problem::WrongKey, field.left));
+    }
+    Ok(Some(count))
+}
+
+fn items_in(count: Option<usize>) -> usize
+    ensures { result ≡ items_in_lem count }
+{
+    match count {
+        Some(count) => count,
+        None => 1,
+    }
+}
+
+/// Returns the size and alignment of all items together.
+fn measure_of_items(count: Option<usize>, item: Measure) -> Measure
+    requires count { items_in_lem count ≤ 65535 }
+    requires size { item.size ≤ 65535 }
+    ensures measure { result ≡ measure_of_items_lem count item }
+    ensures fits { result.size ≤ 4294836225 }
+{
+    Measure {
+        size: items_in(count) * item.size,
+        alignment: item.alignment,
+    }
+}
+
 fn struct_field(
     scope: &Scope,
     bodies: &[Declared],
@@ -128,7 +179,9 @@ fn struct_field(
         (measures_of bodies.now) at field.now) result }
 {
     let base = or_return!(base_in_struct(scope, field));
-    let measure = or_return!(measure_in_struct(bodies, base, field.left));
+    let count = or_return!(count_in_struct(field));
+    let item = or_return!(measure_in_struct(bodies, base, field.left));
+    let measure = measure_of_items(count, item);
     let distance = next_multiple(at, measure.alignment);
     if distance + measure.size > 65535 {
         return Err(wrong(Problem::StructTooLarge, field.left));
@@ -139,6 +192,7 @@ fn struct_field(
         name,
         docs,
         base,
+        count,
         distance,
         size: measure.size,
         alignment: measure.alignment,

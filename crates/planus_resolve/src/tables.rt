@@ -3,10 +3,12 @@
 ghost use Rattle.std.specs.Prelude.{◌≡◌, ◌≤◌, ◌+◌, ◌∷◌, [], true, false, not, ◌&&◌, ◌||◌, map};
 ghost use Rattle.std.specs.Prelude.{IfOk, List, Some, codes, ◌++◌};
 ghost use Rattle.planus_syntax.specs.Values.{names_of, field_of, record_of, attribute_of};
+ghost use Rattle.planus_syntax.specs.Values.{kind_of};
 ghost use Rattle.planus_resolve.specs.inner.Read.{IsFieldRead, AreFieldsRead, AreNamesRead};
 ghost use Rattle.planus_resolve.specs.inner.Scopes.{scope_heads, scope_space, HasIntegers};
 ghost use Rattle.planus_resolve.specs.Names.{setting as setting_lem, base_found};
 ghost use Rattle.planus_resolve.specs.Names.{found as found_lem, as_record};
+ghost use Rattle.planus_resolve.specs.Names.{type_named, is_array as is_array_lem};
 ghost use Rattle.planus_resolve.specs.Tables.{NestedIs};
 ghost use Rattle.planus_resolve.specs.Tables.{is_required as is_required_lem};
 ghost use Rattle.planus_resolve.specs.Tables.{is_number as is_number_lem};
@@ -21,13 +23,14 @@ ghost use Rattle.planus_resolve.specs.Names.{has as has_lem, is_set, table_in, a
 ghost use Rattle.planus_resolve.specs.Tables.{table_found};
 ghost use Rattle.planus_resolve.specs.Wrong.{Tells, first, when};
 ghost use Rattle.planus_resolve.specs.WrongTables.{wrong_law, wrong_nested, wrong_field};
+ghost use Rattle.planus_resolve.specs.WrongTables.{wrong_field_type};
 ghost use Rattle.planus_resolve.specs.WrongTables.{wrong_fields, wrong_table_body, are_among};
 
 use crate::attributes::{has, setting};
 use crate::defaults::default_of;
 use crate::expected::Expected;
 use crate::fault::{Problem, Stop, or_return, wrong};
-use crate::kind::{head_base, type_of};
+use crate::kind::{head_base, is_array, type_of};
 use crate::lookup::{Wanted, found};
 use crate::names::{copied, take_key};
 use crate::scope::Scope;
@@ -132,6 +135,20 @@ fn nested_of(scope: &Scope, attributes: &[Attribute]) -> Result<Option<usize>, S
     }
 }
 
+/// Returns the type of a field, which is no array.
+fn field_type(scope: &Scope, field: &Field) -> Result<FieldType, Stop>
+    ensures named { IfOk result (λ t. type_named (scope_heads scope.now) (scope_space scope.now)
+        (kind_of field.now.kind) ≡ Some t) }
+    ensures array { IfOk result (λ _. is_array_lem (kind_of field.now.kind) ≡ false) }
+    ensures wrong { Tells (wrong_field_type (scope_heads scope.now) (scope_space scope.now)
+        field.now) result }
+{
+    if is_array(&field.kind) {
+        return Err(wrong(Problem::ArrayInTable, field.left));
+    }
+    type_of(scope, &field.kind, Expected::AnyType)
+}
+
 fn table_field(scope: &Scope, field: &Field, ids: bool, next: usize) -> Result<TableField, Stop>
     requires next { next ≤ 65535 }
     requires integers { HasIntegers scope.now }
@@ -141,7 +158,7 @@ fn table_field(scope: &Scope, field: &Field, ids: bool, next: usize) -> Result<T
         field.now) result }
 {
     let attributes = field.attributes.as_slice();
-    let kind = or_return!(type_of(scope, &field.kind, Expected::AnyType));
+    let kind = or_return!(field_type(scope, field));
     let slot = or_return!(field_slot(field, kind, ids, next));
     let default = or_return!(default_of(
         scope.alloc,

@@ -105,6 +105,7 @@ fn put_field<'a>(
     let path = match &field.kind {
         Kind::Single(path) => path,
         Kind::Vector(path) => path,
+        Kind::Array(path, _) => path,
     };
     or_return!(put_path(out, spot, Wanted::AnyType, path));
     put_nested(out, spot, &field.attributes)

@@ -41,6 +41,7 @@ returns-clause-read c = record {
     name = c.in-Ok-from_slice.ensures.items ∙ c.deref.ensures.value;
     docs = c.in-Ok-copied.ensures ∙ ap names_of c.deref-2.ensures.value;
     kind = c.in-Ok.ensures.named;
+    array = c.in-Ok.ensures.array;
     id = c.in-Ok-field_slot.ensures.id;
     default = c.in-Ok-default_of.ensures.value;
     required = c.is_required-required.ensures;
