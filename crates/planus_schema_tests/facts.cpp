@@ -14,9 +14,12 @@ static const char *const scalars[] = {
     "none", "utype", "bool", "byte", "ubyte", "short", "ushort", "int",
     "uint", "long", "ulong", "float", "double", "string"};
 
-// The name of a type, whose base is given apart since it may be that of a vector's items.
+// The name of a type, whose base is given apart since it may be that of a vector's or array's items.
 static std::string name_of(const Schema *schema, const Type *type, BaseType base) {
   if (base == Vector) return "[" + name_of(schema, type, type->element()) + "]";
+  if (base == Array)
+    return "[" + name_of(schema, type, type->element()) + ":" +
+           std::to_string(type->fixed_length()) + "]";
   if (base == UType) return "ubyte";
   if (base == Obj) return schema->objects()->Get(type->index())->name()->str();
   if (type->index() >= 0) return schema->enums()->Get(type->index())->name()->str();

@@ -1,4 +1,5 @@
-//! The facts of a schema, as `facts.cpp` prints them: `T.x slot 3`, `T.x of [int]`, `P size 12`.
+//! The facts of a schema, as `facts.cpp` prints them: `T.x slot 3`, `T.x of [int]`, `P.x of [int:3]`,
+//! `P size 12`.
 
 use planus_resolve::{
     Base, Body, Declared, EnumValue, FieldType, Number, Scalar, Schema, StructField, TableField,
@@ -139,11 +140,23 @@ fn table_says(schema: &Schema, field: &TableField, name: &[u8], fact: &Fact<'_>)
         && type_field_says(field, fact)
 }
 
+/// Returns whether this is the type of a field of a struct, as `int` and `[int:3]`.
+fn is_struct_type(schema: &Schema, field: &StructField, said: &str) -> bool {
+    let Some(count) = field.count else {
+        return is_base(schema, field.base, said.as_bytes());
+    };
+    let Some((item, number)) = said.split_once(':') else {
+        return false;
+    };
+    matches!(item.as_bytes(), [b'[', item @ ..] if is_base(schema, field.base, item))
+        && matches!(number.strip_suffix(']'), Some(number) if is_size(count, number))
+}
+
 fn struct_says(schema: &Schema, field: &StructField, name: &[u8], fact: &Fact<'_>) -> bool {
     field.name.as_slice() == name
         && match fact.word {
             "at" => is_size(field.distance, fact.said),
-            "of" => is_base(schema, field.base, fact.said.as_bytes()),
+            "of" => is_struct_type(schema, field, fact.said),
             _ => false,
         }
 }

@@ -80,7 +80,27 @@ struct A { a: long; b: long; c: long; d: long; } struct B { a: A; b: A; c: A; d:
     C.x of byte
 
 table T { p: P; } struct P { x: int; }
-=> P size 4; P align 4; P.x at 0; P.x of int; T.p slot 0; T.p of P";
+=> P size 4; P align 4; P.x at 0; P.x of int; T.p slot 0; T.p of P
+
+struct P { a: byte; b: [ushort:3]; c: byte; }
+=> P size 10; P align 2; P.a at 0; P.a of byte; P.b at 2; P.b of [ushort:3]; P.c at 8; P.c of byte
+
+struct A { x: byte; y: short; } struct P { a: [A:2]; b: [ulong:0x10]; c: [byte:+3]; d: \
+    [double:01]; }
+=> A size 4; A align 2; A.x at 0; A.x of byte; A.y at 2; A.y of short; P size 152; P align 8; P.a \
+    at 0; P.a of [A:2]; P.b at 8; P.b of [ulong:16]; P.c at 136; P.c of [byte:3]; P.d at 144; P.d \
+    of [double:1]
+
+enum E: ushort { A, B } struct P { a: bool; e: [E:5]; v: [bool:3]; } table T { p: P; q: [P]; }
+=> P size 16; P align 2; P.a at 0; P.a of bool; P.e at 2; P.e of [E:5]; P.v at 12; P.v of \
+    [bool:3]; T.p slot 0; T.p of P; T.q slot 1; T.q of [P]; E of ushort; E.A is 0; E.B is 1
+
+struct P { a: [ubyte:65535]; }
+=> P size 65535; P align 1; P.a at 0; P.a of [ubyte:65535]
+
+struct A (force_align: 16) { x: [float:3]; } struct P { a: [A:2]; b: [int:1]; }
+=> A size 16; A align 16; A.x at 0; A.x of [float:3]; P size 48; P align 16; P.a at 0; P.a of \
+    [A:2]; P.b at 32; P.b of [int:1]";
 
 /// Taken by both, with the facts: enums.
 pub const ENUMS: &str = "\
