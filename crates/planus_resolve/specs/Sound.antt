@@ -52,6 +52,7 @@ IsBelow n (base.Struct i) = i < n
 IsBelow n (base.Table i) = ⊥
 IsBelow n (base.Union i) = ⊥
 
+-- the number of an array's items, or none
 abbrev pub IsCount : Option ℕ → Type 0
 IsCount None = Unit {0}
 IsCount (Some n) = (1 ≤ n) × (n ≤ 65535)

@@ -49,6 +49,7 @@ natural_of (Some n) = if n.negative then None else Some n.magnitude
 abbrev pub is_count : ℕ → Bool
 is_count n = nat_le 1 n && nat_le n 65535
 
+-- the number, if an array can have so many items
 abbrev pub count_in : Option ℕ → Option (Option ℕ)
 count_in None = None
 count_in (Some n) = if is_count n then Some (Some n) else None

@@ -90,7 +90,8 @@ abbrev pub wrong_array : Field → Kind → Option Broken
 wrong_array f (kind.Single p) = None
 wrong_array f (kind.Vector p) = None
 wrong_array f (kind.Array p w) =
-    first (when (not (is_set (count_in (natural_of (integer_said w.items))))) problem.ArrayCount f.left)
+    first (when (not (is_set (count_in (natural_of (integer_said w.items))))) problem.ArrayCount
+    f.left)
     (first (when (is_set f.default) problem.DefaultInStruct f.left)
     (when (has (codes "key") (map attribute_of f.attributes.items)) problem.WrongKey f.left))
 

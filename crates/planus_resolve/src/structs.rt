@@ -117,7 +117,7 @@ fn measure_in_struct(bodies: &[Declared], base: Base, left: usize) -> Result<Mea
     }
 }
 
-/// Returns the number of an array's items, which has no default and is no key.
+/// Returns the number of items of a field that is an array: one without a default, and no key.
 fn count_in_struct(field: &Field) -> Result<Option<usize>, Stop>
     ensures count { IfOk result (λ c. count_said (field_of field.now).kind ≡ Some c) }
     ensures default { IfOk result (λ _. is_array (field_of field.now).kind ≡ true

@@ -7,7 +7,7 @@ use Rattle.std.specs.Str.{is_utf8}
 use Rattle.std.proofs.lemmas.Bool.{eqb-true}
 use Rattle.planus_syntax.specs.declared.layout.Place.{Place}
 use Rattle.planus_syntax.specs.Tokens.{Piece, word, number, text, doc, mark, begins, is_word_byte, is_number_start, is_number_byte, is_line_byte, is_blank, is_mark, is_lawful, bytes_of}
-use Rattle.planus_syntax.specs.Layout.{is_doc, is_mark_of, place_after, outside, is_tight, is_open, is_number_piece, is_glued, is_count, is_grouped, new_line, between_declarations, after_mark, spaced, apart, gap, gap_before, laid_out, printed}
+use Rattle.planus_syntax.specs.Layout.{is_doc, is_mark_of, place_after, outside, is_tight, is_open, is_number_piece, is_glued, is_count_piece, is_grouped, new_line, between_declarations, after_mark, spaced, apart, gap, gap_before, laid_out, printed}
 use Rattle.planus_syntax.specs.Strings.{start, is_quote, is_string, is_closed, string_step}
 use Rattle.planus_syntax.specs.Spelled.{Part, token, blank, goes_on, spelled, tokens_in, AreParts}
 use Rattle.planus_syntax.proofs.Marks.{one_of, never, neither, not_true}
@@ -69,7 +69,7 @@ apart_blank p (mark b) q = mark_blank p b q
 
 pub gap_blank : (p : Place) (a : Piece) (qs : List Piece) → IsBlank (gap_before p a qs)
 gap_blank p a [] = refl
-gap_blank p a (q ∷ qs) = either IsBlank (is_count p a q || is_glued a q) [] (apart p a q) refl (apart_blank p a q)
+gap_blank p a (q ∷ qs) = either IsBlank (is_count_piece p a q || is_glued a q) [] (apart p a q) refl (apart_blank p a q)
 
 abbrev pub Stops : (ℕ → Bool) → List ℕ → Type 0
 Stops p bs = begins p bs ≡ false
@@ -132,9 +132,9 @@ no_digit_first (doc w) rest h n = refl
 no_digit_first (mark b) rest h n = digit_mark b h
 
 -- what a point is glued to is no number
-glued_number : (p : Place) (m : ℕ) (q : Piece) → (m == 46) ≡ true → (is_count p (mark m) q || is_glued (mark m) q) ≡ true → is_number_piece q ≡ false
+glued_number : (p : Place) (m : ℕ) (q : Piece) → (m == 46) ≡ true → (is_count_piece p (mark m) q || is_glued (mark m) q) ≡ true → is_number_piece q ≡ false
 glued_number p m (word w) e g = refl
-glued_number p m (number w) e g = absurd (subst (λ b. (is_count p (mark b) (number w) || is_glued (mark b) (number w)) ≡ true → ⊥) (sym (eqb-true m 46 e)) (λ h. cc) g)
+glued_number p m (number w) e g = absurd (subst (λ b. (is_count_piece p (mark b) (number w) || is_glued (mark b) (number w)) ≡ true → ⊥) (sym (eqb-true m 46 e)) (λ h. cc) g)
 glued_number p m (text w) e g = refl
 glued_number p m (doc w) e g = refl
 glued_number p m (mark b) e g = refl
@@ -162,7 +162,7 @@ one_stops place (text w) q rest l = never (gap place (text w) q ++ (bytes_of q +
 one_stops place (doc w) q rest l = line_stops place q (bytes_of q ++ rest)
 one_stops place (mark m) q rest l =
     point_at m (m == 46) (gap place (mark m) q ++ (bytes_of q ++ rest)) refl (λ e.
-    gap_cases is_ascii_digit (is_count place (mark m) q || is_glued (mark m) q) (apart place (mark m) q) (bytes_of q ++ rest)
+    gap_cases is_ascii_digit (is_count_piece place (mark m) q || is_glued (mark m) q) (apart place (mark m) q) (bytes_of q ++ rest)
     (λ g. no_digit_first q rest l (glued_number place m q e g)) (mark_stops place m q (bytes_of q ++ rest)))
 
 -- nor does a line feed

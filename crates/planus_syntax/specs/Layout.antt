@@ -105,11 +105,11 @@ apart p (doc w) q = new_line p q
 apart p (mark b) q = after_mark p b q
 
 -- the number of an array's items: it follows a colon, and is in no parentheses
-abbrev pub is_count : Place → Piece → Piece → Bool
-is_count p a q = is_mark_of 58 a && (is_number_piece q && not p.parentheses)
+abbrev pub is_count_piece : Place → Piece → Piece → Bool
+is_count_piece p a q = is_mark_of 58 a && (is_number_piece q && not p.parentheses)
 
 abbrev pub gap : Place → Piece → Piece → List ℕ
-gap p a q = if is_count p a q || is_glued a q then [] else apart p a q
+gap p a q = if is_count_piece p a q || is_glued a q then [] else apart p a q
 
 -- between a token and the next; the text ends with a line feed
 abbrev pub gap_before : Place → Piece → List Piece → List ℕ

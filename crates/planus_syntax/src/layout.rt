@@ -10,7 +10,7 @@ ghost use Rattle.planus_syntax.specs.Layout.{is_grouped as is_grouped_lem, is_do
 ghost use Rattle.planus_syntax.specs.Layout.{new_line as new_line_lem, apart as apart_lem};
 ghost use Rattle.planus_syntax.specs.Layout.{between_declarations as between_declarations_lem};
 ghost use Rattle.planus_syntax.specs.Layout.{after_mark as after_mark_lem, spaced as spaced_lem};
-ghost use Rattle.planus_syntax.specs.Layout.{is_count as is_count_lem, gap as gap_lem};
+ghost use Rattle.planus_syntax.specs.Layout.{is_count_piece, gap as gap_lem};
 ghost use Rattle.std.specs.Option.{option_map};
 ghost use Rattle.planus_syntax.specs.Spelled.{Part, AreParts, spelled};
 ghost use Rattle.planus_syntax.specs.Comments.{canonical, canonical_after_feed, elements_of};
@@ -198,7 +198,7 @@ fn apart(place: Place, first: Lexeme<'_>, next: Lexeme<'_>) -> &'static [u8]
 
 /// Returns whether the second token is the number of an array's items, as in `[int:3]`.
 fn is_count(place: Place, first: Lexeme<'_>, second: Lexeme<'_>) -> bool
-    ensures { result ≡ is_count_lem place (cut_piece first.entry) (cut_piece second.entry) }
+    ensures { result ≡ is_count_piece place (cut_piece first.entry) (cut_piece second.entry) }
 {
     is_mark(first, b':') && is_number(second) && !place.parentheses
 }
