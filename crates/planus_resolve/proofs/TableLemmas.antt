@@ -5,10 +5,9 @@ use Rattle.std.specs.List.{list_all}
 use Rattle.planus_syntax.specs.Values.{Name, field_of, kind_of, attribute_of, names_of}
 use Rattle.planus_syntax.specs.declared.value.Attribute.{Attribute}
 use Rattle.planus_syntax.specs.declared.value.Field.{Field}
-use Rattle.planus_resolve.specs.declared.expected.Expected.TheVariants as expected
 use Rattle.planus_resolve.specs.declared.fault.Problem.TheVariants as problem
 use Rattle.planus_resolve.specs.Names.{HeadV, SpaceV, has, type_named, attribute_named}
-use Rattle.planus_resolve.specs.Wrong.{Broken, when, first, Stops, wrong_kind}
+use Rattle.planus_resolve.specs.Wrong.{Broken, when, first, Stops}
 use Rattle.planus_resolve.specs.declared.fault.Stop.{Stop}
 use Rattle.planus_resolve.specs.declared.fault.Stop.TheVariants as stop
 use Rattle.planus_resolve.proofs.FaultLemmas.{skip, passes, stops_first, stops_next, stops_now}

@@ -315,7 +315,7 @@ table_in (Some (base.Struct i)) = None
 table_in (Some (base.Table i)) = Some i
 table_in (Some (base.Union i)) = None
 
--- of an array, the type of its items
+-- for an array, the type of its items
 abbrev pub type_named : List HeadV → SpaceV → KindV → Option FieldType
 type_named hs space (single p) =
     option_map (λ b. record { vector = false; base = b }) (base_named hs space p)

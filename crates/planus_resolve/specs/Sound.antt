@@ -58,7 +58,7 @@ IsCount None = Unit {0}
 IsCount (Some n) = (1 ≤ n) × (n ≤ 65535)
 
 -- a field of the struct that is declaration n: its type is declared before, so no struct is in
--- itself, and its size is that of its items
+-- itself, and its size is the size of all its items
 pub record RefersBefore (bs : List Body) (n : ℕ) (f : StructField) : Type 0 where
   pub below : IsBelow n f.base
   pub item : Measure

@@ -45,11 +45,11 @@ abbrev pub natural_of : Option Number → Option ℕ
 natural_of None = None
 natural_of (Some n) = if n.negative then None else Some n.magnitude
 
--- from 1 to 65535
+-- an array has from 1 to 65535 items
 abbrev pub is_count : ℕ → Bool
 is_count n = nat_le 1 n && nat_le n 65535
 
--- the number, if an array can have so many items
+-- the number, if an array can have n items
 abbrev pub count_in : Option ℕ → Option (Option ℕ)
 count_in None = None
 count_in (Some n) = if is_count n then Some (Some n) else None
@@ -60,7 +60,7 @@ count_said (single p) = Some None
 count_said (vector p) = Some None
 count_said (array p w) = count_in (natural_of (integer_said w))
 
--- what isn't an array is one item
+-- a field that is no array is one item
 abbrev pub items_in : Option ℕ → ℕ
 items_in None = 1
 items_in (Some n) = n

@@ -85,7 +85,7 @@ wrong_plain hs space f =
     (first (wrong_kind (expected.InStruct (space.begun - 1)) hs space f.kind)
     (wrong_single hs f (type_named hs space (kind_of f.kind))))
 
--- its number of items, and a default or a key, which an array can't have
+-- an array with a wrong number of items, with a default, or as a key
 abbrev pub wrong_array : Field → Kind → Option Broken
 wrong_array f (kind.Single p) = None
 wrong_array f (kind.Vector p) = None
@@ -103,7 +103,7 @@ count_or_none (Some count) = count
 abbrev pub known_count : Field → Option ℕ
 known_count f = count_or_none (count_said (kind_of f.kind))
 
--- all items together
+-- the size of all items together
 abbrev pub measure_of_items : Option ℕ → Measure → Measure
 measure_of_items count m =
     record { size = items_in count * m.size; alignment = m.alignment }

@@ -92,7 +92,7 @@ pub(crate) fn is_array(kind: &Kind) -> bool
     }
 }
 
-/// Returns the type of a field, and of an array that of its items.
+/// Returns the type of a field; for an array, the type of its items.
 pub(crate) fn type_of(scope: &Scope, kind: &Kind, expected: Expected) -> Result<FieldType, Stop>
     ensures named { IfOk result (λ t. type_named (scope_heads scope.now)
         (scope_space scope.now) (kind_of kind.now) ≡ Some t) }

@@ -117,7 +117,7 @@ fn measure_in_struct(bodies: &[Declared], base: Base, left: usize) -> Result<Mea
     }
 }
 
-/// Returns the number of items of a field that is an array: one without a default, and no key.
+/// Returns the number of an array's items; fails if the array has a default or is a `key`.
 fn count_in_struct(field: &Field) -> Result<Option<usize>, Stop>
     ensures count { IfOk result (λ c. count_said (field_of field.now).kind ≡ Some c) }
     ensures default { IfOk result (λ _. is_array (field_of field.now).kind ≡ true
@@ -152,7 +152,7 @@ fn items_in(count: Option<usize>) -> usize
     }
 }
 
-/// Returns the size and alignment of all items together.
+/// Returns the size of all items together, and their alignment.
 fn measure_of_items(count: Option<usize>, item: Measure) -> Measure
     requires count { items_in_lem count ≤ 65535 }
     requires size { item.size ≤ 65535 }

@@ -7,7 +7,7 @@ use Rattle.std.specs.Str.{is_utf8}
 use Rattle.std.proofs.lemmas.Bool.{eqb-true}
 use Rattle.planus_syntax.specs.declared.layout.Place.{Place}
 use Rattle.planus_syntax.specs.Tokens.{Piece, word, number, text, doc, mark, begins, is_word_byte, is_number_start, is_number_byte, is_line_byte, is_blank, is_mark, is_lawful, bytes_of}
-use Rattle.planus_syntax.specs.Layout.{is_doc, is_mark_of, place_after, outside, is_tight, is_open, is_number_piece, is_glued, is_count_piece, is_grouped, new_line, between_declarations, after_mark, spaced, apart, gap, gap_before, laid_out, printed}
+use Rattle.planus_syntax.specs.Layout.{is_doc, is_mark_of, place_after, outside, is_tight, is_number_piece, is_glued, is_count_piece, is_grouped, new_line, between_declarations, after_mark, spaced, apart, gap, gap_before, laid_out, printed}
 use Rattle.planus_syntax.specs.Strings.{start, is_quote, is_string, is_closed, string_step}
 use Rattle.planus_syntax.specs.Spelled.{Part, token, blank, goes_on, spelled, tokens_in, AreParts}
 use Rattle.planus_syntax.proofs.Marks.{one_of, never, neither, not_true}

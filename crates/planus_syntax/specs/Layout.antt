@@ -104,7 +104,7 @@ apart p (text w) q = spaced q
 apart p (doc w) q = new_line p q
 apart p (mark b) q = after_mark p b q
 
--- the number of an array's items: it follows a colon, and is in no parentheses
+-- a number after a colon, outside parentheses: the number of an array's items
 abbrev pub is_count_piece : Place → Piece → Piece → Bool
 is_count_piece p a q = is_mark_of 58 a && (is_number_piece q && not p.parentheses)
 
