@@ -1,5 +1,5 @@
 -- A dump prints what readers of floats, enums, structs and nested buffers return.
-use Rattle.std.proofs.Common.{◌≡◌, ◌≢◌, ℕ, zero, suc, ℤ, pos, ◌+◌, ◌-◌, ◌*◌, ◌^◌, ◌<◌, ◌≤◌, List, [], ◌∷◌, ◌++◌, length, map, drop, take, refl, sym, ap, ◌∙◌, subst, arith, Bool, true, false, Option, Some, None, Result, Ok, Err, inl, inr, length-drop}
+use Rattle.std.proofs.Common.{◌≡◌, ℕ, zero, suc, ℤ, ◌+◌, ◌*◌, ◌^◌, ◌<◌, ◌≤◌, List, [], ◌∷◌, ◌++◌, length, map, drop, take, refl, sym, ap, ◌∙◌, subst, arith, Bool, true, false, Option, Some, None, Result, Ok, Err, inl, inr, length-drop}
 use Rattle.std.specs.Prelude.{nat_le, nat_eq, ◌==◌, ◌⊎◌, not, if◌then◌else◌, IsSome, String, from_bits, FitsSigned, slice_get}
 use Rattle.std.specs.Option.{option_map, option_and_then}
 use Rattle.std.specs.List.{AllByRecursion}
@@ -13,21 +13,21 @@ use Rattle.std.proofs.lemmas.Bool.Decides.{nat_tests, same_from_decides, Decides
 use Rattle.std.proofs.lemmas.Int.{of_z-to_z, to_z-of_z}
 use Rattle.std.proofs.lemmas.List.{drop-drop}
 use mir.Val.{bits as bits_in}
-use lib.Ieee.{Float, Format, binary32, binary64}
+use lib.Ieee.{Format, binary32, binary64}
 use Rattle.planus_read.specs.declared.errors.ErrorKind.{ErrorKind}
-use Rattle.planus_read.specs.declared.errors.ErrorKind.TheVariants.{InvalidOffset, UnknownEnumTag}
+use Rattle.planus_read.specs.declared.errors.ErrorKind.TheVariants.{InvalidOffset}
 use Rattle.planus_read.specs.Bytes.{Num}
-use Rattle.planus_read.specs.Clauses.{Clause, clause, AllHold, FirstBroken, Answer}
+use Rattle.planus_read.specs.Clauses.{clause, Answer}
 use Rattle.planus_read.specs.Plain.{IsLayout, NumberFits, plain_reading}
 use Rattle.planus_read.specs.Shapes.{f32_shape, f64_shape}
 use Rattle.planus_read.specs.Enums.{variant_in, Numbered, unsigned_enum, signed_enum}
 use Rattle.planus_read.specs.lemmas.NumberLaws.{AreBytes}
-use Rattle.planus_read.specs.Reading.{number, byte_list_reading, byte_list_clauses, table_reading, TableLayout}
+use Rattle.planus_read.specs.Reading.{number, byte_list_reading, byte_list_clauses}
 use Rattle.planus_read.proofs.Reading.{num_inside, num_value, num_there, byte_list_holds}
-use Rattle.planus_dump.specs.Lines.{bytes_text, truth_text, value_line, field_path, struct_line, names_text, unknown_enum_text}
-use Rattle.planus_dump.specs.Tests.{Test, test, answered, number_test, byte_list_tests, content_at, fault_text}
-use Rattle.planus_dump.specs.Answers.{bits_at, unsigned_at, signed_at, leaf_at, table_at, Seen}
-use Rattle.planus_dump.specs.Events.{Event, line, TableEvents, fault_event, leaf_events, answer_event, float_event, fixed_events, struct_fields_events, struct_events, structs, enum_events, enum_at, named, names_in, has_value, number_leaf, number_width, place_events, nested_events, buffer_events}
+use Rattle.planus_dump.specs.Lines.{truth_text, field_path, item_path, struct_line, names_text}
+use Rattle.planus_dump.specs.Tests.{Test, answered, number_test, byte_list_tests, content_at, fault_text}
+use Rattle.planus_dump.specs.Answers.{unsigned_at, signed_at, leaf_at, table_at, Seen}
+use Rattle.planus_dump.specs.Events.{line, TableEvents, fault_event, answer_event, float_event, fixed_events, fixed_size, values_events, counted_events, struct_fields_events, struct_events, structs, enum_events, enum_at, named, names_in, number_leaf, number_width, place_events, nested_events, buffer_events}
 use Rattle.planus_dump.specs.AsRead.{SaysAsRead, layout_in, as_float, FloatsAreSaid, StructsAreSaid, fields_at, BuffersAreSaid, IsUnsigned, IsSigned, EnumIsSaid, EnumsAreSaid}
 use Rattle.planus_dump.specs.declared.schemas.Schema.{Schema}
 use Rattle.planus_dump.specs.declared.schemas.EnumSchema.{EnumSchema}
@@ -38,9 +38,6 @@ use Rattle.planus_dump.specs.declared.schemas.Fixed.TheVariants as fixed
 use Rattle.planus_dump.specs.declared.schemas.Number.{Number}
 use Rattle.planus_dump.specs.declared.schemas.Number.TheVariants as numbers
 use Rattle.planus_dump.specs.declared.schemas.Kind.TheVariants.{Nested}
-use Rattle.planus_dump.specs.declared.values.Leaf.{Leaf}
-use Rattle.planus_dump.specs.declared.values.Leaf.TheVariants.{U8, U16, U32, U64, I8, I16, I32, I64, Bool as Truth}
-use Rattle.planus_dump.specs.declared.line.Bits.{Bits}
 use Rattle.planus_dump.specs.declared.line.Bits.TheVariants as bits
 use Rattle.planus_dump.proofs.Matching.{all_pass, first_fails, le_false}
 use Rattle.planus_dump.proofs.Leaves.{byte_list_matches}
@@ -133,11 +130,25 @@ module _ (S : List ℕ) (f : ℕ) (from : f ≤ length S) where
   moved_fixed schema left (fixed.Enum index) d path = moved_enum (slice_get schema.enums.items index) d path
   moved_fixed schema left (fixed.Struct index) d path = moved_structs schema left index d path
 
+  moved_values : (schema : Schema) (left : ℕ) (value : Fixed) (d : ℕ) (path : List ℕ) (n i : ℕ) → values_events schema (structs schema left) value (drop f S) d path n i ≡ values_events schema (structs schema left) value S (f + d) path n i
+  moved_values schema left value d path zero i = refl
+  moved_values schema left value d path (suc n) i =
+      let place = i * fixed_size schema value in
+      let same : f + (d + place) ≡ f + d + place = omega arith in
+      ap (λ es. es ++ values_events schema (structs schema left) value (drop f S) d path n (i + 1))
+      (moved_fixed schema left value (d + place) (item_path path i) ∙ ap (λ k. fixed_events schema (structs schema left) value S k (item_path path i)) same)
+      ∙ ap (λ es. fixed_events schema (structs schema left) value S (f + d + place) (item_path path i) ++ es) (moved_values schema left value d path n (i + 1))
+
+  moved_counted : (schema : Schema) (left : ℕ) (count : Option ℕ) (value : Fixed) (d : ℕ) (path : List ℕ) → counted_events schema (structs schema left) count value (drop f S) d path ≡ counted_events schema (structs schema left) count value S (f + d) path
+  moved_counted schema left None value d path = moved_fixed schema left value d path
+  moved_counted schema left (Some count) value d path = moved_values schema left value d path count 0
+
   moved_fields : (schema : Schema) (left : ℕ) (fields : List StructFieldSchema) (path : List ℕ) → struct_fields_events schema (structs schema left) fields (drop f S) path ≡ fields_at schema (structs schema left) fields S f path
   moved_fields schema left [] path = refl
   moved_fields schema left (field ∷ fields) path =
-      ap (λ es. es ++ struct_fields_events schema (structs schema left) fields (drop f S) path) (moved_fixed schema left field.fixed field.distance (field_path path (string_bytes field.name)))
-      ∙ ap (λ es. fixed_events schema (structs schema left) field.fixed S (f + field.distance) (field_path path (string_bytes field.name)) ++ es) (moved_fields schema left fields path)
+      let at = field_path path (string_bytes field.name) in
+      ap (λ es. es ++ struct_fields_events schema (structs schema left) fields (drop f S) path) (moved_counted schema left field.count field.fixed field.distance at)
+      ∙ ap (λ es. counted_events schema (structs schema left) field.count field.fixed S (f + field.distance) at ++ es) (moved_fields schema left fields path)
 
 pub structs_are_said : (S : List ℕ) (f : ℕ) → StructsAreSaid S f
 structs_are_said S f = record {

@@ -31,7 +31,7 @@ use Rattle.planus_dump.specs.Answers.{union_vector_at}
 use Rattle.planus_dump.specs.Answers.{table_at, union_at, unions_at, Seen, SeenItems, SeenUnion, lone_tag}
 use Rattle.planus_dump.specs.Answers.{SeenUnions, some_of}
 use Rattle.planus_dump.specs.ReadingViews.{answer_seen, table_seen}
-use Rattle.planus_dump.specs.Events.{Event, line, TableEvents, fault_event, fixed_events}
+use Rattle.planus_dump.specs.Events.{Event, line, TableEvents, fault_event, counted_events}
 use Rattle.planus_dump.specs.Events.{struct_events, structs, enum_at, number_leaf, number_width, names_in, place_events}
 use Rattle.planus_dump.specs.declared.values.Leaf.TheVariants.{Bool, Text, Bytes}
 use Rattle.planus_dump.specs.declared.schemas.Schema.{Schema}
@@ -173,12 +173,13 @@ pub record FlagsAreSaid (S : List ℕ) (f : ℕ) : Type 0 where
 
 -- ---- structs
 
--- the fields of a struct at f of S, each read at its own distance from f
+-- The fields of a struct at f of S, each read at its own distance from f; the items of an array,
+-- each at its own distance from the first.
 abbrev pub fields_at :
     Schema → TableEvents → List StructFieldSchema → List ℕ → ℕ → List ℕ → List Event
 fields_at schema T [] S f path = []
 fields_at schema T (field ∷ fields) S f path =
-    fixed_events schema T field.fixed S (f + field.distance)
+    counted_events schema T field.count field.fixed S (f + field.distance)
     (field_path path (string_bytes field.name))
     ++ fields_at schema T fields S f path
 

@@ -166,6 +166,23 @@ abbrev pub enum_events : Option EnumSchema → List ℕ → ℕ → List ℕ →
 enum_events None S f path = []
 enum_events (Some shape) S f path = answer_event path (enum_at shape S f) ∷ []
 
+-- the size of an enum's number
+abbrev pub enum_size : Option EnumSchema → ℕ
+enum_size None = 1
+enum_size (Some shape) = byte_len (number_width shape.number)
+
+abbrev pub struct_size : Option StructSchema → ℕ
+struct_size None = 1
+struct_size (Some shape) = shape.size
+
+abbrev pub fixed_size : Schema → Fixed → ℕ
+fixed_size schema (fixed.Number number) = byte_len (number_width number)
+fixed_size schema fixed.Bool = 1
+fixed_size schema fixed.F32 = 4
+fixed_size schema fixed.F64 = 8
+fixed_size schema (fixed.Enum index) = enum_size (slice_get schema.enums.items index)
+fixed_size schema (fixed.Struct index) = struct_size (slice_get schema.structs.items index)
+
 -- T has a struct's events, by its index in the schema, bytes, its offset in them, and its path.
 module _ (schema : Schema) (T : TableEvents) where
   -- a value of a fixed size at f of S
@@ -178,10 +195,23 @@ module _ (schema : Schema) (T : TableEvents) where
       enum_events (slice_get schema.enums.items index) S f path
   fixed_events (fixed.Struct index) S f path = T index S f path
 
+  -- n values one after another, from item i on; item 0 is at f of S
+  abbrev pub values_events : Fixed → List ℕ → ℕ → List ℕ → ℕ → ℕ → List Event
+  values_events value S f path zero i = []
+  values_events value S f path (suc n) i =
+      fixed_events value S (f + i * fixed_size schema value) (item_path path i)
+      ++ values_events value S f path n (i + 1)
+
+  -- a single value, or the items of an array
+  abbrev pub counted_events : Option ℕ → Fixed → List ℕ → ℕ → List ℕ → List Event
+  counted_events None value S f path = fixed_events value S f path
+  counted_events (Some count) value S f path = values_events value S f path count 0
+
   abbrev pub struct_fields_events : List StructFieldSchema → List ℕ → List ℕ → List Event
   struct_fields_events [] S path = []
   struct_fields_events (field ∷ fields) S path =
-      fixed_events field.fixed S field.distance (field_path path (string_bytes field.name))
+      counted_events field.count field.fixed S field.distance
+      (field_path path (string_bytes field.name))
       ++ struct_fields_events fields S path
 
   -- a struct at f of S, or its error
@@ -206,33 +236,11 @@ abbrev pub value_events : Schema → Fixed → List ℕ → ℕ → List ℕ →
 value_events schema value S f path =
     fixed_events schema (structs schema greatest_nesting) value S f path
 
--- the size of an enum's number
-abbrev pub enum_size : Option EnumSchema → ℕ
-enum_size None = 1
-enum_size (Some shape) = byte_len (number_width shape.number)
-
-abbrev pub struct_size : Option StructSchema → ℕ
-struct_size None = 1
-struct_size (Some shape) = shape.size
-
-abbrev pub fixed_size : Schema → Fixed → ℕ
-fixed_size schema (fixed.Number number) = byte_len (number_width number)
-fixed_size schema fixed.Bool = 1
-fixed_size schema fixed.F32 = 4
-fixed_size schema fixed.F64 = 8
-fixed_size schema (fixed.Enum index) = enum_size (slice_get schema.enums.items index)
-fixed_size schema (fixed.Struct index) = struct_size (slice_get schema.structs.items index)
-
-abbrev pub values_events : Schema → Fixed → List ℕ → List ℕ → ℕ → ℕ → List Event
-values_events schema value S path zero i = []
-values_events schema value S path (suc n) i =
-    value_events schema value S (i * fixed_size schema value) (item_path path i)
-    ++ values_events schema value S path n (i + 1)
-
 -- a vector of such values, or its error
 abbrev pub fixed_list_events : Schema → Fixed → List ℕ → Result SeenItems (List ℕ) → List Event
 fixed_list_events schema value path (Ok items) =
-    line (list_line path items.count) ∷ values_events schema value items.bytes path items.count 0
+    line (list_line path items.count)
+    ∷ values_events schema (structs schema greatest_nesting) value items.bytes 0 path items.count 0
 fixed_list_events schema value path (Err fault) = fault_event path fault ∷ []
 
 -- ---- what has parts

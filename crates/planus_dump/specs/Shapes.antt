@@ -1,5 +1,5 @@
 -- Schemas without their location in memory.
-use Rattle.std.specs.Prelude.{◌≡◌, ℕ, List, [], map, Bool, true, false, Vec}
+use Rattle.std.specs.Prelude.{◌≡◌, ℕ, List, [], map, Bool, true, false, Option, Vec}
 use Rattle.std.specs.declared.alloc.Global.{Global}
 use Rattle.std.specs.String.{string_bytes}
 use Rattle.planus_dump.specs.declared.schemas.Schema.{Schema}
@@ -92,10 +92,15 @@ pub record StructFieldShape : Type 0 where
   pub distance : ℕ
   pub name : List ℕ
   pub fixed : Fixed
+  pub count : Option ℕ
 
 abbrev pub struct_field_shape : StructFieldSchema → StructFieldShape
-struct_field_shape field =
-    record { distance = field.distance; name = string_bytes field.name; fixed = field.fixed }
+struct_field_shape field = record {
+  distance = field.distance;
+  name = string_bytes field.name;
+  fixed = field.fixed;
+  count = field.count;
+}
 
 pub record StructShape : Type 0 where
   pub name : List ℕ

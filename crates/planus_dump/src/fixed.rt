@@ -1,14 +1,15 @@
 #![tactic(auto, using(crate::proofs::Fed::fed_refused))]
 
-ghost use Rattle.std.specs.Prelude.{◌≡◌, ◌-◌, slice_get};
+ghost use Rattle.std.specs.Prelude.{◌≡◌, ◌+◌, ◌-◌, ◌*◌, ◌^◌, min, slice_get};
 ghost use Rattle.std.specs.Int.{byte_len};
 ghost use Rattle.planus_read.specs.Places.{place_bytes, place_offset};
+ghost use Rattle.planus_read.specs.Slices.{slice_bytes};
 ghost use Rattle.planus_dump.specs.Answers.{vector_at};
 ghost use Rattle.planus_dump.specs.Events.{number_leaf, number_width, enum_size, struct_size};
 ghost use Rattle.planus_dump.specs.Events.{leaf_events, enum_events, enum_at, answer_event};
 ghost use Rattle.planus_dump.specs.Events.{fixed_size as fixed_size_lem, fixed_events, structs};
 ghost use Rattle.planus_dump.specs.Events.{struct_events, value_events};
-ghost use Rattle.planus_dump.specs.Events.{fixed_list_events};
+ghost use Rattle.planus_dump.specs.Events.{fixed_list_events, values_events, counted_events};
 ghost use Rattle.planus_dump.specs.inner.Feeding.{Feeds};
 ghost use Rattle.std.specs.Prelude.{Some, [], ◌∷◌};
 
@@ -16,10 +17,10 @@ use crate::enums::names_of;
 use crate::line_sink::LineSink;
 use crate::lines::Lines;
 use crate::readings::{double_at, read_bits, read_values, single_at, slice_from, value_at};
-use crate::schemas::{EnumSchema, Fixed, Number, Schema, StructSchema};
+use crate::schemas::{EnumSchema, Fixed, Number, Schema, StructFieldSchema, StructSchema};
 use crate::sink_error::SinkError;
 use crate::values::Leaf;
-use planus::Place;
+use planus::{Place, SliceWithStartOffset};
 
 const GREATEST_NESTING: usize = 64;
 
@@ -163,6 +164,80 @@ fn dump_struct<L: Lines>(
     }
 }
 
+/// Values one after another, the first of them at an offset of the slice.
+#[derive(Clone, Copy)]
+pub struct Items<'buf> {
+    value: Fixed,
+    slice: SliceWithStartOffset<'buf>,
+    first: usize,
+    count: usize,
+}
+
+/// No byte is at `usize::MAX` or after it, so that is where items past it are.
+fn item_place<'buf>(items: Items<'buf>, index: usize, size: usize) -> Place<'buf>
+    ensures bytes { place_bytes result ≡ slice_bytes items.entry.slice }
+    ensures offset { place_offset result ≡ min (items.entry.first + index * size) (2 ^ 64 - 1) }
+{
+    Place::new(
+        items.slice,
+        index.saturating_mul(size).saturating_add(items.first),
+    )
+}
+
+#[cycle(fixed)]
+fn dump_fixed_items<L: Lines>(
+    schema: &Schema,
+    out: &mut LineSink<L>,
+    left: usize,
+    path: &str,
+    items: Items<'_>,
+) -> Result<(), SinkError>
+    ensures { Feeds L.takes L.breaks out.old
+        (values_events schema.now (structs schema.now left) items.entry.value
+        (slice_bytes items.entry.slice) items.entry.first path.now items.entry.count 0)
+        result out.new }
+{
+    let size = fixed_size(schema, items.value);
+    for i in 0..items.count {
+        if out.is_stopped() {
+            return Ok(());
+        }
+        let path = format!(in out.alloc; "{path}[{i}]")?;
+        let place = item_place(items, i, size);
+        dump_fixed(schema, out, left, path.as_str(), items.value, place)?;
+    }
+    Ok(())
+}
+
+#[cycle(fixed)]
+fn dump_struct_field<L: Lines>(
+    schema: &Schema,
+    out: &mut LineSink<L>,
+    left: usize,
+    path: &str,
+    field: &StructFieldSchema,
+    slice: SliceWithStartOffset<'_>,
+) -> Result<(), SinkError>
+    ensures { Feeds L.takes L.breaks out.old
+        (counted_events schema.now (structs schema.now left) field.now.count field.now.fixed
+        (slice_bytes slice.entry) field.now.distance path.now) result out.new }
+{
+    let value = field.fixed;
+    let first = field.distance;
+    match field.count {
+        Some(count) => {
+            let items = Items {
+                value,
+                slice,
+                first,
+                count,
+            };
+            dump_fixed_items(schema, out, left, path, items)
+        }
+        None => dump_fixed(schema, out, left, path, value, Place::new(slice, first)),
+    }
+}
+
 #[cycle(fixed)]
 fn dump_struct_shape<L: Lines>(
     schema: &Schema,
@@ -186,8 +261,7 @@ fn dump_struct_shape<L: Lines>(
             return Ok(());
         }
         let path = format!(in out.alloc; "{path}.{}", field.name)?;
-        let place = Place::new(slice, field.distance);
-        dump_fixed(schema, out, left, path.as_str(), field.fixed, place)?;
+        dump_struct_field(schema, out, left, path.as_str(), field, slice)?;
     }
     Ok(())
 }
@@ -217,19 +291,16 @@ pub fn dump_values<L: Lines>(
         (fixed_list_events schema.now fixed path.now (vector_at (fixed_size_lem schema.now fixed)
         (place_bytes place.entry) (place_offset place.entry))) result out.new }
 {
-    let size = fixed_size(schema, fixed);
-    let (slice, count) = match read_values(place, size) {
+    let (slice, count) = match read_values(place, fixed_size(schema, fixed)) {
         Ok(values) => values,
         Err(kind) => return out.put_fault(path, kind),
     };
     out.put_list(path, count)?;
-    for i in 0..count {
-        if out.is_stopped() {
-            return Ok(());
-        }
-        let path = format!(in out.alloc; "{path}[{i}]")?;
-        let place = Place::new(slice, i * size);
-        dump_value(schema, out, path.as_str(), fixed, place)?;
-    }
-    Ok(())
+    let items = Items {
+        value: fixed,
+        slice,
+        first: 0,
+        count,
+    };
+    dump_fixed_items(schema, out, GREATEST_NESTING, path, items)
 }

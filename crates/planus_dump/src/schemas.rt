@@ -84,6 +84,8 @@ pub struct StructFieldSchema {
     pub name: String,
     /// How the field is read.
     pub fixed: Fixed,
+    /// How many items of that type stand one after another; `None`: a single value.
+    pub count: Option<usize>,
 }
 
 /// How a field is read.
