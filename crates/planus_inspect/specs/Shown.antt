@@ -198,6 +198,7 @@ field_in_struct f = record {
   distance = f.distance;
   name = shown_name f.name.items;
   fixed = base_fixed f.base;
+  count = f.count;
 }
 
 abbrev pub size_shown : Body → ℕ

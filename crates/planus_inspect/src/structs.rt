@@ -17,6 +17,7 @@ fn field_schema(alloc: Global, field: &StructField) -> Result<StructFieldSchema,
         distance: field.distance,
         name: shown_name(alloc, &field.name)?,
         fixed: base_fixed(field.base),
+        count: field.count,
     })
 }
 
