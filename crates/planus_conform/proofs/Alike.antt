@@ -37,14 +37,14 @@ use Rattle.planus_conform.specs.declared.breaks.Way.{Way}
 use Rattle.planus_conform.specs.declared.breaks.Way.TheVariants as way
 use Rattle.planus_conform.specs.Found.{Call, field, part, item, buffer, Found, unknown, withdrawn, unopened, absent, missing, default, shown, bits, known, stranger, fault, table, structure, member, items, unions}
 use Rattle.planus_conform.specs.Values.{body_of, body_at, fields_in, struct_in, enum_in, union_in, said, said_bits, scalar_found, table_found, bytes_found, struct_found, width_of, is_value, is_known, number_found, enum_found, member_in, member_found, tagged_found, union_found, value_found, items_found, enum_size, struct_size, stride, sized_list, enum_list, struct_list, list_found}
-use Rattle.planus_conform.specs.Reads.{absent_found, is_nothing, given, default_found, default_of, field_in, present_found, placed_found, one_union_found, unions_found, union_field_found, found_by, field_found, found_if, inner_root, inner_found, buffer_found, buffer_if, part_in, parts_of, part_found, item_found, union_item_found, table_called, struct_called, items_called, unions_called, called, answer, root, root_found}
+use Rattle.planus_conform.specs.Reads.{absent_found, is_nothing, given, default_found, default_of, field_in, present_found, placed_found, one_union_found, unions_found, union_field_found, found_by, field_found, found_if, inner_root, inner_found, buffer_found, buffer_if, part_in, parts_of, counted_found, part_found, item_found, union_item_found, table_called, struct_called, items_called, unions_called, called, answer, root, root_found}
 use Rattle.planus_conform.specs.Matching.{match_at, is_index, Matches}
 use Rattle.planus_conform.specs.Alike.{Same, is_left_out, is_missing, is_withdrawn, is_unopened, is_number_read, is_newer, is_given_up, is_excused, is_excused_within, SameAnswers, ReadAlike, is_identified, PassAlike}
-use Rattle.planus_conform.specs.Types.{scalar_code, are_matched, same_base, same_truth, same_type}
+use Rattle.planus_conform.specs.Types.{scalar_code, are_matched, same_base, same_count, same_part, same_truth, same_type}
 use Rattle.planus_conform.specs.Defaults.{same_number, same_value, same_default}
 use Rattle.planus_conform.specs.Breaks.{meets_old, meets_new, noted, change_if, is_moved, may_require, same_nested, kept_change, change_from, field_change, field_breaks, is_part_moved, part_change_to, part_change, part_breaks, struct_breaks, has_number, is_value_moved, value_change, value_breaks, added_values, enum_change, enum_breaks, is_member_moved, member_change_to, member_change, member_breaks, is_member, added_members, union_breaks, breaks_to, body_breaks, body_if, declared_breaks, breaks_from, root_change, identifier_change, breaks_by}
 use Rattle.planus_conform.specs.Conforms.{names_stay, ConformBy}
-use Rattle.planus_conform.proofs.Parts.{both_true, both_nothing, same_truths, same_values, same_scalars, same_bytes, same_numbers, no_change, no_enum_change, none_if, none_if_not, and_true, or_right, or_left, true_or_false}
+use Rattle.planus_conform.proofs.Parts.{both_true, both_nothing, same_truths, same_counts, same_values, same_scalars, same_bytes, same_numbers, no_change, no_enum_change, none_if, none_if_not, and_true, or_right, or_left, true_or_false}
 
 module _ (w : Way) (m : List (Option ℕ)) (old new : List Declared) where
   abbrev SimTable : ℕ → Seen → Found → Type 0
@@ -164,7 +164,7 @@ module _ (w : Way) (m : List (Option ℕ)) (old new : List Declared) where
   abbrev PartFit : Option StructField → Option StructField → Type 0
   PartFit None o = Unit {0}
   PartFit (Some f) None = ⊥
-  PartFit (Some f) (Some g) = same_base m f.base g.base ≡ true
+  PartFit (Some f) (Some g) = (same_base m f.base g.base ≡ true) × (f.count ≡ g.count)
 
   -- structs of one size, with the same type at each distance
   abbrev StructFit : Option Struct → Option Struct → Type 0
@@ -671,7 +671,9 @@ module _ (w : Way) (m : List (Option ℕ)) (old new : List Declared) where
 
   part_fit : (f : StructField) (o : Option StructField) → part_change_to m f o ≡ None → PartFit (Some f) o
   part_fit f None e = absurd cc
-  part_fit f (Some g) e = none_if_not (same_base m f.base g.base) change.TypeChanged e
+  part_fit f (Some g) e =
+      let parts = both_true (same_base m f.base g.base) (same_count f.count g.count) (none_if_not (same_part m f g) change.TypeChanged e) in
+      (parts.0, same_counts f.count g.count parts.1)
 
   one_part_fit : (f : StructField) (gs : List StructField) → part_change m gs f ≡ None → PartFit (Some f) (part_in gs f.distance)
   one_part_fit f gs e = by_moved (is_part_moved gs f) e
@@ -1015,10 +1017,17 @@ module _ (w : Way) (m : List (Option ℕ)) (old new : List Declared) where
       by_test true = union_near (union_in (body_at old i)) (union_in (body_at new j)) (union_fit h i j e) (slice_index s.tags k) s.references (k * 4)
       by_test false = inr refl
 
+  counted_near : Fits → (a b : Base) → same_base m a b ≡ true → (p q : Option ℕ) → p ≡ q → (S : List ℕ) (n : ℕ) → Near (counted_found old p a S n) (counted_found new q b S n)
+  counted_near h a b e p q same S n = subst (λ r. Near (counted_found old p a S n) (counted_found new r b S n)) same (by_count p)
+    where
+      by_count : (p : Option ℕ) → Near (counted_found old p a S n) (counted_found new p b S n)
+      by_count None = value_near h a b e S n
+      by_count (Some count) = inr (refl, e)
+
   part_near : Fits → (o p : Option StructField) → PartFit o p → (S : List ℕ) (n : ℕ) → Near (part_found old o S n) (part_found new p S n)
   part_near h None p x S n = inr tt
   part_near h (Some f) None x S n = absurd x
-  part_near h (Some f) (Some g) x S n = value_near h f.base g.base x S n
+  part_near h (Some f) (Some g) x S n = counted_near h f.base g.base x.0 f.count g.count x.1 S n
 
   struct_part_near : Fits → (o p : Option Struct) → StructFit o p → (S : List ℕ) (n : ℕ) → Near (part_found old (part_in (parts_of o) n) S n) (part_found new (part_in (parts_of p) n) S n)
   struct_part_near h None p x S n = inr tt

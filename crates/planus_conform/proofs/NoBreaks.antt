@@ -36,10 +36,10 @@ use Rattle.planus_conform.specs.declared.breaks.Way.TheVariants as way
 use Rattle.planus_conform.specs.Values.{body_of, member_in}
 use Rattle.planus_conform.specs.Reads.{is_nothing, given, default_of, field_in, part_in}
 use Rattle.planus_conform.specs.Matching.{named, matches_of, match_in, match_at, is_index}
-use Rattle.planus_conform.specs.Types.{scalar_code, are_matched, same_base, same_truth, same_type}
+use Rattle.planus_conform.specs.Types.{scalar_code, are_matched, same_base, same_count, same_truth, same_type}
 use Rattle.planus_conform.specs.Defaults.{same_number, same_value, same_default}
 use Rattle.planus_conform.specs.Breaks.{meets_old, meets_new, noted, change_if, is_moved, may_require, same_nested, kept_change, change_from, field_change, field_breaks, is_part_moved, part_change_to, part_change, part_breaks, has_number, is_value_moved, value_change, value_breaks, added_values, enum_change, is_member_moved, member_change_to, member_change, member_breaks, is_member, added_members, breaks_to, body_breaks, body_if, declared_breaks, breaks_from, root_change, identifier_change}
-use Rattle.planus_conform.proofs.Parts.{both_true, not_true, and_true, or_right, truth_is_same, number_is_same, value_is_same}
+use Rattle.planus_conform.proofs.Parts.{both_true, not_true, and_true, or_right, truth_is_same, number_is_same, value_is_same, count_is_same}
 use Rattle.planus_conform.specs.NoBreaks.{has_fields, is_filled, UnchangedBreaksNothing, GrowsTo, GrowAllTo, AddedFieldsBreakNothing}
 
 -- ---- tests
@@ -227,6 +227,9 @@ field_sized bs n h (base.Struct i) x l e = body_sized (slice_get bs i) x (λ s. 
 field_sized bs n h (base.Table i) x l e = absurd l
 field_sized bs n h (base.Union i) x l e = absurd l
 
+part_sized : (bs : List Body) (n : ℕ) → SizedBelow bs n → (f : StructField) → RefersBefore bs n f → 0 < f.size
+part_sized bs n h f r = field_sized bs n h f.base (record { size = f.size; alignment = f.alignment }) r.below r.measure
+
 laid_end : (at end : ℕ) (fs : List StructField) → Laid at fs end → at ≤ end
 laid_end at end [] l = omega (arith, l)
 laid_end at end (f ∷ fs) l = omega (arith, l.0.after, laid_end (f.distance + f.size) end fs l.1)
@@ -234,7 +237,7 @@ laid_end at end (f ∷ fs) l = omega (arith, l.0.after, laid_end (f.distance + f
 laid_sized : (bs : List Body) (n end : ℕ) (fs : List StructField) → SizedBelow bs n → has_fields fs ≡ true → AllByRecursion (RefersBefore bs n) fs → Laid 0 fs end → 0 < end
 laid_sized bs n end [] h e r l = absurd cc
 laid_sized bs n end (f ∷ fs) h e r l =
-    let some : 0 < f.size = field_sized bs n h f.base (record { size = f.size; alignment = f.alignment }) r.0.below r.0.measure in
+    let some : 0 < f.size = part_sized bs n h f r.0 in
     omega (arith, some, laid_end (f.distance + f.size) end fs l.1)
 
 abbrev body_or : Body → Option Body → Body
@@ -284,7 +287,7 @@ distances_once : (bs : List Body) (n at end : ℕ) (fs : List StructField) → S
 distances_once bs n at end [] h r l = tt
 distances_once bs n at end (g ∷ fs) h r l = (
   λ f i.
-      let some : 0 < g.size = field_sized bs n h g.base (record { size = g.size; alignment = g.alignment }) r.0.below r.0.measure in
+      let some : 0 < g.size = part_sized bs n h g r.0 in
       ne_eqb g.distance f.distance (λ e. omega (arith, e, some, later (g.distance + g.size) end fs l.1 f i)),
   distances_once bs n (g.distance + g.size) end fs h r.1 l.1,
 )
@@ -476,7 +479,8 @@ module _ (w : Way) (m : List (Option ℕ)) (bs : List Body) (stay : Stays m bs) 
       stays_there =
           ap (λ c. if c then Some change.Moved else part_change_to m f (part_in gs f.distance)) moved
           ∙ ap (part_change_to m f) found
-          ∙ ap (λ b. change_if (not b) change.TypeChanged) (part_kept f.base _ r.0.measure)
+          ∙ ap (λ b. change_if (not b) change.TypeChanged)
+          (and_true (same_base m f.base f.base) (same_count f.count f.count) (part_kept f.base _ r.0.measure) (count_is_same f.count))
 
   numbered : (us : List EnumValue) (v : EnumValue) → IsIn v us → has_number us v.number ≡ true
   numbered [] v i = absurd i

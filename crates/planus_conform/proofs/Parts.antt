@@ -1,5 +1,5 @@
 -- Tests of parts, and what they show.
-use Rattle.std.proofs.Common.{◌≡◌, ℕ, suc, ◌+◌, ◌<◌, Bool, true, false, List, [], ◌∷◌, ◌++◌, length, drop, get_or, refl, sym, ap, ◌∙◌, add-one, drop-cons, Some, None, ◌⊎◌, inl, inr}
+use Rattle.std.proofs.Common.{◌≡◌, ℕ, suc, ◌+◌, ◌<◌, Bool, true, false, List, [], ◌∷◌, ◌++◌, length, drop, get_or, refl, sym, ap, ◌∙◌, add-one, drop-cons, Option, Some, None, ◌⊎◌, inl, inr}
 use Rattle.std.specs.Prelude.{◌==◌, ◌&&◌, ◌||◌, not, if◌then◌else◌}
 use Rattle.std.specs.Str.{bytes_eq}
 use Rattle.std.proofs.lemmas.Bool.{eqb-true, eq-eqb}
@@ -8,7 +8,7 @@ use Rattle.planus_schema.specs.declared.number.Number.{Number}
 use Rattle.planus_schema.specs.declared.scalar.Scalar.{Scalar}
 use Rattle.planus_schema.specs.declared.scalar.Scalar.TheVariants as scalar
 use Rattle.planus_resolve.specs.Defaults.{ValueV, absent as nothing, integer, float, text, empty}
-use Rattle.planus_conform.specs.Types.{scalar_code, same_truth}
+use Rattle.planus_conform.specs.Types.{scalar_code, same_count, same_truth}
 use Rattle.planus_conform.specs.Defaults.{same_number, same_value}
 use Rattle.planus_conform.specs.Breaks.{change_if}
 use Rattle.planus_conform.specs.declared.breaks.Change.{Change}
@@ -47,6 +47,15 @@ same_numbers a b e =
     let parts = both_true (same_truth a.negative b.negative) (a.magnitude == b.magnitude) e in
     ap (λ s. made s a.magnitude) (same_truths a.negative b.negative parts.0)
     ∙ ap (λ n. made b.negative n) (eqb-true a.magnitude b.magnitude parts.1)
+
+pub same_counts : (a b : Option ℕ) → same_count a b ≡ true → a ≡ b
+same_counts None None e = refl
+same_counts (Some a) (Some b) e = ap Some (eqb-true a b e)
+same_counts a b e = absurd cc
+
+pub count_is_same : (o : Option ℕ) → same_count o o ≡ true
+count_is_same None = refl
+count_is_same (Some n) = eq-eqb n n refl
 
 pub same_values : (v w : ValueV) → same_value v w ≡ true → v ≡ w
 same_values nothing nothing e = refl

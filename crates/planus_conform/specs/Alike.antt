@@ -37,8 +37,8 @@ AreUnionsSeen seen (unions j other) = seen ≡ other
 AreUnionsSeen seen found = ⊥
 
 -- The same is returned: of a table the same bytes and slots, of a struct the same bytes, of a union
--- the same tag too, of a vector the same bytes and count. Nothing is said where the old code has no
--- such accessor.
+-- the same tag too, of a vector or an array the same bytes and count. Nothing is said where the old
+-- code has no such accessor.
 abbrev pub Same : Found → Found → Type 0
 Same unknown new = Unit {0}
 Same withdrawn new = Unit {0}

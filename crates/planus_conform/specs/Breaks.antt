@@ -27,7 +27,7 @@ use Rattle.planus_conform.specs.declared.rename.Rename.{Rename}
 use Rattle.planus_conform.specs.Values.{body_at, member_in}
 use Rattle.planus_conform.specs.Reads.{field_in, part_in}
 use Rattle.planus_conform.specs.Matching.{match_at, matches_of}
-use Rattle.planus_conform.specs.Types.{scalar_code, are_matched, same_base, same_truth, same_type}
+use Rattle.planus_conform.specs.Types.{scalar_code, are_matched, same_part, same_truth, same_type}
 use Rattle.planus_conform.specs.Defaults.{same_number, same_default}
 
 -- ---- ways
@@ -106,7 +106,7 @@ is_part_moved gs f =
 
 abbrev pub part_change_to : List (Option ℕ) → StructField → Option StructField → Option Change
 part_change_to m f None = Some change.FieldRemoved
-part_change_to m f (Some g) = change_if (not (same_base m f.base g.base)) change.TypeChanged
+part_change_to m f (Some g) = change_if (not (same_part m f g)) change.TypeChanged
 
 abbrev pub part_change :
     List (Option ℕ) → List StructField → StructField → Option Change

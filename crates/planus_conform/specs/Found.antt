@@ -5,7 +5,7 @@ use Rattle.planus_schema.specs.declared.schema.Base.{Base}
 use Rattle.planus_resolve.specs.Defaults.{ValueV}
 
 -- A call of an accessor: of a table's field by its slot, of a struct's field by its distance, of an
--- item of a vector, or of the root of the buffer that is in the byte vector of a slot.
+-- item of a vector or an array, or of the root of the buffer that is in the byte vector of a slot.
 pub data Call : Type 0 where
   field : ℕ → Call
   part : ℕ → Call
@@ -18,7 +18,7 @@ pub data Call : Type 0 where
 -- `missing`: the error of a required field that is absent.
 -- `stranger`: the error of a number or a tag that the enum or the union doesn't have.
 -- `table`, `structure`: of the declaration with this index. `member`: the table of a union, after
--- its tag. `items`, `unions`: a vector.
+-- its tag. `items`: a vector, or an array in a struct. `unions`: a vector.
 pub data Found : Type 0 where
   unknown : Found
   withdrawn : Found

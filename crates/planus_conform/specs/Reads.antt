@@ -1,6 +1,7 @@
 -- What the code of a schema returns, call after call, of any bytes.
 use Rattle.std.specs.Prelude.{ℕ, ◌-◌, ◌*◌, ◌==◌, not, nat_lt, List, [], ◌∷◌, Bool, true, false}
-use Rattle.std.specs.Prelude.{Option, Some, None, Result, Ok, Err, slice_index, if◌then◌else◌}
+use Rattle.std.specs.Prelude.{Option, Some, None, Result, Ok, Err, drop, slice_index}
+use Rattle.std.specs.Prelude.{if◌then◌else◌}
 use Rattle.std.specs.Option.{option_map}
 use Rattle.planus_read.specs.Tables.{Slot}
 use Rattle.planus_dump.specs.Answers.{Seen, SeenItems, SeenUnion, SeenUnions, table_at}
@@ -123,10 +124,15 @@ abbrev pub parts_of : Option Struct → List StructField
 parts_of None = []
 parts_of (Some s) = s.fields.items
 
+-- a single value at this distance, or an array whose first item is there
+abbrev pub counted_found : List Declared → Option ℕ → Base → List ℕ → ℕ → Found
+counted_found ds None b S n = value_found ds b S n
+counted_found ds (Some count) b S n = items b (record { bytes = drop n S; count = count })
+
 -- the field at this distance
 abbrev pub part_found : List Declared → Option StructField → List ℕ → ℕ → Found
 part_found ds None S n = unknown
-part_found ds (Some f) S n = value_found ds f.base S n
+part_found ds (Some f) S n = counted_found ds f.count f.base S n
 
 -- ---- items
 

@@ -1,10 +1,11 @@
 -- Types that are the same in both schemas.
-use Rattle.std.specs.Prelude.{ℕ, ◌==◌, ◌&&◌, not, List, Bool, true, false, Option}
+use Rattle.std.specs.Prelude.{ℕ, ◌==◌, ◌&&◌, not, List, Bool, true, false, Option, Some, None}
 use Rattle.planus_schema.specs.declared.scalar.Scalar.{Scalar}
 use Rattle.planus_schema.specs.declared.scalar.Scalar.TheVariants as scalar
 use Rattle.planus_schema.specs.declared.schema.Base.{Base}
 use Rattle.planus_schema.specs.declared.schema.Base.TheVariants as base
 use Rattle.planus_schema.specs.declared.schema.FieldType.{FieldType}
+use Rattle.planus_schema.specs.declared.schema.StructField.{StructField}
 use Rattle.planus_conform.specs.Matching.{match_at, is_index}
 
 abbrev pub scalar_code : Scalar → ℕ
@@ -40,3 +41,13 @@ same_truth false b = not b
 
 abbrev pub same_type : List (Option ℕ) → FieldType → FieldType → Bool
 same_type m t u = same_truth t.vector u.vector && same_base m t.base u.base
+
+-- two single values, or two arrays of as many items
+abbrev pub same_count : Option ℕ → Option ℕ → Bool
+same_count None None = true
+same_count (Some a) (Some b) = a == b
+same_count a b = false
+
+-- a field of a struct has the same type
+abbrev pub same_part : List (Option ℕ) → StructField → StructField → Bool
+same_part m f g = same_base m f.base g.base && same_count f.count g.count

@@ -24,7 +24,7 @@ pub enum Change {
     FieldRemoved,
     /// Something of this name has another slot, distance, number or tag.
     Moved,
-    /// The field has another type.
+    /// The field has another type, or an array another count of items.
     TypeChanged,
     /// The field is `required` in one schema alone, whose code fails where it is absent.
     RequiredChanged,

@@ -9,7 +9,7 @@ ghost use Rattle.planus_conform.specs.Breaks.{part_change as part_change_lem};
 ghost use Rattle.planus_conform.specs.Breaks.{part_breaks, struct_breaks};
 
 use crate::breaks::{Break, Change, Place};
-use crate::types::same_base;
+use crate::types::same_part;
 use crate::ways::{change_if, note};
 use planus_schema::{Struct, StructField};
 use std::alloc::AllocError;
@@ -39,7 +39,7 @@ fn part_change_to(
     ensures { result ≡ part_change_to_lem matches.now f.now (option_map (λ f. f.now) g.entry) }
 {
     match g {
-        Some(g) => change_if(!same_base(matches, f.base, g.base), Change::TypeChanged),
+        Some(g) => change_if(!same_part(matches, f, g), Change::TypeChanged),
         None => Some(Change::FieldRemoved),
     }
 }

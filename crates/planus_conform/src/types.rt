@@ -5,9 +5,11 @@ ghost use Rattle.planus_conform.specs.Types.{scalar_code as code_lem};
 ghost use Rattle.planus_conform.specs.Types.{same_base as same_base_lem};
 ghost use Rattle.planus_conform.specs.Types.{same_truth as same_truth_lem};
 ghost use Rattle.planus_conform.specs.Types.{same_type as same_type_lem};
+ghost use Rattle.planus_conform.specs.Types.{same_count as same_count_lem};
+ghost use Rattle.planus_conform.specs.Types.{same_part as same_part_lem};
 
 use crate::matching::are_matched;
-use planus_schema::{Base, FieldType, Scalar};
+use planus_schema::{Base, FieldType, Scalar, StructField};
 
 fn scalar_code(scalar: Scalar) -> u8
     ensures { result ≡ code_lem scalar }
@@ -57,4 +59,20 @@ pub(crate) fn same_type(matches: &[Option<usize>], t: FieldType, u: FieldType) -
     ensures { result ≡ same_type_lem matches.now t u }
 {
     same_truth(t.vector, u.vector) && same_base(matches, t.base, u.base)
+}
+
+fn same_count(a: Option<usize>, b: Option<usize>) -> bool
+    ensures { result ≡ same_count_lem a b }
+{
+    match (a, b) {
+        (None, None) => true,
+        (Some(a), Some(b)) => a == b,
+        _ => false,
+    }
+}
+
+pub(crate) fn same_part(matches: &[Option<usize>], f: &StructField, g: &StructField) -> bool
+    ensures { result ≡ same_part_lem matches.now f.now g.now }
+{
+    same_base(matches, f.base, g.base) && same_count(f.count, g.count)
 }
