@@ -3,6 +3,7 @@ mod damage;
 mod deep;
 mod schemas;
 mod steps;
+mod structs;
 
 use planus_dump::{DumpError, FieldSchema, Item, Kind, Schema, TableSchema, VariantSchema, dump};
 use planus_testing::{Test, check, check_eq};
