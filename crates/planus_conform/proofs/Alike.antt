@@ -37,7 +37,7 @@ use Rattle.planus_conform.specs.declared.breaks.Way.{Way}
 use Rattle.planus_conform.specs.declared.breaks.Way.TheVariants as way
 use Rattle.planus_conform.specs.Found.{Call, field, part, item, buffer, Found, unknown, withdrawn, unopened, absent, missing, default, shown, bits, known, stranger, fault, table, structure, member, items, unions}
 use Rattle.planus_conform.specs.Values.{body_of, body_at, fields_in, struct_in, enum_in, union_in, said, said_bits, scalar_found, table_found, bytes_found, struct_found, width_of, is_value, is_known, number_found, enum_found, member_in, member_found, tagged_found, union_found, value_found, items_found, enum_size, struct_size, stride, sized_list, enum_list, struct_list, list_found}
-use Rattle.planus_conform.specs.Reads.{absent_found, is_nothing, given, default_found, default_of, field_in, present_found, placed_found, one_union_found, unions_found, union_field_found, found_by, field_found, found_if, inner_root, inner_found, buffer_found, buffer_if, part_in, parts_of, counted_found, part_found, item_found, union_item_found, table_called, struct_called, items_called, unions_called, called, answer, root, root_found}
+use Rattle.planus_conform.specs.Reads.{absent_found, is_nothing, given, default_found, default_of, field_in, present_found, placed_found, one_union_found, unions_found, union_field_found, found_by, field_found, found_if, inner_root, inner_found, buffer_found, buffer_if, part_in, parts_of, counted_found, part_found, item_found, union_item_found, table_called, struct_called, items_called, unions_called, called, root, root_found}
 use Rattle.planus_conform.specs.Matching.{match_at, is_index, Matches}
 use Rattle.planus_conform.specs.Alike.{Same, is_left_out, is_missing, is_withdrawn, is_unopened, is_number_read, is_newer, is_given_up, is_excused, is_excused_within, SameAnswers, ReadAlike, is_identified, PassAlike}
 use Rattle.planus_conform.specs.Types.{scalar_code, are_matched, same_base, same_count, same_part, same_truth, same_type}
