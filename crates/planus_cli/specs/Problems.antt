@@ -25,10 +25,14 @@ after problem.ValueOutOfRange = codes ": the type of the enum does not hold this
 after problem.TagOutOfRange = codes ": the number of a member is from 1 to 255"
 after problem.MemberIsNoTable =
     codes " is no table; unions of structs and strings are not supported"
-after problem.NoStructField = codes ": a field of a struct is a scalar, an enum or a struct"
+after problem.NoStructField =
+    codes ": a field of a struct is a scalar, an enum, a struct or an array of these"
 after problem.DeclaredLater =
     codes ": a struct holds only structs and enums that are declared before it"
-after problem.DefaultInStruct = codes ": a field of a struct can't have a default other than zero"
+after problem.ArrayCount = codes ": an array has from 1 to 65535 items"
+after problem.ArrayInTable = codes ": a table can't hold an array; wrap it in a struct"
+after problem.DefaultInStruct =
+    codes ": a field of a struct can't have a default other than zero, and an array has none"
 after problem.AttributeInStruct = codes ": a field of a struct can't be `required` or `deprecated`"
 after problem.EmptyStruct = codes ": a struct needs a field"
 after problem.StructTooLarge = codes ": the struct has more than 65535 bytes"

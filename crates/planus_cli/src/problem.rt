@@ -39,10 +39,14 @@ fn after(problem: Problem) -> &'static str
         Problem::ValueOutOfRange => ": the type of the enum does not hold this number",
         Problem::TagOutOfRange => ": the number of a member is from 1 to 255",
         Problem::MemberIsNoTable => " is no table; unions of structs and strings are not supported",
-        Problem::NoStructField => ": a field of a struct is a scalar, an enum or a struct",
+        Problem::NoStructField =>
+            ": a field of a struct is a scalar, an enum, a struct or an array of these",
         Problem::DeclaredLater =>
             ": a struct holds only structs and enums that are declared before it",
-        Problem::DefaultInStruct => ": a field of a struct can't have a default other than zero",
+        Problem::ArrayCount => ": an array has from 1 to 65535 items",
+        Problem::ArrayInTable => ": a table can't hold an array; wrap it in a struct",
+        Problem::DefaultInStruct =>
+            ": a field of a struct can't have a default other than zero, and an array has none",
         Problem::AttributeInStruct => ": a field of a struct can't be `required` or `deprecated`",
         Problem::EmptyStruct => ": a struct needs a field",
         Problem::StructTooLarge => ": the struct has more than 65535 bytes",

@@ -31,7 +31,7 @@ in_clauses =
     ∷ (codes "of_bits binary32 binary64 Table BytesStand slice_bytes slice_start Numbered "
     ++ (codes "variant_in u8_enum u16_enum u32_enum u64_enum i8_enum i16_enum i32_enum "
     ++ (codes "i64_enum Shape u8_shape u16_shape u32_shape u64_shape i8_shape i16_shape "
-    ++ (codes "i32_shape i64_shape bool_shape f32_shape f64_shape IsPrefixed field "
+    ++ (codes "i32_shape i64_shape bool_shape f32_shape f64_shape array_shape IsPrefixed field "
     ++ (codes "force_align no_more struct_layout struct_shape FinishGives "
     ++ (codes "SizedFinishGives EndsAs FinishLeaves SizedFinishLeaves IsIn AllIn AllUnionsIn "
     ++ (codes "IsPrepared IsPlainVector IsPlainVectorRequired IsPlainRequired IsTextField "

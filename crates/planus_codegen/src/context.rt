@@ -72,7 +72,7 @@ fn facts_of_body(facts: &[Facts], body: &Body) -> Facts {
             for field in &one.fields {
                 let of_field = facts_of_base(facts, field.base);
                 all.total &= of_field.total;
-                all.exact &= of_field.exact;
+                all.exact &= of_field.exact && field.count.is_none();
             }
             all
         }

@@ -11,10 +11,10 @@
 //!
 //! Of a member: `n` its name, `N` in capitals, `V` in small letters, `s` in the schema, `p` its
 //! place; of a value of an enum `i` its number in code and `k` in definitions; of a field `t` the
-//! type of its value, `h` the name of its shape; of a field of a struct `z` its size, `d` its
-//! offset, `x` the padding before it, `w` the offset after a colon, if it isn't the first, `f` its
-//! name in a record, `v` its value in the tuple of all; of a member of a union `g` its tag, `m` its
-//! table; of either `B` the index of the type among the tables or unions.
+//! type of its value, `h` the name of its shape; of a field of a struct `d` its shape, `z` its size,
+//! `w` its name with its offset, if it isn't the first, both in brackets of an array, `x` the padding
+//! before it, `f` its name in a record, `v` its value in the tuple of all; of a member of a union `g`
+//! its tag, `m` its table; of either `B` the index of the type among the tables or unions.
 //!
 //! Of a field of a table: `o` its slot, `u` the slot before, `r` the slot it is read by; `l` its
 //! default as an integer, `L` in clauses, `e` as a value of an enum, `F` as a float, `H` in clauses;
@@ -113,8 +113,6 @@ fn number(context: &Context<'_>, letter: char, at: At) -> usize {
         'a' => context.rank(at.index),
         'B' => rank_of_type(context, at),
         'C' => size_of_value(context, at),
-        'z' => span(context, at).0,
-        'd' => span(context, at).1,
         'g' => tag(context, at),
         'o' => slots(context, at).0,
         'u' => slots(context, at).0.saturating_sub(1),
@@ -152,6 +150,17 @@ fn base(context: &Context<'_>, at: At) -> Base {
             None => Base::Text,
         },
         _ => Base::Text,
+    }
+}
+
+/// How many items an array in a struct has.
+fn array_count(context: &Context<'_>, at: At) -> Option<usize> {
+    match context.body(at.index) {
+        Some(Body::Struct(one)) => match one.fields.get(at.place) {
+            Some(field) => field.count,
+            None => None,
+        },
+        _ => None,
     }
 }
 
@@ -288,6 +297,22 @@ impl<'a> Printer<'a> {
         }
     }
 
+    // The type of a member's value.
+    fn put_value_type(&mut self, at: At) {
+        let context = self.context;
+        let base = base(context, at);
+        match array_count(context, at) {
+            Some(count) => {
+                self.put_char('[');
+                self.put_type(base);
+                self.put_str("; ");
+                self.put_number(count as u64);
+                self.put_char(']');
+            }
+            None => self.put_type(base),
+        }
+    }
+
     fn put_shape(&mut self, base: Base) {
         let names = &self.context.names;
         match base {
@@ -303,6 +328,44 @@ impl<'a> Printer<'a> {
             self.put_str(before);
             self.put_number(bytes as u64);
             self.put_str(after);
+        }
+    }
+
+    // A number of bytes of a field of a struct, as `put_fields!` and `read_fields!` take it.
+    fn put_bytes_of(&mut self, bytes: usize, at: At) {
+        let is_array = array_count(self.context, at).is_some();
+        self.put_str(if is_array { "[" } else { "" });
+        self.put_number(bytes as u64);
+        self.put_str(if is_array { "]" } else { "" });
+    }
+
+    // A field of a struct, as `read_fields!` takes it.
+    fn put_read(&mut self, at: At) {
+        let context = self.context;
+        let is_first = at.place == 0;
+        let in_brackets = is_first && array_count(context, at).is_some();
+        self.put_str(if in_brackets { "[" } else { "" });
+        self.put_plain_hole('n', at);
+        self.put_str(if in_brackets { "]" } else { "" });
+        if !is_first {
+            self.put_str(": ");
+            self.put_bytes_of(span(context, at).1, at);
+        }
+    }
+
+    // The shape of a field of a struct.
+    fn put_field_shape(&mut self, at: At) {
+        let context = self.context;
+        let base = base(context, at);
+        if let Some(count) = array_count(context, at) {
+            self.put_str("(array_shape ");
+            self.put_number(count as u64);
+            self.put_str(" (lit< tt) ");
+        }
+        self.put_shape(base);
+        self.put_str("_shape");
+        if array_count(context, at).is_some() {
+            self.put_char(')');
         }
     }
 
@@ -332,11 +395,9 @@ impl<'a> Printer<'a> {
                 let end = at.member(context.names.count(at.index));
                 self.put_padding(",\u{1}_: ", padding(context, end), "");
             }
-            'w' if at.place == 0 => {}
-            'w' => {
-                self.put_str(": ");
-                self.put_number(span(context, at).1 as u64);
-            }
+            'z' => self.put_bytes_of(span(context, at).0, at),
+            'w' => self.put_read(at),
+            'd' => self.put_field_shape(at),
             _ => self.put_projection(at.place),
         }
     }
@@ -404,10 +465,10 @@ impl<'a> Printer<'a> {
             'i' | 'l' => self.put_integer(integer(context, at)),
             'k' => self.put_counted(integer(context, at), context.is_signed_enum(at.index)),
             'L' => self.put_counted(integer(context, at), true),
-            't' | 'm' => self.put_type(base(context, at)),
+            't' | 'm' => self.put_value_type(at),
             'h' => self.put_shape(base(context, at)),
             'b' | 'j' | 'q' => self.put_enum_word(letter, at.index),
-            'x' | 'y' | 'w' | 'v' => self.put_struct_word(letter, at),
+            'x' | 'y' | 'z' | 'w' | 'd' | 'v' => self.put_struct_word(letter, at),
             'e' | 'F' => self.put_default_value(at),
             'H' => self.put_default_float(at),
             'I' => self.put_identifier_bytes(),

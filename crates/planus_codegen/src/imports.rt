@@ -21,7 +21,7 @@ pub(crate) const WORDS: [(&str, &str); 6] = [
         "planus.specs.Printed",
         "of_bits binary32 binary64 Table BytesStand slice_bytes slice_start Numbered variant_in \
          u8_enum u16_enum u32_enum u64_enum i8_enum i16_enum i32_enum i64_enum Shape u8_shape u16_shape u32_shape \
-         u64_shape i8_shape i16_shape i32_shape i64_shape bool_shape f32_shape f64_shape \
+         u64_shape i8_shape i16_shape i32_shape i64_shape bool_shape f32_shape f64_shape array_shape \
          IsPrefixed field force_align no_more struct_layout struct_shape FinishGives \
          SizedFinishGives EndsAs FinishLeaves SizedFinishLeaves IsIn AllIn AllUnionsIn \
          IsPrepared IsPlainVector IsPlainVectorRequired IsPlainRequired IsTextField \

@@ -86,7 +86,7 @@ const STRUCT_CODE: [Piece; 11] = [
     Once("$y);\n"),
     Once(READ),
     Once("        read_fields!($T, buffer, offset;~"),
-    Each("$n$w", ",~"),
+    Each("$w", ",~"),
     Once(")\n"),
     Once(STRIDE),
 ];
@@ -110,7 +110,7 @@ pub(crate) fn print_struct<'a>(
 }
 
 const SHAPE_FIELDS: [Piece; 3] = [
-    Each("(field (λ x. x.$n) $h_shape~", ""),
+    Each("(field (λ x. x.$n) $d~", ""),
     Once("no_more"),
     Each(")", ""),
 ];

@@ -2,7 +2,7 @@
 
 ghost use Rattle.std.specs.Prelude.{◌≡◌, ◌+◌, ◌*◌, ◌<◌, ◌≤◌, length, IfOk, IfErr};
 ghost use Rattle.std.specs.List.{AllByRecursion};
-ghost use Rattle.planus_read.specs.Clauses.{FirstBroken};
+ghost use Rattle.planus_read.specs.Clauses.{AllHold, FirstBroken};
 ghost use Rattle.planus_read.specs.Slices.{slice_bytes};
 ghost use Rattle.planus_read.specs.Arrays.{all_encoded, array_bytes, array_clauses};
 ghost use Rattle.planus_read.specs.Arrays.{ArrayThere, ArrayFits};
@@ -47,6 +47,8 @@ pub fn read_array<T: Plain, const N: usize>(
     ensures error { IfErr result
         (FirstBroken (array_clauses T.shape N (slice_bytes buffer.entry) offset)) }
     ensures fits { IfOk result (ArrayFits T.shape N) }
+    ensures unbroken { IfOk result
+        (λ items. AllHold (array_clauses T.shape N (slice_bytes buffer.entry) offset)) }
 {
     let first = match T::read(buffer, offset) {
         Ok(item) => item,

@@ -1,0 +1,5 @@
+pub mod Gear
+pub mod Load
+pub mod Crane
+pub mod Plate
+pub mod Verified

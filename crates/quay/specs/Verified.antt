@@ -1,0 +1,24 @@
+-- The schema as a value, and its names.
+use Rattle.std.specs.Prelude.{◌≡◌, ◌∷◌, [], ℕ, List, codes, true}
+use Rattle.std.proofs.Common.{refl}
+use Rattle.planus_views.specs.Printed.{Shapes, is_whole, NameTexts}
+use Rattle.quay.specs.declared.verified.TheConstants.{FIELDS, TABLES, VARIANTS}
+
+abbrev pub verified_schema : Shapes
+verified_schema = record { fields = FIELDS; tables = TABLES; variants = VARIANTS }
+
+-- its lists fit together
+abbrev pub verified_whole : is_whole verified_schema ≡ true
+verified_whole = refl
+
+-- the tables' names by their indices
+abbrev pub table_names : List (ℕ × List ℕ)
+table_names = (0, codes "Quay") ∷ []
+
+-- the fields' names by the indices of their tables and by their slots
+abbrev pub field_names : List (ℕ × ℕ × List ℕ)
+field_names = (0, 0, codes "name") ∷ (0, 1, codes "plate") ∷ (0, 2, codes "cranes") ∷ []
+
+-- the names of both
+abbrev pub verified_names : NameTexts
+verified_names = record { tables = table_names; fields = field_names }

@@ -1,0 +1,26 @@
+//! Code of a schema.
+#![tactic(auto)]
+
+mod crane;
+mod gear;
+mod load;
+mod plate;
+mod quay;
+
+pub use crane::Crane;
+pub use gear::Gear;
+pub use load::Load;
+pub use planus::Create;
+pub use plate::Plate;
+pub use quay::{Quay, QuayFields, QuayRef};
+
+mod root;
+
+pub use root::{
+    read_as_root, read_size_prefixed_as_root, verify_as_root, verify_size_prefixed_as_root,
+    where_fault_is, where_is,
+};
+
+mod verified;
+
+pub use verified::quay::QuayView;
