@@ -1,9 +1,10 @@
 -- What is read of the text of a graph.
-use Rattle.std.proofs.Common.{◌≡◌, ℕ, zero, suc, List, [], ◌∷◌, ◌++◌, ap, ◌∙◌, append-nil, refl, map, Bool, true, false, cond, Option, Some, None}
-use Rattle.std.specs.Prelude.{◌&&◌, codes, slice_get}
+use Rattle.std.proofs.Common.{◌≡◌, ℕ, zero, suc, List, [], ◌∷◌, ◌++◌, ap, ◌∙◌, append-nil, refl, map, Bool, true, false, cond, Option, Some, None, arith}
+use Rattle.std.specs.Prelude.{◌&&◌, ◌||◌, ◌+◌, ◌/◌, ◌%◌, ◌==◌, nat_lt, codes, slice_get}
+use Rattle.std.specs.Fmt.{decimal, digits, digits_onto, digit_glyph}
 use Rattle.std.specs.List.{flat_map, list_all}
 use Rattle.std.proofs.lemmas.List.Folds.{list_all-append, flat_map-map}
-use Rattle.std.proofs.lemmas.Grind.{flat_map-append}
+use Rattle.std.proofs.lemmas.Grind.{flat_map-append, common_steps}
 use Rattle.planus_schema.specs.declared.scalar.Scalar.{Scalar}
 use Rattle.planus_schema.specs.declared.scalar.Scalar.TheVariants as scalar
 use Rattle.planus_schema.specs.declared.schema.Base.{Base}
@@ -14,7 +15,7 @@ use Rattle.planus_schema.specs.declared.schema.Declared.{Declared}
 use Rattle.planus_schema.specs.declared.schema.FieldType.{FieldType}
 use Rattle.planus_schema.specs.declared.schema.Schema.{Schema}
 use Rattle.planus_dot.specs.Rows.{RowV, rows_of, declared_at}
-use Rattle.planus_dot.specs.Types.{scalar_name, name_of, name_at, base_name}
+use Rattle.planus_dot.specs.Types.{scalar_name, name_of, name_at, base_name, count_text, is_some}
 use Rattle.planus_dot.specs.Nodes.{word_of, integer_of, kind_text, row_text, rows_text, title_text, label_text, node_line, nodes_text}
 use Rattle.planus_dot.specs.Edges.{Edge, edge_of, edge_to, row_edges, body_edges, all_edges, edge_line, edges_text}
 use Rattle.planus_dot.specs.Graphs.{graph_text}
@@ -91,18 +92,48 @@ base_plain ds (base.Struct i) h = no_feed_in (name_at ds i) (named ds i h)
 base_plain ds (base.Table i) h = no_feed_in (name_at ds i) (named ds i h)
 base_plain ds (base.Union i) h = no_feed_in (name_at ds i) (named ds i h)
 
-type_plain : (ds : List Declared) (v : Bool) (name : List ℕ) → list_all no_feed name ≡ true → list_all no_feed (cond v (91 ∷ (name ++ 93 ∷ [])) name) ≡ true
-type_plain ds true name h = all_both no_feed name (93 ∷ []) h refl
-type_plain ds false name h = h
+above_feed : (m : ℕ) → no_feed (48 + m) ≡ true
+above_feed m = grind (arith, common_steps)
 
-kind_plain : (ds : List Declared) (k : Option FieldType) → list_all has_plain_names ds ≡ true → list_all no_feed (kind_text ds k) ≡ true
-kind_plain ds None h = refl
-kind_plain ds (Some k) h = type_plain ds k.vector (base_name ds k.base) (base_plain ds k.base h)
+glyph_plain : (d : ℕ) → no_feed (digit_glyph false d) ≡ true
+glyph_plain d = which (nat_lt d 10)
+  where
+    which : (small : Bool) → no_feed (cond small (48 + d) (87 + d)) ≡ true
+    which true = above_feed d
+    which false = let m : 87 + d ≡ 48 + (39 + d) = omega arith in ap no_feed m ∙ above_feed (39 + d)
+
+chosen_plain : (last : Bool) (now next : List ℕ) → list_all no_feed now ≡ true → list_all no_feed next ≡ true → list_all no_feed (cond last now next) ≡ true
+chosen_plain true now next h k = h
+chosen_plain false now next h k = k
+
+digits_plain : (k n : ℕ) (after : List ℕ) → list_all no_feed after ≡ true → list_all no_feed (digits_onto k 10 false n after) ≡ true
+digits_plain zero n after h = h
+digits_plain (suc k) n after h =
+    let digit = digit_glyph false (n % 10) in
+    let first = and_true (no_feed digit) (list_all no_feed after) (glyph_plain (n % 10)) h in
+    chosen_plain (n / 10 == 0) (digit ∷ after) (digits_onto k 10 false (n / 10) (digit ∷ after)) first
+    (digits_plain k (n / 10) (digit ∷ after) first)
+
+number_plain : (n : ℕ) → list_all no_feed (decimal n) ≡ true
+unfolding digits
+number_plain n = digits_plain 64 n [] refl
+
+count_plain : (n : Option ℕ) → list_all no_feed (count_text n) ≡ true
+count_plain None = refl
+count_plain (Some n) = number_plain n
+
+type_plain : (v : Bool) (name : List ℕ) (n : Option ℕ) → list_all no_feed name ≡ true → list_all no_feed (cond v (91 ∷ (name ++ (count_text n ++ 93 ∷ []))) name) ≡ true
+type_plain true name n h = all_both no_feed name (count_text n ++ 93 ∷ []) h (all_both no_feed (count_text n) (93 ∷ []) (count_plain n) refl)
+type_plain false name n h = h
+
+kind_plain : (ds : List Declared) (k : Option FieldType) (n : Option ℕ) → list_all has_plain_names ds ≡ true → list_all no_feed (kind_text ds k n) ≡ true
+kind_plain ds None n h = refl
+kind_plain ds (Some k) n h = type_plain (k.vector || is_some n) (base_name ds k.base) n (base_plain ds k.base h)
 
 row_plain : (ds : List Declared) → list_all has_plain_names ds ≡ true → (row : RowV) → has_plain_name row ≡ true → list_all no_feed (row_text ds row) ≡ true
 row_plain ds h row p =
-    all_both no_feed row.name (kind_text ds row.kind ++ codes "\\l") (no_feed_in row.name p)
-    (all_both no_feed (kind_text ds row.kind) (codes "\\l") (kind_plain ds row.kind h) refl)
+    all_both no_feed row.name (kind_text ds row.kind row.count ++ codes "\\l") (no_feed_in row.name p)
+    (all_both no_feed (kind_text ds row.kind row.count) (codes "\\l") (kind_plain ds row.kind row.count h) refl)
 
 word_plain : (b : Body) → list_all no_feed (word_of b) ≡ true
 word_plain (body.Table t) = refl

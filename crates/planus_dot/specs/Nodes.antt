@@ -21,13 +21,13 @@ integer_of (body.Struct s) = []
 integer_of (body.Enum e) = codes ": " ++ scalar_name e.scalar
 integer_of (body.Union u) = []
 
-abbrev pub kind_text : List Declared → Option FieldType → List ℕ
-kind_text ds None = []
-kind_text ds (Some kind) = codes ": " ++ type_text ds kind
+abbrev pub kind_text : List Declared → Option FieldType → Option ℕ → List ℕ
+kind_text ds None count = []
+kind_text ds (Some kind) count = codes ": " ++ type_text ds kind count
 
 -- a line of a label, at its left
 abbrev pub row_text : List Declared → RowV → List ℕ
-row_text ds row = row.name ++ (kind_text ds row.kind ++ codes "\\l")
+row_text ds row = row.name ++ (kind_text ds row.kind row.count ++ codes "\\l")
 
 abbrev pub rows_text : List Declared → List RowV → List ℕ
 rows_text ds rows = flat_map (row_text ds) rows

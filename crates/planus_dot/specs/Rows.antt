@@ -13,14 +13,17 @@ use Rattle.planus_schema.specs.declared.schema.TableField.{TableField}
 use Rattle.planus_schema.specs.declared.schema.UnionMember.{UnionMember}
 use Rattle.planus_dot.specs.declared.row.Row.{Row}
 
--- `kind`: a value of an enum has none; `target`: the index of the declaration that it refers to
+-- `kind`: a value of an enum has none; `count`: how many items an array of that type has; `target`:
+-- the index of the declaration that it refers to
 pub record RowV : Type 0 where
   pub name : List ℕ
   pub kind : Option FieldType
+  pub count : Option ℕ
   pub target : Option ℕ
 
 abbrev pub row_view : Row → RowV
-row_view row = record { name = row.name.now; kind = row.kind; target = row.target }
+row_view row =
+    record { name = row.name.now; kind = row.kind; count = row.count; target = row.target }
 
 -- the declaration that a type names
 abbrev pub target_of : Base → Option ℕ
@@ -36,6 +39,7 @@ abbrev pub table_row : TableField → RowV
 table_row f = record {
   name = f.name.items;
   kind = Some f.kind;
+  count = None;
   target = option_or f.nested (target_of f.kind.base);
 }
 
@@ -43,16 +47,18 @@ abbrev pub struct_row : StructField → RowV
 struct_row f = record {
   name = f.name.items;
   kind = Some (record { vector = false; base = f.base });
+  count = f.count;
   target = target_of f.base;
 }
 
 abbrev pub value_row : EnumValue → RowV
-value_row v = record { name = v.name.items; kind = None; target = None }
+value_row v = record { name = v.name.items; kind = None; count = None; target = None }
 
 abbrev pub member_row : UnionMember → RowV
 member_row m = record {
   name = m.name.items;
   kind = Some (record { vector = false; base = base.Table m.table });
+  count = None;
   target = Some m.table;
 }
 

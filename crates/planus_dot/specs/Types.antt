@@ -1,6 +1,7 @@
 -- The names of types.
 use Rattle.std.specs.Prelude.{ℕ, List, [], ◌∷◌, ◌++◌, codes, Option, Some, None, slice_get}
-use Rattle.std.specs.Prelude.{if◌then◌else◌}
+use Rattle.std.specs.Prelude.{if◌then◌else◌, Bool as Truth, true, false, ◌||◌}
+use Rattle.std.specs.Fmt.{decimal}
 use Rattle.planus_schema.specs.declared.scalar.Scalar.{Scalar}
 use Rattle.planus_schema.specs.declared.scalar.Scalar.TheVariants as scalar
 use Rattle.planus_schema.specs.declared.schema.Base.{Base}
@@ -37,7 +38,17 @@ base_name ds (base.Struct i) = name_at ds i
 base_name ds (base.Table i) = name_at ds i
 base_name ds (base.Union i) = name_at ds i
 
--- a type, as a schema has it; a declaration by its full name
-abbrev pub type_text : List Declared → FieldType → List ℕ
-type_text ds kind = if kind.vector then 91 ∷ (base_name ds kind.base ++ 93 ∷ [])
+-- the end of an array's type: a colon and how many items it has
+abbrev pub count_text : Option ℕ → List ℕ
+count_text None = []
+count_text (Some n) = codes ":" ++ decimal n
+
+abbrev pub is_some : Option ℕ → Truth
+is_some None = false
+is_some (Some n) = true
+
+-- a type, as a schema has it, with how many items an array has; a declaration by its full name
+abbrev pub type_text : List Declared → FieldType → Option ℕ → List ℕ
+type_text ds kind count =
+    if kind.vector || is_some count then 91 ∷ (base_name ds kind.base ++ (count_text count ++ 93 ∷ []))
     else base_name ds kind.base

@@ -11,7 +11,7 @@ ghost use Rattle.planus_dot.specs.Nodes.{nodes_text};
 use crate::row::Row;
 use crate::rows::rows_of;
 use crate::types::{put_type, scalar_name};
-use planus_schema::{Body, Declared, FieldType};
+use planus_schema::{Body, Declared};
 use std::alloc::{AllocError, Global};
 
 /// Returns the word that declares it.
@@ -38,31 +38,39 @@ fn put_integer(text: &mut Vec<u8>, body: &Body) -> Result<(), AllocError>
 }
 
 fn put_kind(
+    alloc: Global,
     text: &mut Vec<u8>,
     declarations: &[Declared],
-    kind: Option<FieldType>,
+    row: &Row<'_>,
 ) -> Result<(), AllocError>
-    ensures { OnOk result (text.new.items ≡ text.old.items ++ kind_text declarations.now kind) }
+    ensures { OnOk result (text.new.items
+        ≡ text.old.items ++ kind_text declarations.now row.now.kind row.now.count) }
 {
-    if let Some(kind) = kind {
+    if let Some(kind) = row.kind {
         text.extend_from_slice(b": ")?;
-        put_type(text, declarations, kind)?;
+        put_type(alloc, text, declarations, kind, row.count)?;
     }
     Ok(())
 }
 
 /// Adds a row, which ends at the left.
-fn put_row(text: &mut Vec<u8>, declarations: &[Declared], row: &Row<'_>) -> Result<(), AllocError>
+fn put_row(
+    alloc: Global,
+    text: &mut Vec<u8>,
+    declarations: &[Declared],
+    row: &Row<'_>,
+) -> Result<(), AllocError>
     ensures { OnOk result (text.new.items
         ≡ text.old.items ++ row_text declarations.now (row_view row.now)) }
 {
     text.extend_from_slice(row.name)?;
-    put_kind(text, declarations, row.kind)?;
+    put_kind(alloc, text, declarations, row)?;
     text.extend_from_slice(b"\\l")?;
     Ok(())
 }
 
 fn put_rows(
+    alloc: Global,
     text: &mut Vec<u8>,
     declarations: &[Declared],
     rows: &[Row<'_>],
@@ -71,7 +79,7 @@ fn put_rows(
         ≡ text.old.items ++ rows_text declarations.now (map row_view rows.now)) }
 {
     'rows: for row in rows {
-        put_row(text, declarations, row)?;
+        put_row(alloc, text, declarations, row)?;
     }
     Ok(())
 }
@@ -98,7 +106,7 @@ fn put_label(
     let rows = rows_of(alloc, &declared.body)?;
     put_title(text, declared)?;
     text.push(b'|')?;
-    put_rows(text, declarations, &rows)
+    put_rows(alloc, text, declarations, &rows)
 }
 
 /// Adds the line of a node.

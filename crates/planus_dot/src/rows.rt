@@ -28,6 +28,7 @@ fn table_row(field: &TableField) -> Row<'_>
     Row {
         name: &field.name,
         kind: Some(field.kind),
+        count: None,
         target: field.nested.or(target_of(field.kind.base)),
     }
 }
@@ -41,6 +42,7 @@ fn struct_row(field: &StructField) -> Row<'_>
             vector: false,
             base: field.base,
         }),
+        count: field.count,
         target: target_of(field.base),
     }
 }
@@ -51,6 +53,7 @@ fn value_row(value: &EnumValue) -> Row<'_>
     Row {
         name: &value.name,
         kind: None,
+        count: None,
         target: None,
     }
 }
@@ -64,6 +67,7 @@ fn member_row(member: &UnionMember) -> Row<'_>
             vector: false,
             base: Base::Table(member.table),
         }),
+        count: None,
         target: Some(member.table),
     }
 }

@@ -3,10 +3,10 @@
 ghost use Rattle.std.specs.Prelude.{◌≡◌, ◌++◌, OnOk};
 ghost use Rattle.planus_dot.specs.Types.{scalar_name as scalar_name_lem};
 ghost use Rattle.planus_dot.specs.Types.{name_at as name_at_lem, base_name as base_name_lem};
-ghost use Rattle.planus_dot.specs.Types.{type_text};
+ghost use Rattle.planus_dot.specs.Types.{count_text, type_text};
 
 use planus_schema::{Base, Declared, FieldType, Scalar};
-use std::alloc::AllocError;
+use std::alloc::{AllocError, Global};
 
 pub(crate) fn scalar_name(scalar: Scalar) -> &'static str
     ensures { result.now ≡ scalar_name_lem scalar }
@@ -48,18 +48,32 @@ fn base_name(declarations: &[Declared], base: Base) -> &[u8]
     }
 }
 
-/// Adds a type.
+/// Adds a colon and the number of an array's items.
+fn put_count(alloc: Global, text: &mut Vec<u8>, count: Option<usize>) -> Result<(), AllocError>
+    ensures { OnOk result (text.new.items ≡ text.old.items ++ count_text count) }
+{
+    if let Some(count) = count {
+        text.extend_from_slice(format!(in alloc; ":{count}")?.as_bytes())?;
+    }
+    Ok(())
+}
+
+/// Adds a type. `count`: how many items an array of it has.
 pub(crate) fn put_type(
+    alloc: Global,
     text: &mut Vec<u8>,
     declarations: &[Declared],
     kind: FieldType,
+    count: Option<usize>,
 ) -> Result<(), AllocError>
-    ensures { OnOk result (text.new.items ≡ text.old.items ++ type_text declarations.now kind) }
+    ensures { OnOk result
+        (text.new.items ≡ text.old.items ++ type_text declarations.now kind count) }
 {
     let name = base_name(declarations, kind.base);
-    if kind.vector {
+    if kind.vector || count.is_some() {
         text.push(b'[')?;
         text.extend_from_slice(name)?;
+        put_count(alloc, text, count)?;
         text.push(b']')?;
     } else {
         text.extend_from_slice(name)?;

@@ -11,7 +11,7 @@ use Rattle.planus_read.specs.Clauses.{Clause, AllHold, FirstBroken}
 use Rattle.planus_read.specs.Plain.{Shape}
 use Rattle.planus_read.specs.Stands.{ItemsStand}
 use Rattle.planus_read.specs.lemmas.StructLaws.{both_hold}
-use Rattle.planus_read.specs.Arrays.{all_encoded, array_bytes, array_clauses}
+use Rattle.planus_read.specs.Arrays.{all_encoded, array_bytes, item_clauses}
 
 pub all_more : {A : Type 0} (P : A → Type 0) (xs : List A) (y : A) → AllByRecursion P xs → P y
     → AllByRecursion P (xs ++ y ∷ [])
@@ -65,35 +65,35 @@ module _ {A : Type 0} {size alignment : ℕ} (shape : Shape A size alignment) wh
       omega (arith, suc-mul (length xs) size) in
       (all.0, there_more S (f + size) xs y all.1 (subst (λ p. shape.There S p y) e one))
 
-  clauses_more : (i : ℕ) (S : List ℕ) (f : ℕ) → AllHold (array_clauses shape i S f)
-      → AllHold (shape.clauses S (f + i * size)) → AllHold (array_clauses shape (suc i) S f)
+  clauses_more : (i : ℕ) (S : List ℕ) (f : ℕ) → AllHold (item_clauses shape i S f)
+      → AllHold (shape.clauses S (f + i * size)) → AllHold (item_clauses shape (suc i) S f)
   clauses_more zero S f all one =
       let e : f + 0 * size ≡ f = omega arith in
       both_hold (shape.clauses S f) [] (subst (λ p. AllHold (shape.clauses S p)) e one) tt
   clauses_more (suc i) S f all one =
-      let both = both_held (shape.clauses S f) (array_clauses shape i S (f + size)) all in
+      let both = both_held (shape.clauses S f) (item_clauses shape i S (f + size)) all in
       let e : f + suc i * size ≡ f + size + i * size = omega (arith, suc-mul i size) in
-      both_hold (shape.clauses S f) (array_clauses shape (suc i) S (f + size)) both.0
+      both_hold (shape.clauses S f) (item_clauses shape (suc i) S (f + size)) both.0
       (clauses_more i S (f + size) both.1 (subst (λ p. AllHold (shape.clauses S p)) e one))
 
-  pub one_more_holds : (i : ℕ) (S : List ℕ) (f : ℕ) → AllHold (array_clauses shape i S f)
-      → AllHold (shape.clauses S (f + i * size)) → AllHold (array_clauses shape (i + 1) S f)
+  pub one_more_holds : (i : ℕ) (S : List ℕ) (f : ℕ) → AllHold (item_clauses shape i S f)
+      → AllHold (shape.clauses S (f + i * size)) → AllHold (item_clauses shape (i + 1) S f)
   one_more_holds i S f all one =
       let e : suc i ≡ i + 1 = omega arith in
-      subst (λ n. AllHold (array_clauses shape n S f)) e (clauses_more i S f all one)
+      subst (λ n. AllHold (item_clauses shape n S f)) e (clauses_more i S f all one)
 
   pub broken_at : (i n : ℕ) (S : List ℕ) (f : ℕ) (e : ErrorKind) → i < n
-      → AllHold (array_clauses shape i S f) → FirstBroken (shape.clauses S (f + i * size)) e
-      → FirstBroken (array_clauses shape n S f) e
+      → AllHold (item_clauses shape i S f) → FirstBroken (shape.clauses S (f + i * size)) e
+      → FirstBroken (item_clauses shape n S f) e
   broken_at i zero S f e less all broken = omega (arith, less)
   broken_at zero (suc n) S f e less all broken =
       let here : f + 0 * size ≡ f = omega arith in
-      first_broken (shape.clauses S f) (array_clauses shape n S (f + size)) e
+      first_broken (shape.clauses S f) (item_clauses shape n S (f + size)) e
       (subst (λ p. FirstBroken (shape.clauses S p) e) here broken)
   broken_at (suc i) (suc n) S f e less all broken =
-      let both = both_held (shape.clauses S f) (array_clauses shape i S (f + size)) all in
+      let both = both_held (shape.clauses S f) (item_clauses shape i S (f + size)) all in
       let there : f + suc i * size ≡ f + size + i * size = omega (arith, suc-mul i size) in
-      later_broken (shape.clauses S f) (array_clauses shape n S (f + size)) e both.0
+      later_broken (shape.clauses S f) (item_clauses shape n S (f + size)) e both.0
       (broken_at i n S (f + size) e (omega (arith, less)) both.1
       (subst (λ p. FirstBroken (shape.clauses S p) e) there broken))
 

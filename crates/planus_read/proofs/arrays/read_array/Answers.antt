@@ -5,6 +5,7 @@ use Rattle.std.specs.List.{AllByRecursion}
 use Rattle.planus_read.specs.Clauses.{FirstBroken}
 use Rattle.planus_read.specs.Slices.{slice_bytes}
 use Rattle.planus_read.specs.Stands.{ItemsStand}
+use Rattle.planus_read.specs.lemmas.ArrayLaws.{items_are_whole, item_is_broken}
 use Rattle.planus_read.proofs.ArraySteps.{all_more, there_more, one_more_holds, broken_at}
 use Rattle.planus_read.proofs.arrays.read_array.Goals as goal
 
@@ -17,15 +18,17 @@ next_at at f i size step is turned = omega (arith, is, turned)
 pub returns-in-Err-clause-error : goal.returns-in-Err-clause-error
 returns-in-Err-clause-error g c =
     let shape = g.T.Plain.shape in let S = slice_bytes c.args.buffer in
-    broken_at shape 0 g.row.N S c.args.offset c.in-Err.error c.requires.some tt
-    (subst (λ p. FirstBroken (shape.clauses S p) c.in-Err.error) (first_at c.args.offset g.T.Plain.SIZE) c.in-Err.ensures.answer)
+    item_is_broken shape g.row.N S c.args.offset c.in-Err.error
+    (broken_at shape 0 g.row.N S c.args.offset c.in-Err.error c.requires.some tt
+    (subst (λ p. FirstBroken (shape.clauses S p) c.in-Err.error) (first_at c.args.offset g.T.Plain.SIZE) c.in-Err.ensures.answer))
 
 pub returns-in-Err-read-clause-error : goal.returns-in-Err-read-clause-error
 returns-in-Err-read-clause-error g c =
     let shape = g.T.Plain.shape in let S = slice_bytes c.args.buffer in
-    broken_at shape c.loop-i.i g.row.N S c.args.offset c.in-Err-read.error c.loop-i-test.true c.loop-i.invariant.5
+    item_is_broken shape g.row.N S c.args.offset c.in-Err-read.error
+    (broken_at shape c.loop-i.i g.row.N S c.args.offset c.in-Err-read.error c.loop-i-test.true c.loop-i.invariant.5
     (subst (λ p. FirstBroken (shape.clauses S p) c.in-Err-read.error)
-    (next_at c.loop-i.place c.args.offset c.loop-i.i g.T.Plain.SIZE c.SIZE-place.result c.loop-i.invariant.2 c.SIZE-place.ensures) c.in-Err-read.ensures.answer)
+    (next_at c.loop-i.place c.args.offset c.loop-i.i g.T.Plain.SIZE c.SIZE-place.result c.loop-i.invariant.2 c.SIZE-place.ensures) c.in-Err-read.ensures.answer))
 
 pub loop-i-preserved : goal.loop-i-preserved
 loop-i-preserved g c =
@@ -52,3 +55,8 @@ loop-i-preserved g c =
       one_more_holds shape i S c.args.offset c.loop-i.invariant.5
           (shape.unbroken S (c.args.offset + i * size) c.in-Ok-read.item there),
     )
+
+pub returns-clause-unbroken : goal.returns-clause-unbroken
+returns-clause-unbroken g c =
+    let shape = g.T.Plain.shape in let S = slice_bytes c.args.buffer in
+    items_are_whole shape g.row.N S c.args.offset (search rules)

@@ -3,7 +3,7 @@ use Rattle.std.specs.List.{AllByRecursion}
 use Rattle.planus_read.specs.Clauses.{AllHold}
 use Rattle.planus_read.specs.Slices.{slice_bytes}
 use Rattle.planus_read.specs.Stands.{ItemsStand}
-use Rattle.planus_read.specs.Arrays.{array_clauses}
+use Rattle.planus_read.specs.Arrays.{item_clauses}
 use Rattle.planus_read.proofs.arrays.read_array.Given as goal
 
 abbrev pub invariant-loop-i : goal.invariant-loop-i
@@ -14,4 +14,4 @@ invariant-loop-i g l =
     × (l.place + g.T.Plain.SIZE ≡ l.offset + l.i * g.T.Plain.SIZE)
     × ItemsStand (λ p x. shape.There S p x) l.offset g.T.Plain.SIZE (take l.i l.items)
     × AllByRecursion (λ x. shape.fits x) (take l.i l.items)
-    × AllHold (array_clauses shape l.i S l.offset)
+    × AllHold (item_clauses shape l.i S l.offset)
