@@ -78,7 +78,7 @@ mark_message m =
     else if m == 125 then codes "expected `}`"
     else if m == 40 then codes "expected `(`"
     else if m == 41 then codes "expected `,` or `)`"
-    else if m == 93 then codes "expected `]`; arrays of a fixed size are not supported"
+    else if m == 93 then codes "expected `]`"
     else if m == 58 then codes "expected `:`"
     else if m == 59 then codes "expected `;`"
     else codes "expected another mark"

@@ -30,7 +30,7 @@ fn mark_message(mark: u8) -> &'static str
         b'}' => "expected `}`",
         b'(' => "expected `(`",
         b')' => "expected `,` or `)`",
-        b']' => "expected `]`; arrays of a fixed size are not supported",
+        b']' => "expected `]`",
         b':' => "expected `:`",
         b';' => "expected `;`",
         _ => "expected another mark",
