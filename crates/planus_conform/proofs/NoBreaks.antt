@@ -1,9 +1,10 @@
 -- Nothing breaks where nothing changed, or fields are added.
-use Rattle.std.proofs.Common.{◌≡◌, ℕ, zero, suc, ◌+◌, ◌-◌, ◌<◌, ◌≤◌, Bool, true, false, cond, List, [], ◌∷◌, ◌++◌, length, map, slice_get, refl, sym, ap, subst, ◌∙◌, Option, Some, None, option_map, ◌⊎◌, inl, inr, arith}
+use Rattle.std.proofs.Common.{◌≡◌, ℕ, zero, suc, ◌+◌, ◌-◌, ◌*◌, ◌<◌, ◌≤◌, Bool, true, false, cond, List, [], ◌∷◌, ◌++◌, length, map, slice_get, refl, sym, ap, subst, ◌∙◌, Option, Some, None, option_map, ◌⊎◌, inl, inr, arith}
 use Rattle.std.specs.Prelude.{◌==◌, ◌&&◌, ◌||◌, not, if◌then◌else◌, nat_eq, nat_lt}
 use Rattle.std.specs.List.{list_any, list_all, prefix_len, AllByRecursion, Contains, IsDistinct}
 use Rattle.std.specs.Str.{bytes_eq}
 use Rattle.std.proofs.lemmas.Bool.{eq-eqb, ne_eqb, lt-ltb}
+use Rattle.std.proofs.Math.Nat.{mul-le-mul_right}
 use Rattle.std.proofs.lemmas.Option.{slice_get-map, slice_get_within}
 use Rattle.std.proofs.lemmas.Slice.Eq.{bytes_eq-Decides}
 use Rattle.planus_schema.specs.declared.measure.Measure.{Measure}
@@ -25,7 +26,8 @@ use Rattle.planus_schema.specs.Layouts.{measure_in, measure_of_body, body_in, La
 use Rattle.planus_schema.specs.Numbers.{scalar_size}
 use Rattle.planus_schema.specs.Slots.{is_union, slots_taken, are_apart, are_whole}
 use Rattle.planus_resolve.specs.Schemas.{IsBody}
-use Rattle.planus_resolve.specs.Sound.{Refers, IsNested, IsTableAt, RefersField, IsBelow, RefersBefore, RefersBody, AreSound}
+use Rattle.planus_resolve.specs.Structs.{items_in}
+use Rattle.planus_resolve.specs.Sound.{Refers, IsNested, IsTableAt, RefersField, IsBelow, IsCount, RefersBefore, RefersBody, AreSound}
 use Rattle.planus_resolve.specs.Tables.{type_name, all_names}
 use Rattle.planus_resolve.specs.Unions.{tag_in}
 use Rattle.planus_conform.specs.declared.breaks.Change.{Change}
@@ -227,8 +229,15 @@ field_sized bs n h (base.Struct i) x l e = body_sized (slice_get bs i) x (λ s. 
 field_sized bs n h (base.Table i) x l e = absurd l
 field_sized bs n h (base.Union i) x l e = absurd l
 
+items_some : (count : Option ℕ) → IsCount count → 1 ≤ items_in count
+items_some None h = omega arith
+items_some (Some n) h = h.0
+
 part_sized : (bs : List Body) (n : ℕ) → SizedBelow bs n → (f : StructField) → RefersBefore bs n f → 0 < f.size
-part_sized bs n h f r = field_sized bs n h f.base (record { size = f.size; alignment = f.alignment }) r.below r.measure
+part_sized bs n h f r =
+    let item : 0 < r.item.size = field_sized bs n h f.base r.item r.below r.measure in
+    let most : 1 * r.item.size ≤ items_in f.count * r.item.size = mul-le-mul_right r.item.size (items_some f.count r.count) in
+    omega (arith, item, most, r.size)
 
 laid_end : (at end : ℕ) (fs : List StructField) → Laid at fs end → at ≤ end
 laid_end at end [] l = omega (arith, l)

@@ -2,6 +2,7 @@
 
 ghost use Rattle.std.specs.Prelude.{◌≡◌, None, []};
 
+mod arrays;
 mod ports;
 mod structs;
 
