@@ -345,7 +345,8 @@ impl<'a> Printer<'a> {
         let is_first = at.place == 0;
         let in_brackets = is_first && array_count(context, at).is_some();
         self.put_str(if in_brackets { "[" } else { "" });
-        self.put_plain_hole('n', at);
+        self.put_char(OWN);
+        self.put_name(context.names.member(at.index, at.place));
         self.put_str(if in_brackets { "]" } else { "" });
         if !is_first {
             self.put_str(": ");
