@@ -16,6 +16,7 @@ ghost use Rattle.harbour.specs.Verified.{verified_schema, verified_names};
 
 use planus_views::{
     FieldKind, FieldName, FieldShape, Names, Schema, TableName, TableShape, ValueKind, Variant,
+    VariantKind,
 };
 
 pub const FIELDS: [FieldShape; 87] = [
@@ -485,22 +486,22 @@ pub const VARIANTS: [Variant; 4] = [
     Variant {
         union: 0,
         tag: 1,
-        table: 0,
+        kind: VariantKind::Table(0),
     },
     Variant {
         union: 0,
         tag: 2,
-        table: 1,
+        kind: VariantKind::Table(1),
     },
     Variant {
         union: 1,
         tag: 1,
-        table: 6,
+        kind: VariantKind::Table(6),
     },
     Variant {
         union: 1,
         tag: 2,
-        table: 5,
+        kind: VariantKind::Table(5),
     },
 ];
 

@@ -10,6 +10,7 @@ ghost use Rattle.monsters.specs.Verified.{verified_schema, verified_names};
 
 use planus_views::{
     FieldKind, FieldName, FieldShape, Names, Schema, TableName, TableShape, ValueKind, Variant,
+    VariantKind,
 };
 
 pub const FIELDS: [FieldShape; 8] = [
@@ -63,7 +64,7 @@ pub const TABLES: [TableShape; 2] = [
 pub const VARIANTS: [Variant; 1] = [Variant {
     union: 0,
     tag: 1,
-    table: 0,
+    kind: VariantKind::Table(0),
 }];
 
 /// Returns the schema.

@@ -18,6 +18,7 @@ use Rattle.planus.specs.ReadPlain.{IsPlainFieldOr}
 use Rattle.planus.specs.ReadBack.{SlotHolds, TableHolds, content_at, is_other, are_apart}
 use Rattle.planus.specs.FieldLines.{FieldLine, holds_first, holds_last, all_first, all_last}
 use Rattle.planus.specs.FieldLines.{contents_of, Returns, ReturnsGiven, AllReturnGiven}
+use Rattle.planus.specs.KeptPlains.{KeptPlainsStandIn}
 use Rattle.planus.specs.FieldLines.{KeptTablesStandIn, RootIsRead, ReadsBack}
 use Rattle.planus.specs.FieldLines.FieldLine.{optional, required, plain_if, plain_or, number_or, signed_or, union, union_required, unions, unions_required}
 
@@ -121,13 +122,14 @@ module _ (B : List ℕ) (table : Table) where
 
 -- Where the table holds what the lines say, each method returns what was given.
 pub reads_back : (builder : State) (lines : List FieldLine) (B : List ℕ) (table : Table)
-    → KeptTablesStandIn B builder → TableHolds B (contents_of lines) table
+    → KeptTablesStandIn B builder → KeptPlainsStandIn B builder → TableHolds B (contents_of lines) table
     → are_apart (contents_of lines) ≡ true → ReadsBack builder lines table
-reads_back builder lines B table keeps holds apart =
+reads_back builder lines B table keeps keeps_plains holds apart =
     let hold = all_hold B table (content_at (contents_of lines)) (contents_of lines) holds
     (agree (contents_of lines) apart) in record {
       bytes = B;
       keeps = keeps;
+      keeps_plains = keeps_plains;
       holds = holds;
       returns = all_given_back B table lines (first_hold B table (all_first lines) (all_last lines) hold)
           (last_hold B table (all_first lines) (all_last lines) hold);
@@ -149,5 +151,5 @@ pub written_reads_back
 written_reads_back table_of before builder lines root identifier (Err e) is history writes apart = tt
 written_reads_back table_of before builder lines root identifier (Ok read) is history writes apart =
     ok_also _ (λ view. ReadsBack before lines (table_of view)) read
-    (λ view found. reads_back before lines found.0 (table_of view) found.2 found.3 apart)
+    (λ view found. reads_back before lines found.0 (table_of view) found.2 found.3 found.4 apart)
     (is before (contents_of lines) history writes apart)

@@ -1,26 +1,32 @@
 -- A union is read as the variant with its tag.
-use Rattle.std.proofs.Common.{◌≡◌, ℕ, ◌+◌, List, [], ◌∷◌, drop, sym, subst, ap, Option, Some, None, Result, Ok, Err, inl, inr}
+use Rattle.std.proofs.Common.{◌≡◌, ℕ, ◌+◌, ◌≤◌, List, [], ◌∷◌, length, take, drop, sym, subst, ap}
+use Rattle.std.proofs.Common.{◌∙◌, Option, Some, None, Result, Ok, Err, inl, inr, arith, length-drop}
 use Rattle.std.specs.Prelude.{IsOkAnd, IsSomeAnd}
 use Rattle.std.specs.Borrow.{Bor}
 use Rattle.std.specs.Str.{IsUtf8}
 use Rattle.planus_read.specs.declared.errors.ErrorKind.{ErrorKind}
+use Rattle.planus_read.specs.declared.slice_helpers.SliceWithStartOffset.{SliceWithStartOffset}
 use Rattle.planus_read.specs.declared.table_reader.Table.{Table}
-use Rattle.planus_read.specs.Bytes.{position_of}
-use Rattle.planus_read.specs.Slices.{ShowsBytes}
-use Rattle.planus_read.specs.Reading.{Leads, text_reading}
+use Rattle.planus_read.specs.Bytes.{BytesStand, position_of}
+use Rattle.planus_read.specs.Slices.{slice_bytes, ShowsBytes}
+use Rattle.planus_read.specs.Reading.{Leads, target, text_reading}
 use Rattle.planus_read.specs.Stands.{Stands, at}
 use Rattle.planus_read.specs.Tables.{ReadsBoth}
 use Rattle.planus_read.specs.Values.{Value, Field, reference, text}
-use Rattle.planus_read.proofs.SliceLaws.{references_lead}
+use Rattle.planus_read.proofs.Reading.{leads_inside, leads_to, stood_inside}
+use Rattle.planus_read.proofs.SliceLaws.{bytes_in_slice, leads_in_slices, references_lead}
 use Rattle.planus_read.proofs.ReadingLaws.{is_shown, lawful_text}
 use Rattle.planus_read.proofs.ReadsBack.{what_stands_reads_back}
+use Rattle.planus_view.specs.PlainRefs.{ApartStands, plain_ref_clauses}
+use Rattle.planus_view.proofs.PlainRefs.{none_broken}
 use Rattle.planus_write.specs.Contents.{Content, item, value, values, written, union_tags}
 use Rattle.planus_write.specs.Contents.{union_values, written_tags, written_values}
 use Rattle.planus.specs.ReadBack.{FieldHolds, TableStands}
 use Rattle.planus.specs.ReadKinds.{reads_text}
 use Rattle.planus.specs.ReadUnions.{IsReference, ReadsUnion}
-use Rattle.planus.specs.Unions.{UnionVariant, table_variant, text_variant}
-use Rattle.planus.specs.Unions.{IsTable, IsText, ReadsVariant, ReadsTagged, ReadsVariants}
+use Rattle.planus.specs.Unions.{UnionVariant, table_variant, text_variant, struct_variant}
+use Rattle.planus.specs.Unions.{IsTable, IsText, IsApart, reads_struct}
+use Rattle.planus.specs.Unions.{ReadsVariant, ReadsTagged, ReadsVariants}
 use Rattle.planus.specs.Unions.{IsKnown, IsUnknown, HasVariants, VariantStands, EachStands}
 use Rattle.planus.specs.Unions.{UnionStands, IsVariant, IsUnion}
 use Rattle.planus.proofs.Accessors.{view_led}
@@ -34,6 +40,48 @@ text_led B bytes distance utf8 stands start f leads r h =
     leads in
     is_shown (text_reading (drop start B) f) ShowsBytes (lawful_text (drop start B) f) bytes read.there
     r h
+
+struct_led : (B bytes : List ℕ) (distance : ℕ) → ApartStands B distance bytes → (start f : ℕ)
+    → Leads B (start + f) (position_of B distance) → (r : Result SliceWithStartOffset ErrorKind)
+    → reads_struct (length bytes) (drop start B) start f r
+    → IsOkAnd r (λ slice. BytesStand (slice_bytes slice) 0 bytes)
+struct_led B bytes distance stands start f leads r h = answered r h
+  where
+    S : List ℕ
+    S = drop start B
+
+    position : ℕ
+    position = f + leads.0
+
+    here : Leads S f position
+    here = leads_in_slices B start f position
+        (leads.0, leads.1, (let e : start + position ≡ start + f + leads.0 = omega arith in e))
+
+    stood : BytesStand S position bytes
+    stood =
+        let to : position_of B distance ≡ start + f + leads.0 = leads.2 in
+        let at : position_of B distance ≡ start + position = omega (arith, to) in
+        bytes_in_slice B start position bytes (subst (λ p. BytesStand B p bytes) at stands)
+
+    inside : target S f + length bytes ≤ length S
+    inside =
+        let to : position_of B distance ≡ start + f + leads.0 = leads.2 in
+        let within : position_of B distance ≤ length B = omega arith in
+        let at = leads_to S f position here in
+        let long : length bytes ≤ length (drop position S) =
+        stood_inside (drop position S) bytes stood in
+        omega (arith, to, within, at, long, length-drop position S, length-drop start B)
+
+    answered : (r : Result SliceWithStartOffset ErrorKind)
+        → reads_struct (length bytes) (drop start B) start f r
+        → IsOkAnd r (λ slice. BytesStand (slice_bytes slice) 0 bytes)
+    answered (Ok slice) h =
+        let at : position ≡ h.0 = leads_to S f position here ∙ sym (leads_to S f h.0 h.1.0) in
+        subst (λ (l : List ℕ). take (length bytes) l ≡ bytes) (sym h.2.bytes)
+        (subst (λ p. BytesStand S p bytes) at stood)
+    answered (Err e) h = absurd
+        (none_broken (plain_ref_clauses (length bytes) S f) e h
+        (leads_inside S f position here, (inside, tt)))
 
 abbrev distance_of : Field → ℕ
 distance_of (reference distance) = distance
@@ -68,6 +116,19 @@ text_stands B (union_values _) bytes distance is holds = elim is [ ]
 text_stands B (written_tags _) bytes distance is holds = elim is [ ]
 text_stands B (written_values _) bytes distance is holds = elim is [ ]
 
+struct_stands : (B : List ℕ) (content : Content) (bytes : List ℕ) (distance : ℕ)
+    → IsApart B content bytes → FieldHolds B content (reference distance)
+    → ApartStands B distance bytes
+struct_stands B (written d) bytes distance is holds =
+    subst (λ d. ApartStands B d bytes) (sym (ap distance_of holds)) is
+struct_stands B (value _) bytes distance is holds = elim is [ ]
+struct_stands B (item _) bytes distance is holds = elim is [ ]
+struct_stands B (values _) bytes distance is holds = elim is [ ]
+struct_stands B (union_tags _) bytes distance is holds = elim is [ ]
+struct_stands B (union_values _) bytes distance is holds = elim is [ ]
+struct_stands B (written_tags _) bytes distance is holds = elim is [ ]
+struct_stands B (written_values _) bytes distance is holds = elim is [ ]
+
 abbrev the_table : Table → Table
 the_table table = table
 
@@ -91,6 +152,12 @@ module _ {U : Type 0} (B : List ℕ) (tag : ℕ) (content : Content) (start f di
       (λ lent h bytes utf8 is. text_led B bytes distance utf8
       (text_stands B content bytes distance is holds) start f leads (Ok lent) h)
       h
+  variant_found (struct_variant tag size slice_of) union h =
+      when_some (slice_of union)
+      (λ slice h bytes sized is. struct_led B bytes distance
+      (struct_stands B content bytes distance is holds) start f leads (Ok slice)
+      (subst (λ size. reads_struct size (drop start B) start f (Ok slice)) (sym sized) h))
+      h
 
   variant_refused : (variant : UnionVariant U) (e : ErrorKind) → VariantStands variant B content
       → ReadsVariant variant (drop start B) start f (Err e) → ⊥
@@ -100,6 +167,10 @@ module _ {U : Type 0} (B : List ℕ) (tag : ℕ) (content : Content) (start f di
   variant_refused (text_variant tag text_of) e stands h =
       text_led B stands.0 distance stands.1 (text_stands B content stands.0 distance stands.2 holds)
       start f leads (Err e) h
+  variant_refused (struct_variant tag size slice_of) e stands h =
+      struct_led B stands.0 distance (struct_stands B content stands.0 distance stands.2 holds)
+      start f leads (Err e)
+      (subst (λ size. reads_struct size (drop start B) start f (Err e)) (sym stands.1) h)
 
   tagged_found : (variants : List (UnionVariant U)) (union : U)
       → ReadsTagged variants (drop start B) start tag f (Ok union) → IsUnion variants B tag content union
@@ -142,10 +213,23 @@ text_refers B (union_values _) bytes is = is
 text_refers B (written_tags _) bytes is = is
 text_refers B (written_values _) bytes is = is
 
+struct_refers : (B : List ℕ) (content : Content) (bytes : List ℕ) → IsApart B content bytes
+    → IsReference content
+struct_refers B (written d) bytes is = tt
+struct_refers B (item _) bytes is = is
+struct_refers B (value _) bytes is = tt
+struct_refers B (values _) bytes is = tt
+struct_refers B (union_tags _) bytes is = is
+struct_refers B (union_values _) bytes is = is
+struct_refers B (written_tags _) bytes is = is
+struct_refers B (written_values _) bytes is = is
+
 variant_refers : {U : Type 0} (variant : UnionVariant U) (B : List ℕ) (content : Content)
     → VariantStands variant B content → IsReference content
 variant_refers (table_variant tag table_of) B content stands = table_refers B content stands.0 stands.1
 variant_refers (text_variant tag text_of) B content stands = text_refers B content stands.0 stands.2
+variant_refers (struct_variant tag size slice_of) B content stands =
+    struct_refers B content stands.0 stands.2
 
 pub union_refers : {U : Type 0} (variants : List (UnionVariant U)) (B : List ℕ) (tag : ℕ)
     (content : Content) → IsKnown variants tag → EachStands variants B tag content

@@ -1,5 +1,7 @@
 -- The words of clauses and definitions of printed code, passed on from where they are defined.
 pub use lib.Ieee.{of_bits, binary32, binary64}
+pub use Rattle.std.specs.Borrow.{Bor}
+pub use Rattle.planus_read.specs.declared.slice_helpers.SliceWithStartOffset.{SliceWithStartOffset}
 pub use Rattle.planus_read.specs.declared.table_reader.Table.{Table}
 pub use Rattle.planus_read.specs.Bytes.{BytesStand}
 pub use Rattle.planus_read.specs.Enums.{Numbered, variant_in, u8_enum, u16_enum, u32_enum}
@@ -24,7 +26,9 @@ pub use Rattle.planus.specs.ReadPlain.{IsPlainField, IsPlainFieldOr}
 pub use Rattle.planus.specs.Roots.{IsRoot}
 pub use Rattle.planus.specs.UnionAccessors.{IsUnionField, IsUnionRequired, IsUnionVector}
 pub use Rattle.planus.specs.UnionAccessors.{IsUnionVectorRequired}
-pub use Rattle.planus.specs.Unions.{ReadsVariants, UnionVariant, table_variant}
+pub use Rattle.planus.specs.Unions.{ReadsVariants, UnionVariant, table_variant, text_variant}
+pub use Rattle.planus.specs.Unions.{struct_variant}
+pub use Rattle.planus_view.specs.PlainRefs.{plain_slice}
 pub use Rattle.planus.specs.FieldLines.{plains, judged, texts, tables}
 pub use Rattle.planus.specs.FieldLines.FieldLine.{optional, required, plain_if, plain_or}
 pub use Rattle.planus.specs.FieldLines.FieldLine.{number_or, signed_or, union, union_required}

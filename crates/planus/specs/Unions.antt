@@ -1,30 +1,36 @@
--- Unions as they are read: each variant is a table or a string.
-use Rattle.std.specs.Prelude.{◌≡◌, ◌≢◌, ℕ, ◌<◌, List, [], ◌∷◌, Option, Result, Ok, Err}
+-- Unions as they are read: each variant is a table, a string or a struct.
+use Rattle.std.specs.Prelude.{◌≡◌, ◌≢◌, ℕ, ◌<◌, List, [], ◌∷◌, length, Option, Result, Ok, Err}
 use Rattle.std.specs.Prelude.{◌⊎◌, IsSomeAnd, ⊤}
 use Rattle.std.specs.Borrow.{Bor}
 use Rattle.std.specs.Str.{IsUtf8}
 use Rattle.planus_read.specs.declared.errors.ErrorKind.{ErrorKind}
 use Rattle.planus_read.specs.declared.errors.ErrorKind.TheVariants.{UnknownUnionTag}
+use Rattle.planus_read.specs.declared.slice_helpers.SliceWithStartOffset.{SliceWithStartOffset}
 use Rattle.planus_read.specs.declared.table_reader.Table.{Table}
-use Rattle.planus_read.specs.Bytes.{position_of}
+use Rattle.planus_read.specs.Bytes.{BytesStand, position_of}
+use Rattle.planus_read.specs.Slices.{slice_bytes}
 use Rattle.planus_read.specs.Stands.{Stands, at}
 use Rattle.planus_read.specs.Tables.{Reads, ReadsBoth}
 use Rattle.planus_read.specs.Values.{text}
+use Rattle.planus_view.specs.PlainRefs.{ApartStands, reads_plain_ref}
 use Rattle.planus_write.specs.Contents.{Content, value, written}
 use Rattle.planus.specs.ReadBack.{TableStands, TableHolds}
 use Rattle.planus.specs.ReadKinds.{reads_text}
 use Rattle.planus.specs.Views.{reads_as}
 
--- a variant's tag, and the table or string that its union has
+-- a variant's tag, and what its union has: the table, the string, or the slice from the first byte
+-- of a struct of this size on
 pub data UnionVariant (U : Type 0) : Type 0 where
   table_variant : ℕ → (U → Option Table) → UnionVariant U
   text_variant : ℕ → (U → Option (Bor (List ℕ))) → UnionVariant U
+  struct_variant : ℕ → ℕ → (U → Option SliceWithStartOffset) → UnionVariant U
 
 abbrev pub tag_of : {U : Type 0} → UnionVariant U → ℕ
 tag_of (table_variant tag table_of) = tag
 tag_of (text_variant tag text_of) = tag
+tag_of (struct_variant tag size slice_of) = tag
 
--- the value is this table, written before, or this string
+-- the value is this table, written before, this string, or the struct of these bytes, written before
 abbrev pub IsTable : List ℕ → Content → List (ℕ × Option Content) → Type 0
 IsTable B (written distance) contents = TableStands B contents distance
 IsTable B _ contents = ⊥
@@ -33,6 +39,13 @@ abbrev pub IsText : List ℕ → Content → List ℕ → Type 0
 IsText B (value content) bytes = content ≡ text bytes
 IsText B (written distance) bytes = Stands B (at (position_of B distance)) (text bytes)
 IsText B _ bytes = ⊥
+
+abbrev pub IsApart : List ℕ → Content → List ℕ → Type 0
+IsApart B (written distance) bytes = ApartStands B distance bytes
+IsApart B _ bytes = ⊥
+
+abbrev pub reads_struct : ℕ → Reads SliceWithStartOffset
+reads_struct size = reads_plain_ref (λ (slice : SliceWithStartOffset). slice) size
 
 module _ {U : Type 0} where
   abbrev pub ReadsVariant : UnionVariant U → Reads U
@@ -43,6 +56,10 @@ module _ {U : Type 0} where
   ReadsVariant (text_variant tag text_of) S start f (Ok union) =
       IsSomeAnd (text_of union) (λ lent. reads_text S start f (Ok lent))
   ReadsVariant (text_variant tag text_of) S start f (Err e) = reads_text S start f (Err e)
+  ReadsVariant (struct_variant tag size slice_of) S start f (Ok union) =
+      IsSomeAnd (slice_of union) (λ slice. reads_struct size S start f (Ok slice))
+  ReadsVariant (struct_variant tag size slice_of) S start f (Err e) =
+      reads_struct size S start f (Err e)
 
   abbrev pub ReadsTagged : List (UnionVariant U) → ReadsBoth U
   ReadsTagged [] S start tag f r = ⊥
@@ -76,6 +93,8 @@ module _ {U : Type 0} where
       (contents : List (ℕ × Option Content)) × IsTable B content contents
   VariantStands (text_variant tag text_of) B content =
       (bytes : List ℕ) × IsUtf8 bytes × IsText B content bytes
+  VariantStands (struct_variant tag size slice_of) B content =
+      (bytes : List ℕ) × (length bytes ≡ size) × IsApart B content bytes
 
   abbrev pub EachStands : List (UnionVariant U) → List ℕ → ℕ → Content → Type 0
   EachStands [] B tag content = ⊤
@@ -90,7 +109,7 @@ module _ {U : Type 0} where
     pub below : tag < 256
     pub each : EachStands variants B tag content
 
-  -- the union read has this table, or this string
+  -- the union read has this table, this string, or the struct of these bytes
   abbrev pub IsVariant : UnionVariant U → List ℕ → Content → U → Type 0
   IsVariant (table_variant tag table_of) B content union =
       IsSomeAnd (table_of union)
@@ -99,6 +118,10 @@ module _ {U : Type 0} where
   IsVariant (text_variant tag text_of) B content union =
       IsSomeAnd (text_of union)
       (λ lent. (bytes : List ℕ) → IsUtf8 bytes → IsText B content bytes → lent.now ≡ bytes)
+  IsVariant (struct_variant tag size slice_of) B content union =
+      IsSomeAnd (slice_of union)
+      (λ slice. (bytes : List ℕ) → length bytes ≡ size → IsApart B content bytes
+      → BytesStand (slice_bytes slice) 0 bytes)
 
   abbrev pub IsUnion : List (UnionVariant U) → List ℕ → ℕ → Content → U → Type 0
   IsUnion [] B tag content union = ⊥

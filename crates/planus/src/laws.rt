@@ -4,6 +4,8 @@ ghost use Rattle.planus.specs.ReadBack.{KeptTablesStand, KeptTablesStay};
 ghost use Rattle.planus.specs.ReadBack.{FinishesKeepTables, SizedFinishesKeepTables};
 ghost use Rattle.planus.specs.ReadBack.{FinishedTablesStand, SizedFinishedTablesStand};
 ghost use Rattle.planus.specs.ReadBack.{RootsReadBack};
+ghost use Rattle.planus.specs.KeptPlains.{KeptPlainsStay, PlainsStandOn, PlainsStandFinished};
+ghost use Rattle.planus.specs.KeptPlains.{FinishesKeepPlains, SizedFinishesKeepPlains};
 ghost use Rattle.planus.specs.ReadBack.{ItemsReadBack, ReferencesReadBack};
 ghost use Rattle.planus.specs.ItemAccessors.{TableViewsReadBack};
 ghost use Rattle.planus.specs.ReadPlain.{PlainResultsReadBack};
@@ -34,6 +36,19 @@ pub fn kept_tables_stay()
 pub fn finishes_keep_tables<T, X: WriteAsOffset<T>>()
     ensures root_first { FinishesKeepTables X.may X.outcome }
     ensures size_first { SizedFinishesKeepTables X.may X.outcome }
+{}
+
+/// A value of a fixed layout that was written by itself stays so until a clear.
+pub fn kept_plains_stay()
+    ensures history { KeptPlainsStay }
+    ensures builder { PlainsStandOn }
+{}
+
+/// It is encoded in what any finish gives, aligned, also after its size if it has one.
+pub fn finishes_keep_plains<T, X: WriteAsOffset<T>>()
+    ensures root_first { FinishesKeepPlains X.may X.outcome }
+    ensures size_first { SizedFinishesKeepPlains X.may X.outcome }
+    ensures builder { PlainsStandFinished X.may X.outcome }
 {}
 
 /// The first reference of a finish leads to the table that is its root.

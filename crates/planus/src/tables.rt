@@ -29,6 +29,7 @@ mod union_parts;
 mod union_vector_at;
 mod union_vector_parts;
 mod variant;
+mod write_plain;
 
 pub use create::create_table;
 pub use field_at::FieldAt;
@@ -59,3 +60,4 @@ pub use union_fields::{
 };
 pub use union_vector_at::UnionVectorAt;
 pub use variant::Variant;
+pub use write_plain::create_plain;

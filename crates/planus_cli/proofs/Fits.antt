@@ -25,6 +25,8 @@ unfolding scalar_named
 words_fit expected.AnyType = refl
 words_fit (expected.InStruct index) = refl
 words_fit expected.Table = refl
+words_fit expected.Record = refl
+words_fit expected.Member = refl
 
 one_fits : (t : Bool) (P : Name → Type 0) (name : Name) (names : List Name) → (t ≡ true → P name) → All P names
     → All P (cond t (name ∷ names) names)

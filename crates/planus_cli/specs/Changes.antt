@@ -68,7 +68,7 @@ after change.ValueAdded p r =
     codes ": its number is new: old code fails at it in new data; update readers first"
 after change.MemberRemoved p r = codes ": removed: new code fails at it in old data; keep it"
 after change.MemberChanged p r =
-    codes ": another table has its tag: code of either schema misreads it; write the tags out"
+    codes ": another type has its tag: code of either schema misreads it; write the tags out"
 after change.MemberAdded p r =
     codes ": its tag is new: old code fails at it in new data; update readers first"
 after change.RootChanged p r =

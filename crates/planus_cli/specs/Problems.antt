@@ -23,8 +23,8 @@ after problem.TagTaken = codes ": a member before it has the same number"
 after problem.NoIntegerType = codes " is no integer type"
 after problem.ValueOutOfRange = codes ": the type of the enum does not hold this number"
 after problem.TagOutOfRange = codes ": the number of a member is from 1 to 255"
-after problem.MemberIsNoTable =
-    codes " is no table; unions of structs and strings are not supported"
+after problem.NoUnionMember =
+    codes ": a member of a union is a table, a struct or, after a name of its own, `string`"
 after problem.NoStructField =
     codes ": a field of a struct is a scalar, an enum, a struct or an array of these"
 after problem.DeclaredLater =

@@ -86,7 +86,7 @@ fn after(change: Change, place: Place, is_required: bool) -> &'static str
             ": its number is new: old code fails at it in new data; update readers first",
         Change::MemberRemoved => ": removed: new code fails at it in old data; keep it",
         Change::MemberChanged =>
-            ": another table has its tag: code of either schema misreads it; write the tags out",
+            ": another type has its tag: code of either schema misreads it; write the tags out",
         Change::MemberAdded =>
             ": its tag is new: old code fails at it in new data; update readers first",
         Change::RootChanged =>

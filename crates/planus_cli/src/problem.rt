@@ -38,7 +38,9 @@ fn after(problem: Problem) -> &'static str
         Problem::NoIntegerType => " is no integer type",
         Problem::ValueOutOfRange => ": the type of the enum does not hold this number",
         Problem::TagOutOfRange => ": the number of a member is from 1 to 255",
-        Problem::MemberIsNoTable => " is no table; unions of structs and strings are not supported",
+        Problem::NoUnionMember => {
+            ": a member of a union is a table, a struct or, after a name of its own, `string`"
+        }
         Problem::NoStructField =>
             ": a field of a struct is a scalar, an enum, a struct or an array of these",
         Problem::DeclaredLater =>

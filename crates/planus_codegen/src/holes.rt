@@ -14,7 +14,11 @@
 //! type of its value, `h` the name of its shape; of a field of a struct `d` its shape, `z` its size,
 //! `w` its name with its offset, if it isn't the first, both in brackets of an array, `x` the padding
 //! before it, `f` its name in a record, `v` its value in the tuple of all; of a member of a union `g`
-//! its tag, `m` its table; of either `B` the index of the type among the tables or unions.
+//! its tag, `m` its type; of either `B` the index of the type among the tables or unions.
+//!
+//! Of a member of a union, by its type: `D` what it is, `G` an offset to it, `R` its type as it is
+//! read, `J` verified, `E` how it is read, `H` verified; in definitions `K` its variant, `L` what
+//! stands for its value, `e` from that as it is read, `F` verified; `l` its kind in the schema's value.
 //!
 //! Of a field of a table: `o` its slot, `u` the slot before, `r` the slot it is read by; `l` its
 //! default as an integer, `L` in clauses, `e` as a value of an enum, `F` as a float, `H` in clauses;
@@ -26,6 +30,7 @@ use crate::at::At;
 use crate::context::{Context, scalar_name};
 use crate::defaults::{default, default_clause, default_number, default_place};
 use crate::known::is_escaped;
+use crate::members::member_template;
 use crate::printer::{OWN, Printer};
 use crate::types::{encoded, given, has_default, is_optional, is_union, read};
 use crate::verified_tables::verified;
@@ -146,7 +151,7 @@ fn base(context: &Context<'_>, at: At) -> Base {
             None => Base::Text,
         },
         Some(Body::Union(one)) => match one.members.get(at.place) {
-            Some(member) => Base::Table(member.table),
+            Some(member) => member.base,
             None => Base::Text,
         },
         _ => Base::Text,
@@ -490,12 +495,25 @@ impl<'a> Printer<'a> {
         }
     }
 
+    // What a letter stands for in a member of a union, or of another declaration without templates.
+    fn put_member_hole(&mut self, letter: char, at: At) {
+        let context = self.context;
+        let template = match context.body(at.index) {
+            Some(Body::Union(_)) => member_template(letter, base(context, at)),
+            _ => None,
+        };
+        match template {
+            Some(template) => self.put_plain(template, at),
+            None => self.put_plain_hole(letter, at),
+        }
+    }
+
     /// Adds what a letter stands for.
     pub(crate) fn put_hole(&mut self, letter: char, at: At) {
         let context = self.context;
         let field = match context.field(at) {
             Some(field) => field,
-            None => return self.put_plain_hole(letter, at),
+            None => return self.put_member_hole(letter, at),
         };
         match letter {
             'G' => self.put_field_type(is_optional(field), given(field.kind), at),

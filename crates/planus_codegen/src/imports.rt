@@ -14,23 +14,24 @@ pub(crate) const WORDS: [(&str, &str); 6] = [
         "◌≡◌ ◌≤◌ ◌==◌ ◌↔◌ ◌∷◌ [] ℕ ℤ Bool List Option length codes pos negsuc nat_eq true false \
          bit_and bit_or IfOk IfErr IsOkAnd IsTrue MatchOption ⊤ Some None Ok Err",
     ),
-    ("std.specs.Borrow", "sem"),
+    ("std.specs.Borrow", "sem Bor"),
     ("std.specs.Int", "w8 w16 w32 w64"),
     ("std.specs.Ordering", "int_eq"),
     (
         "planus.specs.Printed",
-        "of_bits binary32 binary64 Table BytesStand slice_bytes slice_start Numbered variant_in \
-         u8_enum u16_enum u32_enum u64_enum i8_enum i16_enum i32_enum i64_enum Shape u8_shape u16_shape u32_shape \
-         u64_shape i8_shape i16_shape i32_shape i64_shape bool_shape f32_shape f64_shape array_shape \
-         IsPrefixed field force_align no_more struct_layout struct_shape FinishGives \
-         SizedFinishGives EndsAs FinishLeaves SizedFinishLeaves IsIn AllIn AllUnionsIn \
-         IsPrepared IsPlainVector IsPlainVectorRequired IsPlainRequired IsTextField \
-         IsTextRequired IsBytesField IsBytesRequired IsTextVector IsTextVectorRequired \
-         IsTableField IsTableRequired IsTableVector IsTableVectorRequired plain_kind text_kind \
-         bytes_kind table_kind IsPlainField IsPlainFieldOr IsRoot IsUnionField IsUnionRequired \
-         IsUnionVector IsUnionVectorRequired ReadsVariants UnionVariant table_variant plains \
-         judged texts tables optional required plain_if plain_or number_or signed_or union \
-         union_required unions unions_required IsSizedRoot gives_as",
+        "of_bits binary32 binary64 Table BytesStand SliceWithStartOffset plain_slice \
+         slice_bytes slice_start Numbered variant_in u8_enum u16_enum u32_enum u64_enum i8_enum \
+         i16_enum i32_enum i64_enum Shape u8_shape u16_shape u32_shape u64_shape i8_shape \
+         i16_shape i32_shape i64_shape bool_shape f32_shape f64_shape array_shape IsPrefixed \
+         field force_align no_more struct_layout struct_shape FinishGives SizedFinishGives \
+         EndsAs FinishLeaves SizedFinishLeaves IsIn AllIn AllUnionsIn IsPrepared IsPlainVector \
+         IsPlainVectorRequired IsPlainRequired IsTextField IsTextRequired IsBytesField \
+         IsBytesRequired IsTextVector IsTextVectorRequired IsTableField IsTableRequired \
+         IsTableVector IsTableVectorRequired plain_kind text_kind bytes_kind table_kind \
+         IsPlainField IsPlainFieldOr IsRoot IsUnionField IsUnionRequired IsUnionVector \
+         IsUnionVectorRequired ReadsVariants UnionVariant table_variant struct_variant \
+         text_variant plains judged texts tables optional required plain_if plain_or number_or \
+         signed_or union union_required unions unions_required IsSizedRoot gives_as",
     ),
     (
         "planus_views.specs.Printed",

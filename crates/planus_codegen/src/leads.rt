@@ -42,10 +42,17 @@ fn target_of(field: &TableField) -> Option<usize> {
     }
 }
 
+fn table_in(base: Base) -> Option<usize> {
+    match base {
+        Base::Table(index) => Some(index),
+        _ => None,
+    }
+}
+
 fn target_at(declared: &[Declared], stop: Stop) -> Option<usize> {
     match &declared.get(stop.index)?.body {
         Body::Table(table) => target_of(table.fields.get(stop.place)?),
-        Body::Union(union) => Some(union.members.get(stop.place)?.table),
+        Body::Union(union) => table_in(union.members.get(stop.place)?.base),
         _ => None,
     }
 }
@@ -131,10 +138,10 @@ pub(crate) fn left_before(alloc: Global, declared: &[Declared]) -> Result<Vec<us
 }
 
 fn are_left_before(left: &[usize], union: &Union, table: usize) -> bool {
-    union
-        .members
-        .iter()
-        .all(|member| left.get(member.table) < left.get(table))
+    union.members.iter().all(|member| match table_in(member.base) {
+        Some(index) => left.get(index) < left.get(table),
+        None => true,
+    })
 }
 
 /// Whether all tables to which a field leads are left before its own, by these numbers, and a union

@@ -20,6 +20,7 @@ mod holes;
 mod imports;
 mod known;
 mod leads;
+mod members;
 mod names;
 mod order;
 mod printer;

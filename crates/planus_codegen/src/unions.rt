@@ -2,11 +2,12 @@
 
 use crate::at::At;
 use crate::context::Context;
+use crate::members::letters_more;
 use crate::printer::Piece::{Documented, Each, Once};
 use crate::printer::{Piece, Printer};
-use planus_schema::{Declared, Union};
+use planus_schema::{Base, Declared, Union};
 
-/// The most letters of the names in an arm on one line: the union's and the member's.
+/// The most letters of the names in a table's arm on one line: the union's and the member's.
 const ARM_LETTERS: usize = 42;
 
 /// The most members of a union that one function reads.
@@ -18,12 +19,12 @@ pub struct $T;
 impl $T {
 ";
 
-const OF_TABLE: &str = "    /// Returns the variant `$n` with the table at this offset.
-    pub fn from_$V(^table: Offset<$m>^) -> UnionOffset<$T>
+const OF_OFFSET: &str = "    /// Returns the variant `$n` with the $D at this offset.
+    pub fn from_$V(^$G: Offset<$m>^) -> UnionOffset<$T>
         ensures tag { result.tag ≡ $g }
-        ensures offset { result.offset.distance ≡ table.distance }
+        ensures offset { result.offset.distance ≡ $G.distance }
     {
-        UnionOffset::new($g, table.downcast())
+        UnionOffset::new($g, $G.downcast())
     }
 ";
 
@@ -48,10 +49,10 @@ impl<'a> TableReadUnion<'a> for $TRef<'a> {
     ) -> Result<$TRef<'a>, ErrorKind> {
 ";
 
-const ARM: &str = "            $g => Ok($TRef::$n(read_view(buffer, offset)?)),\n";
+const ARM: &str = "            $g => Ok($TRef::$n($E)),\n";
 
 const WIDE_ARM: &str = "            $g => {
-                let view = read_view(buffer, offset)?;
+                let view = $E;
                 Ok($TRef::$n(view))
             }
 ";
@@ -73,10 +74,10 @@ fn from_$p<'a>(
     match tag {
 ";
 
-const ARM_FROM: &str = "        $g => Ok($TRef::$n(read_view(buffer, offset)?)),\n";
+const ARM_FROM: &str = "        $g => Ok($TRef::$n($E)),\n";
 
 const WIDE_ARM_FROM: &str = "        $g => {
-            let view = read_view(buffer, offset)?;
+            let view = $E;
             Ok($TRef::$n(view))
         }
 ";
@@ -106,14 +107,14 @@ impl<'a> VectorReadUnion<'a> for $TRef<'a> {
 ";
 
 const ONLY: &str = "\
-abbrev pub $M_$g : $TRef → Option Table
-$M_$g ($M_ref.$n view) = Some view.0
+abbrev pub $M_$g : $TRef → Option $L
+$M_$g ($M_ref.$n view) = Some $e
 
 ";
 
 const ONE_OF: &str = "\
-abbrev pub $M_$g : $TRef → Option Table
-$M_$g ($M_ref.$n view) = Some view.0
+abbrev pub $M_$g : $TRef → Option $L
+$M_$g ($M_ref.$n view) = Some $e
 $M_$g _ = None
 
 ";
@@ -132,11 +133,15 @@ abbrev pub $M_variants : List (UnionVariant $TRef)
 $M_variants = from_0_on
 ";
 
-fn has_wide_arms(context: &Context<'_>, at: At) -> bool {
+fn has_wide_arms(context: &Context<'_>, at: At, one: &Union) -> bool {
     let names = &context.names;
     let letters = names.type_name(at.index).len();
-    for place in 0..names.count(at.index) {
-        if letters.saturating_add(names.member(at.index, place).len()) > ARM_LETTERS {
+    for (place, member) in one.members.iter().enumerate() {
+        let name = names.member(at.index, place).len();
+        let all = letters
+            .saturating_add(name)
+            .saturating_add(letters_more(member.base));
+        if all > ARM_LETTERS {
             return true;
         }
     }
@@ -145,9 +150,9 @@ fn has_wide_arms(context: &Context<'_>, at: At) -> bool {
 
 const UNION_CODE: [Piece; 5] = [
     Once(KIND),
-    Each(OF_TABLE, "\n"),
+    Each(OF_OFFSET, "\n"),
     Once(VIEW),
-    Documented("", "    $n($mRef<'a>),\n"),
+    Documented("", "    $n($R),\n"),
     Once(READ),
 ];
 
@@ -168,6 +173,12 @@ const READ_TOGETHER_WIDE: [Piece; 4] = [
 
 const READ_FROM_FIRST: [Piece; 2] = [Once("        from_0(buffer, tag, offset)\n"), Once(VECTOR)];
 
+fn has_tables_alone(one: &Union) -> bool {
+    one.members
+        .iter()
+        .all(|member| matches!(member.base, Base::Table(_)))
+}
+
 pub(crate) fn print_union<'a>(
     context: &'a Context<'a>,
     at: At,
@@ -175,8 +186,12 @@ pub(crate) fn print_union<'a>(
     one: &Union,
 ) -> Printer<'a> {
     let mut printer = Printer::new(context);
-    let wide = has_wide_arms(context, at);
-    let words = "/// The kind of one of some tables.\n";
+    let wide = has_wide_arms(context, at, one);
+    let words = if has_tables_alone(one) {
+        "/// The kind of one of some tables.\n"
+    } else {
+        "/// The kind of one of some types.\n"
+    };
     printer.put_docs("", &declared.docs, words, at);
     printer.put_pieces(&UNION_CODE, at);
     if one.members.len() > MOST_TOGETHER {
@@ -192,11 +207,7 @@ pub(crate) fn print_union<'a>(
     printer
 }
 
-const LISTED_VARIANTS: [Piece; 3] = [
-    Once(VARIANTS),
-    Each("~table_variant $g $M_$g ∷", ""),
-    Once("~[]\n"),
-];
+const LISTED_VARIANTS: [Piece; 3] = [Once(VARIANTS), Each("~$K $M_$g ∷", ""), Once("~[]\n")];
 
 pub(crate) fn print_variants<'a>(context: &'a Context<'a>, at: At, one: &Union) -> Printer<'a> {
     let mut printer = Printer::new(context);
@@ -204,12 +215,7 @@ pub(crate) fn print_variants<'a>(context: &'a Context<'a>, at: At, one: &Union) 
     printer.put_each(if several { ONE_OF } else { ONLY }, "", at);
     if one.members.len() > MOST_TOGETHER {
         printer.put("-- by their tags, from some on\n", at);
-        printer.put_lists(
-            VARIANTS_FROM,
-            "~table_variant $g $M_$g ∷",
-            "~from_$p_on",
-            at,
-        );
+        printer.put_lists(VARIANTS_FROM, "~$K $M_$g ∷", "~from_$p_on", at);
         printer.put(ALL_VARIANTS, at);
     } else {
         printer.put_pieces(&LISTED_VARIANTS, at);

@@ -14,13 +14,13 @@ pub(crate) const ERRORS: &str = "ErrorKind UnknownEnumTagKind";
 /// The names of `planus` that code may need.
 pub(crate) const NAMES: &str =
     "BuildError Builder Built ByteList Create Exact FieldAt FieldGroup Lines8 List Offset \
-     OrDefault Plain PlainField PlainTotal Result SliceWithStartOffset Stride TableKind \
-     TableReadUnion TableView TableWriter Text UnionOffset UnionVector Vector \
-     VectorReadUnion bytes_field bytes_required create_table fields plain_field plain_field_or \
-     plain_required plain_vector plain_vector_required put_fields read_fields read_root \
-     read_sized_root read_variant read_view table_field table_required table_vector \
-     table_vector_required text_field text_required text_vector text_vector_required union_field \
-     union_required union_vector union_vector_required";
+     OrDefault Plain PlainField PlainRef PlainTotal Result SliceWithStartOffset Stride \
+     TableKind TableRead TableReadUnion TableView TableWriter Text UnionOffset UnionVector \
+     Vector VectorReadUnion bytes_field bytes_required create_table fields plain_field \
+     plain_field_or plain_required plain_vector plain_vector_required put_fields read_fields \
+     read_plain_ref read_root read_sized_root read_variant read_view table_field table_required \
+     table_vector table_vector_required text_field text_required text_vector \
+     text_vector_required union_field union_required union_vector union_vector_required";
 
 /// The module of verified views.
 pub(crate) const VERIFIED: &str = "verified";

@@ -3,11 +3,10 @@
 use crate::at::At;
 use crate::context::Context;
 use crate::leads::leads_on;
-use crate::printer::Piece::{Each, Once};
-use crate::printer::{Piece, Printer};
+use crate::printer::Printer;
 use crate::types::is_bytes;
 use crate::verified_schema::places_by_slot;
-use planus_schema::{Base, Table, TableField};
+use planus_schema::{Base, Table, TableField, Union};
 use std::alloc::AllocError;
 
 const PASS: &str = "
@@ -40,8 +39,14 @@ impl planus_views::%VerifyUnion for $T {
         match tag {
 ";
 
-const MEMBER: &str =
+const TABLE: &str =
     "            $g => planus_views::member_passes::<$T, $m>(^tag, $g, at, depth, left^),\n";
+
+const STRUCT: &str =
+    "            $g => planus_views::struct_member_passes::<$T>(^tag, $g, $C, at, depth, left^),\n";
+
+const TEXT: &str =
+    "            $g => planus_views::text_member_passes::<$T>(^tag, $g, at, depth, left^),\n";
 
 const MEMBERS_END: &str = "            _ => Some(left),
         }
@@ -49,7 +54,14 @@ const MEMBERS_END: &str = "            _ => Some(left),
 }
 ";
 
-const MEMBERS_CODE: [Piece; 3] = [Once(MEMBERS), Each(MEMBER, ""), Once(MEMBERS_END)];
+/// The arm for a member of this type.
+fn arm_of(base: Base) -> &'static str {
+    match base {
+        Base::Table(_) => TABLE,
+        Base::Struct(_) => STRUCT,
+        _ => TEXT,
+    }
+}
 
 /// The method for a field, up to its slot.
 fn method_of(field: &TableField) -> &'static str {
@@ -125,8 +137,12 @@ impl<'a> Printer<'a> {
     }
 
     /// Adds the function that verifies a union.
-    pub(crate) fn put_pass_member(&mut self, at: At) {
-        self.put_pieces(&MEMBERS_CODE, at);
+    pub(crate) fn put_pass_member(&mut self, at: At, one: &Union) {
+        self.put(MEMBERS, at);
+        for (place, member) in one.members.iter().enumerate() {
+            self.put(arm_of(member.base), at.member(place));
+        }
+        self.put(MEMBERS_END, at);
     }
 }
 

@@ -16,8 +16,9 @@ ghost use Rattle.$c.specs.Verified.{verified_schema, verified_names};
 
 use planus_views::{
     FieldKind, FieldName, FieldShape, Names, Schema, TableName, TableShape, ValueKind, Variant,
-};
 ";
+
+const KIND_OF_VARIANTS: &str = "    VariantKind,\n";
 
 const SCHEMA: &str = "
 /// Returns the schema.
@@ -55,7 +56,7 @@ const VARIANT: [&str; 5] = [
     "Variant {\n",
     "    union: $a,\n",
     "    tag: $g,\n",
-    "    table: $B,\n",
+    "    kind: VariantKind::$l,\n",
     "}",
 ];
 
@@ -166,6 +167,12 @@ pub(crate) fn print_schema<'a>(context: &'a Context<'a>) -> Result<Printer<'a>, 
     }
     let mut printer = Printer::new(context);
     printer.put(USES, At::declaration(0));
+    printer.put_str(if variants.count > 0 {
+        KIND_OF_VARIANTS
+    } else {
+        ""
+    });
+    printer.put_str("};\n");
     printer.put_constant("FIELDS", "FieldShape", &fields);
     printer.put_constant("TABLES", "TableShape", &tables);
     printer.put_constant("VARIANTS", "Variant", &variants);

@@ -38,16 +38,12 @@ impl<'a> planus_views::UnionOf<'a> for $TView<'a> {
     fn of_member(member: planus_views::Member<'a>) -> $TView<'a> {
 ";
 
-const CODE: [Piece; 3] = [
-    Once(KIND),
-    Documented("", "    $n($mView<'a>),\n"),
-    Once(VIEW),
-];
+const CODE: [Piece; 3] = [Once(KIND), Documented("", "    $n($J),\n"), Once(VIEW)];
 
-const ARM: &str = "            $g => $TView::$n(member.table::<$T, _>($g)),\n";
+const ARM: &str = "            $g => $TView::$n(member.$H),\n";
 
 const WIDE_ARM: &str = "            $g => {
-                let view = member.table::<$T, _>($g);
+                let view = member.$H;
                 $TView::$n(view)
             }
 ";
@@ -75,10 +71,10 @@ fn view_from_$p<'a>(member: planus_views::Member<'a>) -> $TView<'a>
     match member.tag() {
 ";
 
-const ARM_FROM: &str = "        $g => $TView::$n(member.table::<$T, _>($g)),\n";
+const ARM_FROM: &str = "        $g => $TView::$n(member.$H),\n";
 
 const WIDE_ARM_FROM: &str = "        $g => {
-            let view = member.table::<$T, _>($g);
+            let view = member.$H;
             $TView::$n(view)
         }
 ";
@@ -94,8 +90,8 @@ const UNKNOWN_FROM: &str = "        tag => $TView::$Z(tag),
 ";
 
 const ONE_OF: &str = "
-abbrev pub $M_view_$g : $TView → Option Table
-$M_view_$g ($M_view.$n view) = Some (view_table view.0)
+abbrev pub $M_view_$g : $TView → Option $L
+$M_view_$g ($M_view.$n view) = Some $F
 $M_view_$g _ = None
 ";
 
@@ -106,7 +102,7 @@ const LISTED_VARIANTS: [Piece; 3] = [
 abbrev pub $M_view_variants : List (UnionVariant $TView)
 $M_view_variants =",
     ),
-    Each("~table_variant $g $M_view_$g ∷", ""),
+    Each("~$K $M_view_$g ∷", ""),
     Once("~[]\n"),
 ];
 
@@ -167,7 +163,7 @@ pub(crate) fn print_verified_union<'a>(
         printer.put(UNKNOWN, at);
     }
     if passes_by_itself(one) {
-        printer.put_pass_member(at);
+        printer.put_pass_member(at, one);
     }
     printer
 }
@@ -177,7 +173,7 @@ impl<'a> Printer<'a> {
     pub(crate) fn put_verified_variants(&mut self, at: At, one: &Union) {
         self.put_each(ONE_OF, "", at);
         if one.members.len() > MOST_TOGETHER {
-            let entry = "~table_variant $g $M_view_$g ∷";
+            let entry = "~$K $M_view_$g ∷";
             self.put_str("\n-- the variants of a verified one, by their tags, from some on\n");
             self.put_lists(VARIANTS_FROM, entry, "~view_from_$p_on", at);
             self.put(ALL_VARIANTS, at);

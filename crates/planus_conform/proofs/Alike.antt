@@ -7,6 +7,7 @@ use Rattle.std.specs.declared.alloc.Global.{Global}
 use Rattle.std.proofs.lemmas.Bool.{eqb-true, eq-eqb}
 use Rattle.planus_read.specs.Tables.{Slot}
 use Rattle.planus_read.specs.declared.errors.ErrorKind.TheVariants.{InvalidOffset}
+use Rattle.std.specs.Int.{w32}
 use Rattle.planus_dump.specs.Answers.{Seen, SeenItems, SeenUnion, SeenUnions, table_at, vector_at, bits_at, union_at, unions_at}
 use Rattle.planus_dump.specs.Tests.{fault_text, answered, byte_list_tests, content_at}
 use Rattle.planus_inspect.specs.Shown.{bits_of}
@@ -36,7 +37,7 @@ use Rattle.planus_conform.specs.declared.breaks.Place.TheVariants as place
 use Rattle.planus_conform.specs.declared.breaks.Way.{Way}
 use Rattle.planus_conform.specs.declared.breaks.Way.TheVariants as way
 use Rattle.planus_conform.specs.Found.{Call, field, part, item, buffer, Found, unknown, withdrawn, unopened, absent, missing, default, shown, bits, known, stranger, fault, table, structure, member, items, unions}
-use Rattle.planus_conform.specs.Values.{body_of, body_at, fields_in, struct_in, enum_in, union_in, said, said_bits, scalar_found, table_found, bytes_found, struct_found, width_of, is_value, is_known, number_found, enum_found, member_in, member_found, tagged_found, union_found, value_found, items_found, enum_size, struct_size, stride, sized_list, enum_list, struct_list, list_found}
+use Rattle.planus_conform.specs.Values.{body_of, body_at, fields_in, struct_in, enum_in, union_in, said, said_bits, scalar_found, table_found, bytes_found, struct_found, width_of, is_value, is_known, number_found, enum_found, member_in, led_found, member_found, tagged_found, union_found, value_found, items_found, enum_size, struct_size, stride, sized_list, enum_list, struct_list, list_found}
 use Rattle.planus_conform.specs.Reads.{absent_found, is_nothing, given, default_found, default_of, field_in, present_found, placed_found, one_union_found, unions_found, union_field_found, found_by, field_found, found_if, inner_root, inner_found, buffer_found, buffer_if, part_in, parts_of, counted_found, part_found, item_found, union_item_found, table_called, struct_called, items_called, unions_called, called, root, root_found}
 use Rattle.planus_conform.specs.Matching.{match_at, is_index, Matches}
 use Rattle.planus_conform.specs.Alike.{Same, is_left_out, is_missing, is_withdrawn, is_unopened, is_number_read, is_newer, is_given_up, is_excused, is_excused_within, SameAnswers, ReadAlike, is_identified, PassAlike}
@@ -54,10 +55,6 @@ module _ (w : Way) (m : List (Option ℕ)) (old new : List Declared) where
   abbrev SimStruct : ℕ → List ℕ → Found → Type 0
   SimStruct i s (structure j t) = (s ≡ t) × Matches m i j
   SimStruct i s found = ⊥
-
-  abbrev SimMember : ℕ → ℕ → Seen → Found → Type 0
-  SimMember n i s (member k j t) = (n ≡ k) × (s ≡ t) × Matches m i j
-  SimMember n i s found = ⊥
 
   abbrev SimItems : Base → SeenItems → Found → Type 0
   SimItems b s (items c t) = (s ≡ t) × (same_base m b c ≡ true)
@@ -82,7 +79,8 @@ module _ (w : Way) (m : List (Option ℕ)) (old new : List Declared) where
   Sim (fault x) g = fault x ≡ g
   Sim (table i s) g = SimTable i s g
   Sim (structure i s) g = SimStruct i s g
-  Sim (member n i s) g = SimMember n i s g
+  Sim (member n x) (member k y) = (n ≡ k) × Sim x y
+  Sim (member n x) g = ⊥
   Sim (items b s) g = SimItems b s g
   Sim (unions i s) g = SimUnions i s g
 
@@ -98,8 +96,8 @@ module _ (w : Way) (m : List (Option ℕ)) (old new : List Declared) where
   sim_same (table i x) g s = absurd s
   sim_same (structure i x) (structure j y) s = s.0
   sim_same (structure i x) g s = absurd s
-  sim_same (member n i x) (member k j y) s = (s.0, s.1)
-  sim_same (member n i x) g s = absurd s
+  sim_same (member n x) (member k y) s = (s.0, sim_same x y s.1)
+  sim_same (member n x) g s = absurd s
   sim_same (items b x) (items c y) s = s.0
   sim_same (items b x) g s = absurd s
   sim_same (unions i x) (unions j y) s = s.0
@@ -144,16 +142,15 @@ module _ (w : Way) (m : List (Option ℕ)) (old new : List Declared) where
   table_sim i j e (Ok x) = (refl, e)
   table_sim i j e (Err x) = refl
 
-  member_sim : (n i j : ℕ) → Matches m i j → (r : Result Seen (List ℕ)) → Sim (member_found n i r) (member_found n j r)
-  member_sim n i j e (Ok x) = (refl, refl, e)
-  member_sim n i j e (Err x) = refl
+  bytes_sim : (i j : ℕ) → Matches m i j → (size : ℕ) (S : List ℕ) (f : ℕ) → Sim (bytes_found i size S f) (bytes_found j size S f)
+  bytes_sim i j e size S f = by_test (nat_le (f + size) (length S))
+    where
+      by_test : (t : Bool) → Sim (if t then structure i (take size (drop f S)) else fault (fault_text InvalidOffset)) (if t then structure j (take size (drop f S)) else fault (fault_text InvalidOffset))
+      by_test true = (refl, e)
+      by_test false = refl
 
   bytes_near : (i j : ℕ) → Matches m i j → (size : ℕ) (S : List ℕ) (f : ℕ) → Near (bytes_found i size S f) (bytes_found j size S f)
-  bytes_near i j e size S f = by_test (nat_le (f + size) (length S))
-    where
-      by_test : (t : Bool) → Near (if t then structure i (take size (drop f S)) else fault (fault_text InvalidOffset)) (if t then structure j (take size (drop f S)) else fault (fault_text InvalidOffset))
-      by_test true = inr (refl, e)
-      by_test false = inr refl
+  bytes_near i j e size S f = inr (bytes_sim i j e size S f)
 
   -- enums of one type, which know the same numbers as far as is met
   abbrev EnumFit : Option Enum → Option Enum → Type 0
@@ -172,11 +169,21 @@ module _ (w : Way) (m : List (Option ℕ)) (old new : List Declared) where
   StructFit (Some s) None = ⊥
   StructFit (Some s) (Some t) = (s.size ≡ t.size) × ((n : ℕ) → PartFit (part_in s.fields.items n) (part_in t.fields.items n))
 
-  -- unions with the same table for each tag, as far as tags are met
+  -- the same type, as far as the tag is met
+  abbrev MemberFit : Option UnionMember → Option UnionMember → Type 0
+  MemberFit None o = Unit {0}
+  MemberFit (Some a) None = meets_old w ≡ false
+  MemberFit (Some a) (Some b) = same_base m a.base b.base ≡ true
+
+  abbrev AddedFit : Option UnionMember → Option UnionMember → Type 0
+  AddedFit None (Some b) = meets_new w ≡ false
+  AddedFit o p = Unit {0}
+
+  -- unions with the same type for each tag, as far as tags are met
   abbrev UnionFit : Option Union → Option Union → Type 0
   UnionFit None o = Unit {0}
   UnionFit (Some u) None = ⊥
-  UnionFit (Some u) (Some v) = (tag : ℕ) (S : List ℕ) (f : ℕ) → Near (tagged_found tag (member_in u.members.items tag) S f) (tagged_found tag (member_in v.members.items tag) S f)
+  UnionFit (Some u) (Some v) = (tag : ℕ) → MemberFit (member_in u.members.items tag) (member_in v.members.items tag) × AddedFit (member_in u.members.items tag) (member_in v.members.items tag)
 
   abbrev BodyFit : Option Body → Option Body → Type 0
   BodyFit b c = EnumFit (enum_in b) (enum_in c) × StructFit (struct_in b) (struct_in c) × UnionFit (union_in b) (union_in c)
@@ -363,15 +370,52 @@ module _ (w : Way) (m : List (Option ℕ)) (old new : List Declared) where
       subst (λ n. Near (placed_found old f seen) (found_at new g (Slot seen.slots n) seen.object)) e
       (at_near h f g k (Slot seen.slots f.slot) seen.object)
 
-  union_near : (o p : Option Union) → UnionFit o p → (tag : ℕ) (S : List ℕ) (f : ℕ) → Near (union_found o tag S f) (union_found p tag S f)
-  union_near None p x tag S f = inr tt
-  union_near (Some u) None x tag S f = absurd x
-  union_near (Some u) (Some v) x tag S f = x tag S f
+  newer_tag : (v : Way) → meets_new v ≡ false → (n : ℕ) (x : Found) → is_excused v (stranger n) (member n x) ≡ true
+  newer_tag way.Both e n x = absurd cc
+  newer_tag way.Backward e n x = or_right (is_withdrawn (member n x) || is_unopened (member n x) || (is_missing (stranger n) && is_left_out (member n x))) (is_number_read n (member n x)) (eq-eqb n n refl)
+  newer_tag way.Forward e n x = absurd cc
+
+  older_tag : (v : Way) → meets_old v ≡ false → (n : ℕ) (x : Found) → is_excused v (member n x) (stranger n) ≡ true
+  older_tag way.Both e n x = absurd cc
+  older_tag way.Backward e n x = absurd cc
+  older_tag way.Forward e n x = or_right (is_left_out (member n x) && false) (is_number_read n (member n x)) (eq-eqb n n refl)
+
+  led_sim : (i j : ℕ) → Matches m i j → (o p : Option Struct) → StructFit o p → (S : List ℕ) (f : ℕ) (r : Result ℕ (List ℕ)) → Sim (led_found i o S f r) (led_found j p S f r)
+  led_sim i j e o p x S f (Ok n) = by_struct o p x
+    where
+      by_struct : (o p : Option Struct) → StructFit o p → Sim (struct_found i o S (f + n)) (struct_found j p S (f + n))
+      by_struct None p x = tt
+      by_struct (Some s) None x = absurd x
+      by_struct (Some s) (Some t) x =
+          subst (λ k. Sim (bytes_found i s.size S (f + n)) (bytes_found j k S (f + n))) x.0 (bytes_sim i j e s.size S (f + n))
+  led_sim i j e o p x S f (Err message) = refl
+
+  member_sim : Fits → (a b : Base) → same_base m a b ≡ true → (S : List ℕ) (f : ℕ) → Sim (member_found old a S f) (member_found new b S f)
+  member_sim h (base.Table i) (base.Table j) e S f = table_sim i j (is_index_some _ j e) (table_at S f)
+  member_sim h (base.Struct i) (base.Struct j) e S f =
+      led_sim i j (is_index_some _ j e) (struct_in (body_at old i)) (struct_in (body_at new j)) (struct_fit h i j (is_index_some _ j e)) S f (bits_at w32 S f)
+  member_sim h base.Text base.Text e S f = said_sim _
+  member_sim h (base.Scalar s) b e S f = tt
+  member_sim h (base.Enum i) b e S f = tt
+  member_sim h (base.Union i) b e S f = tt
+  member_sim h a b e S f = absurd cc
+
+  tagged_near : Fits → (n : ℕ) (o p : Option UnionMember) → MemberFit o p → AddedFit o p → (S : List ℕ) (f : ℕ) → Near (tagged_found old n o S f) (tagged_found new n p S f)
+  tagged_near h n None None x y S f = inr refl
+  tagged_near h n None (Some b) x y S f = inl (newer_tag w y n (member_found new b.base S f))
+  tagged_near h n (Some a) None x y S f = inl (older_tag w x n (member_found old a.base S f))
+  tagged_near h n (Some a) (Some b) x y S f = inr (refl, member_sim h a.base b.base x S f)
+
+  union_near : Fits → (o p : Option Union) → UnionFit o p → (tag : ℕ) (S : List ℕ) (f : ℕ) → Near (union_found old o tag S f) (union_found new p tag S f)
+  union_near h None p x tag S f = inr tt
+  union_near h (Some u) None x tag S f = absurd x
+  union_near h (Some u) (Some v) x tag S f =
+      tagged_near h tag (member_in u.members.items tag) (member_in v.members.items tag) (x tag).0 (x tag).1 S f
 
   one_near : Fits → (f g : TableField) → Kept f g → (i j : ℕ) → Matches m i j → (seen : Seen) (r : Result (Option SeenUnion) (List ℕ)) → Near (one_union_found old f i seen r) (one_union_found new g j seen r)
   one_near h f g k i j e seen (Ok None) = absent_near f g k.1 k.2
   one_near h f g k i j e seen (Ok (Some u)) =
-      union_near (union_in (body_at old i)) (union_in (body_at new j)) (union_fit h i j e) u.tag seen.object u.offset
+      union_near h (union_in (body_at old i)) (union_in (body_at new j)) (union_fit h i j e) u.tag seen.object u.offset
   one_near h f g k i j e seen (Err x) = inr refl
 
   unions_near : (f g : TableField) → Kept f g → (i j : ℕ) → Matches m i j → (r : Result (Option SeenUnions) (List ℕ)) → Near (unions_found f i r) (unions_found g j r)
@@ -461,10 +505,6 @@ module _ (w : Way) (m : List (Option ℕ)) (old new : List Declared) where
   table_there i (Ok x) = refl
   table_there i (Err x) = refl
 
-  member_there : (n i : ℕ) (r : Result Seen (List ℕ)) → is_missing (member_found n i r) ≡ false
-  member_there n i (Ok x) = refl
-  member_there n i (Err x) = refl
-
   known_there : (b : Bool) (n : ℕ) → is_missing (if b then known n else stranger n) ≡ false
   known_there true n = refl
   known_there false n = refl
@@ -531,11 +571,11 @@ module _ (w : Way) (m : List (Option ℕ)) (old new : List Declared) where
       choose_there (Slot seen.slots f.slot == 0) (absent_found f) (present_found old f.kind seen.object (Slot seen.slots f.slot)) (absent_there f e)
       (choose_there f.kind.vector (list_found old f.kind.base seen.object (Slot seen.slots f.slot)) (value_found old f.kind.base seen.object (Slot seen.slots f.slot)) (list_there f.kind.base seen.object (Slot seen.slots f.slot)) (value_there f.kind.base seen.object (Slot seen.slots f.slot)))
 
-  tagged_there : (n : ℕ) (o : Option UnionMember) (S : List ℕ) (f : ℕ) → is_missing (tagged_found n o S f) ≡ false
+  tagged_there : (n : ℕ) (o : Option UnionMember) (S : List ℕ) (f : ℕ) → is_missing (tagged_found old n o S f) ≡ false
   tagged_there n None S f = refl
-  tagged_there n (Some a) S f = member_there n a.table (table_at S f)
+  tagged_there n (Some a) S f = refl
 
-  union_there : (o : Option Union) (n : ℕ) (S : List ℕ) (f : ℕ) → is_missing (union_found o n S f) ≡ false
+  union_there : (o : Option Union) (n : ℕ) (S : List ℕ) (f : ℕ) → is_missing (union_found old o n S f) ≡ false
   union_there None n S f = refl
   union_there (Some u) n S f = tagged_there n (member_in u.members.items n) S f
 
@@ -811,18 +851,9 @@ module _ (w : Way) (m : List (Option ℕ)) (old new : List Declared) where
 
   -- ---- unions
 
-  abbrev MemberFit : Option UnionMember → Option UnionMember → Type 0
-  MemberFit None o = Unit {0}
-  MemberFit (Some a) None = meets_old w ≡ false
-  MemberFit (Some a) (Some b) = are_matched m a.table b.table ≡ true
-
-  abbrev AddedFit : Option UnionMember → Option UnionMember → Type 0
-  AddedFit None (Some b) = meets_new w ≡ false
-  AddedFit o p = Unit {0}
-
   member_fit : (a : UnionMember) (o : Option UnionMember) → member_change_to (meets_old w) m a o ≡ None → MemberFit (Some a) o
   member_fit a None e = none_if (meets_old w) change.MemberRemoved e
-  member_fit a (Some b) e = none_if_not (are_matched m a.table b.table) change.MemberChanged e
+  member_fit a (Some b) e = none_if_not (same_base m a.base b.base) change.MemberChanged e
 
   one_member_fit : (a : UnionMember) (bs : List UnionMember) → member_change (meets_old w) m bs a ≡ None → MemberFit (Some a) (member_in bs a.tag)
   one_member_fit a bs e = by_moved (is_member_moved bs a) e
@@ -873,31 +904,10 @@ module _ (w : Way) (m : List (Option ℕ)) (old new : List Declared) where
       by_test none rest true t = subst (λ s. AddedFit (member_in xs s) (Some b)) (eqb-true b.tag n t) (added_fit (member_in xs b.tag) b none)
       by_test none rest false t = rest
 
-  read_number : (n i : ℕ) (r : Result Seen (List ℕ)) → is_number_read n (member_found n i r) ≡ true
-  read_number n i (Ok x) = eq-eqb n n refl
-  read_number n i (Err x) = refl
-
-  newer_tag : (v : Way) → meets_new v ≡ false → (n : ℕ) (x : Found) → is_number_read n x ≡ true → is_excused v (stranger n) x ≡ true
-  newer_tag way.Both e n x r = absurd cc
-  newer_tag way.Backward e n x r = or_right (is_withdrawn x || is_unopened x || (is_missing (stranger n) && is_left_out x)) (is_number_read n x) r
-  newer_tag way.Forward e n x r = absurd cc
-
-  older_tag : (v : Way) → meets_old v ≡ false → (n : ℕ) (x : Found) → is_number_read n x ≡ true → is_excused v x (stranger n) ≡ true
-  older_tag way.Both e n x r = absurd cc
-  older_tag way.Backward e n x r = absurd cc
-  older_tag way.Forward e n x r = or_right (is_left_out x && false) (is_number_read n x) r
-
-  tagged_near : (n : ℕ) (o p : Option UnionMember) → MemberFit o p → AddedFit o p → (S : List ℕ) (f : ℕ) → Near (tagged_found n o S f) (tagged_found n p S f)
-  tagged_near n None None x y S f = inr refl
-  tagged_near n None (Some b) x y S f = inl (newer_tag w y n (member_found n b.table (table_at S f)) (read_number n b.table (table_at S f)))
-  tagged_near n (Some a) None x y S f = inl (older_tag w x n (member_found n a.table (table_at S f)) (read_number n a.table (table_at S f)))
-  tagged_near n (Some a) (Some b) x y S f = inr (member_sim n a.table b.table (is_index_some _ b.table x) (table_at S f))
-
   unions_fit : (k : ℕ) (u v : Union) → union_breaks w m k u v ≡ [] → UnionFit (Some u) (Some v)
-  unions_fit k u v e tag S f =
+  unions_fit k u v e tag =
       let parts = both_nothing (member_breaks (meets_old w) m k v.members.items u.members.items) (added_members (meets_new w) k u.members.items v.members.items) e in
-      tagged_near tag (member_in u.members.items tag) (member_in v.members.items tag)
-      (members_fit k v.members.items u.members.items parts.0 tag) (added_members_fit k u.members.items v.members.items parts.1 tag) S f
+      (members_fit k v.members.items u.members.items parts.0 tag, added_members_fit k u.members.items v.members.items parts.1 tag)
 
   -- ---- declarations
 
@@ -1013,8 +1023,8 @@ module _ (w : Way) (m : List (Option ℕ)) (old new : List Declared) where
   union_item_near : Fits → (i j : ℕ) → Matches m i j → (s : SeenUnions) (k : ℕ) → Near (union_item_found old i s k) (union_item_found new j s k)
   union_item_near h i j e s k = by_test (nat_lt k s.count)
     where
-      by_test : (t : Bool) → Near (if t then union_found (union_in (body_at old i)) (slice_index s.tags k) s.references (k * 4) else absent) (if t then union_found (union_in (body_at new j)) (slice_index s.tags k) s.references (k * 4) else absent)
-      by_test true = union_near (union_in (body_at old i)) (union_in (body_at new j)) (union_fit h i j e) (slice_index s.tags k) s.references (k * 4)
+      by_test : (t : Bool) → Near (if t then union_found old (union_in (body_at old i)) (slice_index s.tags k) s.references (k * 4) else absent) (if t then union_found new (union_in (body_at new j)) (slice_index s.tags k) s.references (k * 4) else absent)
+      by_test true = union_near h (union_in (body_at old i)) (union_in (body_at new j)) (union_fit h i j e) (slice_index s.tags k) s.references (k * 4)
       by_test false = inr refl
 
   counted_near : Fits → (a b : Base) → same_base m a b ≡ true → (p q : Option ℕ) → p ≡ q → (S : List ℕ) (n : ℕ) → Near (counted_found old p a S n) (counted_found new q b S n)
@@ -1066,9 +1076,8 @@ module _ (w : Way) (m : List (Option ℕ)) (old new : List Declared) where
   called_near u h (structure i x) (structure j y) s c =
       subst (λ z. Near (struct_called old i x c) (struct_called new j z c)) s.0 (struct_called_near u i j s.1 x c)
   called_near u h (structure i x) g s c = absurd s
-  called_near u h (member n i x) (member k j y) s c =
-      subst (λ z. Near (table_called old i x c) (table_called new j z c)) s.1 (table_called_near h i j s.2 x c)
-  called_near u h (member n i x) g s c = absurd s
+  called_near u h (member n x) (member k y) s c = called_near u h x y s.1 c
+  called_near u h (member n x) g s c = absurd s
   called_near u h (items b x) (items d y) s c =
       subst (λ z. Near (items_called old b x c) (items_called new d z c)) s.0 (items_called_near u b d s.1 x c)
   called_near u h (items b x) g s c = absurd s

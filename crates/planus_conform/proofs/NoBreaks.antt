@@ -27,7 +27,7 @@ use Rattle.planus_schema.specs.Numbers.{scalar_size}
 use Rattle.planus_schema.specs.Slots.{is_union, slots_taken, are_apart, are_whole}
 use Rattle.planus_resolve.specs.Schemas.{IsBody}
 use Rattle.planus_resolve.specs.Structs.{items_in}
-use Rattle.planus_resolve.specs.Sound.{Refers, IsNested, IsTableAt, RefersField, IsBelow, IsCount, RefersBefore, RefersBody, AreSound}
+use Rattle.planus_resolve.specs.Sound.{Refers, RefersMember, IsNested, RefersField, IsBelow, IsCount, RefersBefore, RefersBody, AreSound}
 use Rattle.planus_resolve.specs.Tables.{type_name, all_names}
 use Rattle.planus_resolve.specs.Unions.{tag_in}
 use Rattle.planus_conform.specs.declared.breaks.Change.{Change}
@@ -524,7 +524,7 @@ module _ (w : Way) (m : List (Option ℕ)) (bs : List Body) (stay : Stays m bs) 
       ∙ none_added met n vs us (λ v i. within v (inr i))
 
   members_stay : (met : Bool) (n : ℕ) (ys : List UnionMember) → IsDistinct bytes_eq (map (λ a. a.name.items) ys) → Once (λ a. a.tag) ys
-      → (xs : List UnionMember) → ((a : UnionMember) → IsIn a xs → IsIn a ys) → AllByRecursion (λ a. IsTableAt bs a.table) xs → member_breaks met m n ys xs ≡ []
+      → (xs : List UnionMember) → ((a : UnionMember) → IsIn a xs → IsIn a ys) → AllByRecursion (λ a. RefersMember bs a.base) xs → member_breaks met m n ys xs ≡ []
   members_stay met n ys d s [] within r = refl
   members_stay met n ys d s (a ∷ xs) within r =
       ap (λ o. noted (place.Member n a.tag) o ++ member_breaks met m n ys xs) stays_there
@@ -545,7 +545,7 @@ module _ (w : Way) (m : List (Option ℕ)) (bs : List Body) (stay : Stays m bs) 
       stays_there =
           ap (λ c. if c then Some change.Moved else member_change_to met m a (member_in ys a.tag)) moved
           ∙ ap (member_change_to met m a) found
-          ∙ ap (λ b. change_if (not b) change.MemberChanged) (stay a.table (body.Table r.0.0) r.0.1)
+          ∙ ap (λ b. change_if (not b) change.MemberChanged) (base_kept a.base r.0.1)
 
   no_member_added : (met : Bool) (n : ℕ) (ys : List UnionMember) → Once (λ a. a.tag) ys
       → (xs : List UnionMember) → ((a : UnionMember) → IsIn a xs → IsIn a ys) → added_members met n ys xs ≡ []

@@ -24,10 +24,6 @@ abbrev pub IsStructSeen : List ℕ → Found → Type 0
 IsStructSeen bytes (structure j other) = bytes ≡ other
 IsStructSeen bytes found = ⊥
 
-abbrev pub IsMemberSeen : ℕ → Seen → Found → Type 0
-IsMemberSeen tag seen (member other j more) = (tag ≡ other) × (seen ≡ more)
-IsMemberSeen tag seen found = ⊥
-
 abbrev pub AreItemsSeen : SeenItems → Found → Type 0
 AreItemsSeen seen (items b other) = seen ≡ other
 AreItemsSeen seen found = ⊥
@@ -37,7 +33,7 @@ AreUnionsSeen seen (unions j other) = seen ≡ other
 AreUnionsSeen seen found = ⊥
 
 -- The same is returned: of a table the same bytes and slots, of a struct the same bytes, of a union
--- the same tag too, of a vector or an array the same bytes and count. Nothing is said where the old
+-- the same tag and value, of a vector or an array the same bytes and count. Nothing is said where the old
 -- code has no such accessor.
 abbrev pub Same : Found → Found → Type 0
 Same unknown new = Unit {0}
@@ -53,7 +49,8 @@ Same (stranger n) new = stranger n ≡ new
 Same (fault w) new = fault w ≡ new
 Same (table i seen) new = IsTableSeen seen new
 Same (structure i bytes) new = IsStructSeen bytes new
-Same (member tag i seen) new = IsMemberSeen tag seen new
+Same (member tag value) (member other more) = (tag ≡ other) × Same value more
+Same (member tag value) new = ⊥
 Same (items b seen) new = AreItemsSeen seen new
 Same (unions i seen) new = AreUnionsSeen seen new
 
@@ -77,11 +74,10 @@ abbrev pub is_unopened : Found → Bool
 is_unopened unopened = true
 is_unopened found = false
 
--- the number or tag n, or a fault of the table after it
+-- the number or tag n
 abbrev pub is_number_read : ℕ → Found → Bool
 is_number_read n (known m) = n == m
-is_number_read n (member tag i seen) = n == tag
-is_number_read n (fault w) = true
+is_number_read n (member tag value) = n == tag
 is_number_read n found = false
 
 -- a number or a tag that only the second schema has

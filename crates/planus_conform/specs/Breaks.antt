@@ -27,7 +27,8 @@ use Rattle.planus_conform.specs.declared.rename.Rename.{Rename}
 use Rattle.planus_conform.specs.Values.{body_at, member_in}
 use Rattle.planus_conform.specs.Reads.{field_in, part_in}
 use Rattle.planus_conform.specs.Matching.{match_at, matches_of}
-use Rattle.planus_conform.specs.Types.{scalar_code, are_matched, same_part, same_truth, same_type}
+use Rattle.planus_conform.specs.Types.{scalar_code, are_matched, same_base, same_part}
+use Rattle.planus_conform.specs.Types.{same_truth, same_type}
 use Rattle.planus_conform.specs.Defaults.{same_number, same_default}
 
 -- ---- ways
@@ -173,7 +174,7 @@ abbrev pub member_change_to :
     Bool → List (Option ℕ) → UnionMember → Option UnionMember → Option Change
 member_change_to met m a None = change_if met change.MemberRemoved
 member_change_to met m a (Some b) =
-    change_if (not (are_matched m a.table b.table)) change.MemberChanged
+    change_if (not (same_base m a.base b.base)) change.MemberChanged
 
 abbrev pub member_change :
     Bool → List (Option ℕ) → List UnionMember → UnionMember → Option Change

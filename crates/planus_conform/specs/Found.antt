@@ -17,8 +17,8 @@ pub data Call : Type 0 where
 -- deprecated. `unopened`: it has none, since the schema doesn't say that the bytes are a buffer.
 -- `missing`: the error of a required field that is absent.
 -- `stranger`: the error of a number or a tag that the enum or the union doesn't have.
--- `table`, `structure`: of the declaration with this index. `member`: the table of a union, after
--- its tag. `items`: a vector, or an array in a struct. `unions`: a vector.
+-- `table`, `structure`: of the declaration with this index. `member`: what the reference of a union
+-- with this tag leads to. `items`: a vector, or an array in a struct. `unions`: a vector.
 pub data Found : Type 0 where
   unknown : Found
   withdrawn : Found
@@ -33,6 +33,6 @@ pub data Found : Type 0 where
   fault : List ℕ → Found
   table : ℕ → Seen → Found
   structure : ℕ → List ℕ → Found
-  member : ℕ → ℕ → Seen → Found
+  member : ℕ → Found → Found
   items : Base → SeenItems → Found
   unions : ℕ → SeenUnions → Found

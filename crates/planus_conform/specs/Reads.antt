@@ -69,7 +69,7 @@ abbrev pub one_union_found :
     List Declared → TableField → ℕ → Seen → Result (Option SeenUnion) (List ℕ) → Found
 one_union_found ds f i seen (Ok None) = absent_found f
 one_union_found ds f i seen (Ok (Some u)) =
-    union_found (union_in (body_at ds i)) u.tag seen.object u.offset
+    union_found ds (union_in (body_at ds i)) u.tag seen.object u.offset
 one_union_found ds f i seen (Err message) = fault message
 
 abbrev pub unions_found : TableField → ℕ → Result (Option SeenUnions) (List ℕ) → Found
@@ -143,7 +143,7 @@ item_found ds b seen k =
 abbrev pub union_item_found : List Declared → ℕ → SeenUnions → ℕ → Found
 union_item_found ds i seen k =
     if nat_lt k seen.count
-    then union_found (union_in (body_at ds i)) (slice_index seen.tags k) seen.references (k * 4)
+    then union_found ds (union_in (body_at ds i)) (slice_index seen.tags k) seen.references (k * 4)
     else absent
 
 -- ---- calls
@@ -168,7 +168,7 @@ unions_called ds i seen c = unknown
 
 abbrev pub called : List Declared → Found → Call → Found
 called ds (table i seen) c = table_called ds i seen c
-called ds (member tag i seen) c = table_called ds i seen c
+called ds (member tag value) c = called ds value c
 called ds (structure i S) c = struct_called ds i S c
 called ds (items b seen) c = items_called ds b seen c
 called ds (unions i seen) c = unions_called ds i seen c

@@ -121,18 +121,26 @@ abbrev pub member_in : List UnionMember → ℕ → Option UnionMember
 member_in [] tag = None
 member_in (m ∷ ms) tag = if m.tag == tag then Some m else member_in ms tag
 
-abbrev pub member_found : ℕ → ℕ → Result Seen (List ℕ) → Found
-member_found tag i (Ok seen) = member tag i seen
-member_found tag i (Err message) = fault message
+-- the struct to which the reference at f of S leads, by the reference's number
+abbrev pub led_found : ℕ → Option Struct → List ℕ → ℕ → Result ℕ (List ℕ) → Found
+led_found i o S f (Ok n) = struct_found i o S (f + n)
+led_found i o S f (Err message) = fault message
 
-abbrev pub tagged_found : ℕ → Option UnionMember → List ℕ → ℕ → Found
-tagged_found tag None S f = stranger tag
-tagged_found tag (Some m) S f = member_found tag m.table (table_at S f)
+-- a table, a struct or a string, to which the reference at f of S leads
+abbrev pub member_found : List Declared → Base → List ℕ → ℕ → Found
+member_found ds (base.Table i) S f = table_found i (table_at S f)
+member_found ds (base.Struct i) S f = led_found i (struct_in (body_at ds i)) S f (bits_at w32 S f)
+member_found ds base.Text S f = said (leaf_at leaf.Text S f)
+member_found ds b S f = unknown
 
--- the union of this tag, with its table's reference at f of S
-abbrev pub union_found : Option Union → ℕ → List ℕ → ℕ → Found
-union_found None tag S f = unknown
-union_found (Some u) tag S f = tagged_found tag (member_in u.members.items tag) S f
+abbrev pub tagged_found : List Declared → ℕ → Option UnionMember → List ℕ → ℕ → Found
+tagged_found ds tag None S f = stranger tag
+tagged_found ds tag (Some m) S f = member tag (member_found ds m.base S f)
+
+-- the union of this tag, whose reference is at f of S
+abbrev pub union_found : List Declared → Option Union → ℕ → List ℕ → ℕ → Found
+union_found ds None tag S f = unknown
+union_found ds (Some u) tag S f = tagged_found ds tag (member_in u.members.items tag) S f
 
 -- ---- all values with one place
 

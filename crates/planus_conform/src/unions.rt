@@ -10,7 +10,7 @@ ghost use Rattle.planus_conform.specs.Breaks.{is_member, member_breaks, added_me
 ghost use Rattle.planus_conform.specs.Breaks.{union_breaks};
 
 use crate::breaks::{Break, Change, Place, Way};
-use crate::matching::are_matched;
+use crate::types::same_base;
 use crate::ways::{change_if, meets_new, meets_old, note};
 use planus_schema::{Union, UnionMember};
 use std::alloc::AllocError;
@@ -51,10 +51,7 @@ fn member_change_to(
         ≡ member_change_to_lem met matches.now a.now (option_map (λ m. m.now) b.entry) }
 {
     match b {
-        Some(b) => change_if(
-            !are_matched(matches, a.table, b.table),
-            Change::MemberChanged,
-        ),
+        Some(b) => change_if(!same_base(matches, a.base, b.base), Change::MemberChanged),
         None => change_if(met, Change::MemberRemoved),
     }
 }

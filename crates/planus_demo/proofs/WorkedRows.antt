@@ -8,8 +8,9 @@ use Rattle.std.proofs.lemmas.Option.{slice_get-map}
 use Rattle.planus.specs.Steps.{Step, FieldStep, table}
 use Rattle.planus.proofs.Lists.{made_of, all_unmapped}
 use Rattle.planus_dump.specs.Dumped.{greatest_depth}
-use Rattle.planus_dump.specs.Describes.{HasKind, IsTableOf, Describes, Fits, IsTagged, IsVariant}
+use Rattle.planus_dump.specs.Describes.{HasKind, IsTableOf, Describes, Fits, IsMember, IsTagged, IsVariant}
 use Rattle.planus_dump.specs.Events.{variant_of}
+use Rattle.planus_dump.specs.declared.schemas.VariantKind.TheVariants as member
 use Rattle.planus_dump.specs.Shapes.{FieldShape, field_shape, TableShape, table_shape, VariantShape, variant_shape, union_shape, HasShape}
 use Rattle.planus_demo.specs.WorkedSchemas.{weapon_shape, monster_shape, equipment_shape, worked_tables, worked_unions, worked_steps, wide_steps, unnamed_steps, WorkedRowsFit}
 use Rattle.planus_dump.specs.declared.schemas.Schema.{Schema}
@@ -73,11 +74,11 @@ weapon_fits schema root left has =
 weapon_tagged : (D : ℕ → ℕ → Type 0) (variants : List VariantSchema) → map variant_shape variants ≡ equipment_shape → D 0 1 → IsVariant worked_steps D (variant_of variants 1) 1
 weapon_tagged D [] e axe = cc
 weapon_tagged D (variant ∷ variants) e axe =
-    let one : variant_shape variant ≡ record { tag = 1; name = []; table = 0 } = cc in
+    let one : variant_shape variant ≡ record { tag = 1; name = []; kind = member.Table 0 } = cc in
     let tag : variant.tag ≡ 1 = ap (λ (shape : VariantShape). shape.tag) one in
-    let table_is : variant.table ≡ 0 = ap (λ (shape : VariantShape). shape.table) one in
+    let kind_is : variant.kind ≡ member.Table 0 = ap (λ (shape : VariantShape). shape.kind) one in
     let test : (variant.tag == 1) ≡ true = eq-eqb variant.tag 1 tag in
-    rw test (subst (λ index. D index 1) (sym table_is) axe)
+    rw test (subst (λ kind. IsMember worked_steps D kind 1) (sym kind_is) axe)
 
 monster_fits : (schema : Schema) (root left : ℕ) → HasShape schema worked_tables worked_unions root → Describes schema worked_steps (suc (suc left)) 1 6
 monster_fits schema root left has =

@@ -4,6 +4,7 @@ use Rattle.planus.specs.Steps.{Step, text, bytes, refs, unions, table, finish, r
 use Rattle.planus.specs.Steps.{number_field, ref_field, tags_field, values_field}
 use Rattle.planus_dump.specs.Describes.{Fits}
 use Rattle.planus_dump.specs.Shapes.{TableShape, VariantShape, HasShape, field_of}
+use Rattle.planus_dump.specs.declared.schemas.VariantKind.TheVariants as member
 use Rattle.planus_dump.specs.declared.schemas.Schema.{Schema}
 use Rattle.planus_dump.specs.declared.schemas.Kind.TheVariants.{One, List as ListOf, Union}
 use Rattle.planus_dump.specs.declared.schemas.Kind.TheVariants.{UnionVector, Bytes}
@@ -32,7 +33,7 @@ worked_tables = weapon_shape ∷ monster_shape ∷ []
 
 -- one variant, of no name, for weapons
 abbrev pub equipment_shape : List VariantShape
-equipment_shape = record { tag = 1; name = []; table = 0 } ∷ []
+equipment_shape = record { tag = 1; name = []; kind = member.Table 0 } ∷ []
 
 abbrev pub worked_unions : List (List VariantShape)
 worked_unions = equipment_shape ∷ []

@@ -7,7 +7,7 @@ ghost use Rattle.planus_demo.specs.WorkedSchemas.{equipment_shape, worked_unions
 ghost use Rattle.planus_demo.specs.ModeWords.{IsMode};
 
 use crate::modes::Mode;
-use planus_dump::{FieldSchema, Item, Kind, Schema, TableSchema, VariantSchema};
+use planus_dump::{FieldSchema, Item, Kind, Schema, TableSchema, VariantKind, VariantSchema};
 use std::alloc::{AllocError, Global};
 
 /// Returns the mode of these arguments, or `None` for others.
@@ -100,7 +100,7 @@ fn equipment(alloc: Global) -> Result<Vec<VariantSchema>, AllocError>
     variants.push(VariantSchema {
         tag: 1,
         name,
-        table: 0,
+        kind: VariantKind::Table(0),
     })?;
     Ok(variants)
 }

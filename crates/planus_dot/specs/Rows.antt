@@ -57,9 +57,9 @@ value_row v = record { name = v.name.items; kind = None; count = None; target = 
 abbrev pub member_row : UnionMember → RowV
 member_row m = record {
   name = m.name.items;
-  kind = Some (record { vector = false; base = base.Table m.table });
+  kind = Some (record { vector = false; base = m.base });
   count = None;
-  target = Some m.table;
+  target = target_of m.base;
 }
 
 abbrev pub rows_of : Body → List RowV

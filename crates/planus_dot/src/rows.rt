@@ -65,10 +65,10 @@ fn member_row(member: &UnionMember) -> Row<'_>
         name: &member.name,
         kind: Some(FieldType {
             vector: false,
-            base: Base::Table(member.table),
+            base: member.base,
         }),
         count: None,
-        target: Some(member.table),
+        target: target_of(member.base),
     }
 }
 

@@ -17,18 +17,19 @@ use lib.Ieee.{Format, binary32, binary64}
 use Rattle.planus_read.specs.declared.errors.ErrorKind.{ErrorKind}
 use Rattle.planus_read.specs.declared.errors.ErrorKind.TheVariants.{InvalidOffset}
 use Rattle.planus_read.specs.Bytes.{Num}
-use Rattle.planus_read.specs.Clauses.{clause, Answer}
+use Rattle.planus_read.specs.Clauses.{clause, Answer, FirstBroken}
 use Rattle.planus_read.specs.Plain.{IsLayout, NumberFits, plain_reading}
 use Rattle.planus_read.specs.Shapes.{f32_shape, f64_shape}
 use Rattle.planus_read.specs.Enums.{variant_in, Numbered, unsigned_enum, signed_enum}
 use Rattle.planus_read.specs.lemmas.NumberLaws.{AreBytes}
-use Rattle.planus_read.specs.Reading.{number, byte_list_reading, byte_list_clauses}
+use Rattle.planus_read.specs.Reading.{number, number_clause, byte_list_reading, byte_list_clauses}
 use Rattle.planus_read.proofs.Reading.{num_inside, num_value, num_there, byte_list_holds}
 use Rattle.planus_dump.specs.Lines.{truth_text, field_path, item_path, struct_line, names_text}
 use Rattle.planus_dump.specs.Tests.{Test, answered, number_test, byte_list_tests, content_at, fault_text}
-use Rattle.planus_dump.specs.Answers.{unsigned_at, signed_at, leaf_at, table_at, Seen}
-use Rattle.planus_dump.specs.Events.{line, TableEvents, fault_event, answer_event, float_event, fixed_events, fixed_size, values_events, counted_events, struct_fields_events, struct_events, structs, enum_events, enum_at, named, names_in, number_leaf, number_width, place_events, nested_events, buffer_events}
-use Rattle.planus_dump.specs.AsRead.{SaysAsRead, layout_in, as_float, FloatsAreSaid, StructsAreSaid, fields_at, BuffersAreSaid, IsUnsigned, IsSigned, EnumIsSaid, EnumsAreSaid}
+use Rattle.planus_view.specs.PlainRefs.{plain_ref_clauses}
+use Rattle.planus_dump.specs.Answers.{bits_at, unsigned_at, signed_at, leaf_at, table_at, Seen}
+use Rattle.planus_dump.specs.Events.{line, TableEvents, fault_event, answer_event, float_event, fixed_events, fixed_size, values_events, counted_events, struct_fields_events, struct_events, structs, value_events, led_events, enum_events, enum_at, named, names_in, number_leaf, number_width, place_events, nested_events, buffer_events}
+use Rattle.planus_dump.specs.AsRead.{SaysAsRead, layout_in, as_float, FloatsAreSaid, StructsAreSaid, LedStructsAreSaid, fields_at, BuffersAreSaid, IsUnsigned, IsSigned, EnumIsSaid, EnumsAreSaid}
 use Rattle.planus_dump.specs.declared.schemas.Schema.{Schema}
 use Rattle.planus_dump.specs.declared.schemas.EnumSchema.{EnumSchema}
 use Rattle.planus_dump.specs.declared.schemas.StructSchema.{StructSchema}
@@ -158,6 +159,44 @@ structs_are_said S f = record {
   outside = λ schema left shape path h.
       let test : nat_le (f + shape.size) (length S) ≡ false = le_false (f + shape.size) (length S) (grind (arith, h)) in rw test refl;
 }
+
+-- ---- structs of unions
+
+bits_there : (S : List ℕ) (f n : ℕ) → Num S f w32 ≡ Some n → bits_at w32 S f ≡ Ok n
+bits_there S f n e =
+    all_pass (number_clause S f w32 ∷ []) (number_test S f w32 ∷ []) (number S f w32) (number_matches S f w32) (num_inside S f w32 n e, tt)
+    ∙ ap Ok (sym (num_value S f w32 n e))
+
+bits_inside : (S : List ℕ) (f : ℕ) → f + 4 ≤ length S → bits_at w32 S f ≡ Ok (number S f w32)
+bits_inside S f h = all_pass (number_clause S f w32 ∷ []) (number_test S f w32 ∷ []) (number S f w32) (number_matches S f w32) (h, tt)
+
+-- a struct of a schema is dumped one level below the greatest
+struct_shown : (schema : Schema) (index : ℕ) (S : List ℕ) (position : ℕ) (path : List ℕ) (shape : StructSchema) → slice_get schema.structs.items index ≡ Some shape
+    → value_events schema (fixed.Struct index) S position path ≡ struct_events schema (structs schema 63) (Some shape) S position path
+unfolding structs
+struct_shown schema index S position path shape is = ap (λ o. struct_events schema (structs schema 63) o S position path) is
+
+pub led_structs_are_said : (S : List ℕ) (f : ℕ) → LedStructsAreSaid S f
+led_structs_are_said S f = record {
+  there = λ schema index shape path position is h.
+      let n = h.0.0 in
+      ap (led_events schema index S f path) (bits_there S f n h.0.1)
+      ∙ ap (λ p. value_events schema (fixed.Struct index) S p path) (sym h.0.2)
+      ∙ struct_shown schema index S position path shape is
+      ∙ (structs_are_said S position).inside schema 63 shape path h.1;
+  fault = λ schema index shape path e is h. broken schema index shape path e is h;
+}
+  where
+    broken : (schema : Schema) (index : ℕ) (shape : StructSchema) (path : List ℕ) (e : ErrorKind) → slice_get schema.structs.items index ≡ Some shape
+        → FirstBroken (plain_ref_clauses shape.size S f) e → led_events schema index S f path (bits_at w32 S f) ≡ fault_event path (fault_text e) ∷ []
+    broken schema index shape path e is (inl h) =
+        ap (led_events schema index S f path) (first_fails (number_clause S f w32 ∷ []) (number_test S f w32 ∷ []) (number S f w32) e (number_matches S f w32) (inl h))
+    broken schema index shape path e is (inr (h, inl past)) =
+        ap (led_events schema index S f path) (bits_inside S f h)
+        ∙ struct_shown schema index S (f + number S f w32) path shape is
+        ∙ (structs_are_said S (f + number S f w32)).outside schema 63 shape path past.0
+        ∙ ap (λ k. fault_event path (fault_text k) ∷ []) (sym past.1)
+    broken schema index shape path e is (inr (h, inr none)) = absurd none.1
 
 -- ---- nested buffers
 

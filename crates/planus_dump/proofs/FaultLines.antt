@@ -112,14 +112,14 @@ label_no_space field h = by_test field.deprecated
 pub record GoodParts (schema : Schema) : Type 0 where
   pub root : nat_lt schema.root (table_count schema) ≡ true
   pub tables : list_all (table_fits (table_count schema) (union_count schema)) schema.tables.items ≡ true
-  pub unions : list_all (union_fits (table_count schema)) schema.unions.items ≡ true
+  pub unions : list_all (union_fits (table_count schema) (length schema.structs.items)) schema.unions.items ≡ true
   pub fixed : fixed_values_fit (length schema.enums.items) (length schema.structs.items) schema ≡ true
 
 pub good_parts : (schema : Schema) → is_good schema ≡ true → GoodParts schema
 good_parts schema e =
     let root = nat_lt schema.root (table_count schema) in
     let tables = list_all (table_fits (table_count schema) (union_count schema)) schema.tables.items in
-    let unions = list_all (union_fits (table_count schema)) schema.unions.items in
+    let unions = list_all (union_fits (table_count schema) (length schema.structs.items)) schema.unions.items in
     let all = both_true (root && tables && unions) (fixed_values_fit (length schema.enums.items) (length schema.structs.items) schema) e in
     let most = both_true (root && tables) unions all.0 in
     let first = both_true root tables most.0 in
@@ -129,11 +129,11 @@ good_parts schema e =
 abbrev pub HasTags : Vec VariantSchema Global → Type 0
 HasTags variants = variant_of variants.items 0 ≡ None
 
-zero_tag : (tables : ℕ) (variants : List VariantSchema) → variants_fit tables variants ≡ true → variant_of variants 0 ≡ None
-zero_tag tables [] e = refl
-zero_tag tables (variant ∷ rest) e =
-    let all = both_true (variant_fits tables variant rest) (variants_fit tables rest) e in
-    by_test (variant.tag == 0) (first (not (variant.tag == 0)) _ _ _ all.0) (zero_tag tables rest all.1)
+zero_tag : (tables structs : ℕ) (variants : List VariantSchema) → variants_fit tables structs variants ≡ true → variant_of variants 0 ≡ None
+zero_tag tables structs [] e = refl
+zero_tag tables structs (variant ∷ rest) e =
+    let all = both_true (variant_fits tables structs variant rest) (variants_fit tables structs rest) e in
+    by_test (variant.tag == 0) (first (not (variant.tag == 0)) _ _ _ all.0) (zero_tag tables structs rest all.1)
   where
     first : (a b c d : Bool) → (a && b && c && d) ≡ true → a ≡ true
     first true b c d e = refl
@@ -145,7 +145,7 @@ zero_tag tables (variant ∷ rest) e =
 
 pub good_tags : (schema : Schema) → is_good schema ≡ true → AllByRecursion HasTags schema.unions.items
 good_tags schema e =
-    all_true (union_fits (table_count schema)) HasTags (λ variants. zero_tag (table_count schema) variants.items) schema.unions.items (good_parts schema e).unions
+    all_true (union_fits (table_count schema) (length schema.structs.items)) HasTags (λ variants. zero_tag (table_count schema) (length schema.structs.items) variants.items) schema.unions.items (good_parts schema e).unions
 
 pub good_names : (schema : Schema) → is_good schema ≡ true → AllByRecursion HasNames schema.tables.items
 good_names schema e =

@@ -12,7 +12,7 @@ use Rattle.std.proofs.lemmas.List.{append_assoc, append-nil, drop_more, length-m
 use Rattle.std.proofs.lemmas.Bool.{eqb-true, eqb-false, ltb-true, ltb-false}
 use Rattle.planus_dump.specs.Lines.{item_path, field_path, list_line, union_line, value_line}
 use Rattle.planus_dump.specs.Answers.{Seen, SeenItems, SeenUnions, vector_at}
-use Rattle.planus_dump.specs.Events.{variant_of, variant_events, fault_event, Event, line, deep, float, field_label, events, TableEvents, shape_events, fields_events, kind_events, item_events, items_events, list_events, union_events, union_items_events, stride_of}
+use Rattle.planus_dump.specs.Events.{variant_of, member_events, variant_events, fault_event, Event, line, deep, float, field_label, events, TableEvents, shape_events, fields_events, kind_events, item_events, items_events, list_events, union_events, union_items_events, stride_of}
 use Rattle.planus_dump.specs.ReadingViews.{IsFound, found_events, IsUnionIn}
 use Rattle.planus_read.specs.declared.place.TaggedPlace.{TaggedPlace}
 use Rattle.planus_read.specs.Places.{place_bytes, place_offset, tagged_tag, tagged_place}
@@ -94,28 +94,28 @@ items-none E item S path (suc n) i h = absurd (omega (arith, h))
 
 union_items-more : (E : TableEvents) (schema : Schema) (index : ℕ) (items : SeenUnions) (path : List ℕ) (n i : ℕ) → 0 < n
     → union_items_events E schema index items path n i
-    ≡ union_events E (slice_get schema.unions.items index) (slice_index items.tags i) items.references (i * 4) (item_path path i) ++ union_items_events E schema index items path (n - 1) (i + 1)
+    ≡ union_events E schema (slice_get schema.unions.items index) (slice_index items.tags i) items.references (i * 4) (item_path path i) ++ union_items_events E schema index items path (n - 1) (i + 1)
 union_items-more E schema index items path zero i h = absurd (omega (arith, h))
 union_items-more E schema index items path (suc n) i h = let e : suc n - 1 ≡ n = omega arith in
-    ap (λ k. union_events E (slice_get schema.unions.items index) (slice_index items.tags i) items.references (i * 4) (item_path path i) ++ union_items_events E schema index items path k (i + 1)) (sym e)
+    ap (λ k. union_events E schema (slice_get schema.unions.items index) (slice_index items.tags i) items.references (i * 4) (item_path path i) ++ union_items_events E schema index items path k (i + 1)) (sym e)
 
 pub union_items-split : (E : TableEvents) (schema : Schema) (index : ℕ) (items : SeenUnions) (path : List ℕ) (n i : ℕ) → i < n
     → union_items_events E schema index items path (n - i) i
-    ≡ union_events E (slice_get schema.unions.items index) (slice_index items.tags i) items.references (i * 4) (item_path path i) ++ union_items_events E schema index items path (n - (i + 1)) (i + 1)
+    ≡ union_events E schema (slice_get schema.unions.items index) (slice_index items.tags i) items.references (i * 4) (item_path path i) ++ union_items_events E schema index items path (n - (i + 1)) (i + 1)
 union_items-split E schema index items path n i h =
     let e : n - i - 1 ≡ n - (i + 1) = omega (arith, h) in let some : 0 < n - i = omega (arith, h) in
-    let first : List Event = union_events E (slice_get schema.unions.items index) (slice_index items.tags i) items.references (i * 4) (item_path path i) in
+    let first : List Event = union_events E schema (slice_get schema.unions.items index) (slice_index items.tags i) items.references (i * 4) (item_path path i) in
     union_items-more E schema index items path (n - i) i some ∙ ap (λ k. first ++ union_items_events E schema index items path k (i + 1)) e
 
-pub tagged-at : (E : TableEvents) (o : Option (Vec VariantSchema Global)) (items : SeenUnions) (i : ℕ) (path at : List ℕ) (tagged : TaggedPlace)
+pub tagged-at : (E : TableEvents) (schema : Schema) (o : Option (Vec VariantSchema Global)) (items : SeenUnions) (i : ℕ) (path at : List ℕ) (tagged : TaggedPlace)
     → IsUnionIn items.references (record { tag = slice_index items.tags i; offset = i * 4 }) tagged → at ≡ item_path path i
-    → union_events E o (slice_index items.tags i) items.references (i * 4) (item_path path i)
-    ≡ union_events E o (tagged_tag tagged) (place_bytes (tagged_place tagged)) (place_offset (tagged_place tagged)) at
-tagged-at E o items i path at tagged is along =
-    sym (ap (λ k. union_events E o k (place_bytes (tagged_place tagged)) (place_offset (tagged_place tagged)) at) is.tag
-    ∙ ap (λ xs. union_events E o (slice_index items.tags i) xs (place_offset (tagged_place tagged)) at) is.bytes
-    ∙ ap (λ k. union_events E o (slice_index items.tags i) items.references k at) is.offset
-    ∙ ap (λ xs. union_events E o (slice_index items.tags i) items.references (i * 4) xs) along)
+    → union_events E schema o (slice_index items.tags i) items.references (i * 4) (item_path path i)
+    ≡ union_events E schema o (tagged_tag tagged) (place_bytes (tagged_place tagged)) (place_offset (tagged_place tagged)) at
+tagged-at E schema o items i path at tagged is along =
+    sym (ap (λ k. union_events E schema o k (place_bytes (tagged_place tagged)) (place_offset (tagged_place tagged)) at) is.tag
+    ∙ ap (λ xs. union_events E schema o (slice_index items.tags i) xs (place_offset (tagged_place tagged)) at) is.bytes
+    ∙ ap (λ k. union_events E schema o (slice_index items.tags i) items.references k at) is.offset
+    ∙ ap (λ xs. union_events E schema o (slice_index items.tags i) items.references (i * 4) xs) along)
 
 pub union_items-none : (E : TableEvents) (schema : Schema) (index : ℕ) (items : SeenUnions) (path : List ℕ) (n i : ℕ) → n ≡ 0 → union_items_events E schema index items path n i ≡ []
 union_items-none E schema index items path zero i h = refl
@@ -303,10 +303,10 @@ too_many es budget lines (l, rest, is, t, n) =
 pub not_too_long : (es : List Event) (budget : ℕ) (lines : List Event) → Answered [] None es budget lines TooLong → ⊥
 not_too_long es budget lines (l, rest, is, t, n) = n
 
-pub union_unknown : (E : TableEvents) (o : Option (Vec VariantSchema Global)) (variants : Vec VariantSchema Global) (tag : ℕ) (S : List ℕ) (f : ℕ) (path : List ℕ) → o ≡ Some variants → variant_of variants.items tag ≡ None
-    → union_events E o tag S f path ≡ fault_event path (fault_text (UnknownUnionTag tag)) ∷ []
-union_unknown E o variants tag S f path some none = ap (λ v. union_events E v tag S f path) some ∙ ap (variant_events E tag S f path) none
+pub union_unknown : (E : TableEvents) (schema : Schema) (o : Option (Vec VariantSchema Global)) (variants : Vec VariantSchema Global) (tag : ℕ) (S : List ℕ) (f : ℕ) (path : List ℕ) → o ≡ Some variants → variant_of variants.items tag ≡ None
+    → union_events E schema o tag S f path ≡ fault_event path (fault_text (UnknownUnionTag tag)) ∷ []
+union_unknown E schema o variants tag S f path some none = ap (λ v. union_events E schema v tag S f path) some ∙ ap (variant_events E schema tag S f path) none
 
-pub union_known : (E : TableEvents) (o : Option (Vec VariantSchema Global)) (variants : Vec VariantSchema Global) (variant : VariantSchema) (tag : ℕ) (S : List ℕ) (f : ℕ) (path : List ℕ) → o ≡ Some variants → variant_of variants.items tag ≡ Some variant
-    → union_events E o tag S f path ≡ line (union_line path tag (string_bytes variant.name)) ∷ E variant.table S f path
-union_known E o variants variant tag S f path some is = ap (λ v. union_events E v tag S f path) some ∙ ap (variant_events E tag S f path) is
+pub union_known : (E : TableEvents) (schema : Schema) (o : Option (Vec VariantSchema Global)) (variants : Vec VariantSchema Global) (variant : VariantSchema) (tag : ℕ) (S : List ℕ) (f : ℕ) (path : List ℕ) → o ≡ Some variants → variant_of variants.items tag ≡ Some variant
+    → union_events E schema o tag S f path ≡ line (union_line path tag (string_bytes variant.name)) ∷ member_events E schema variant.kind S f path
+union_known E schema o variants variant tag S f path some is = ap (λ v. union_events E schema v tag S f path) some ∙ ap (variant_events E schema tag S f path) is

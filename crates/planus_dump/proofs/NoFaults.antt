@@ -29,13 +29,15 @@ use Rattle.planus.proofs.Lists.{made_of}
 use Rattle.planus_dump.specs.Lines.{item_path, field_path}
 use Rattle.planus_dump.specs.Tests.{table_tests}
 use Rattle.planus_dump.specs.Answers.{lone_tag, Seen, SeenItems, SeenUnion, SeenUnions, table_at, union_at, unions_at, tagged_union, union_vector_by, union_vector_at, some_of}
-use Rattle.planus_dump.specs.Events.{Event, field_label, absent_events, no_union_events, wrong_tag, TableEvents, stride_of, variant_of, item_events, items_events, list_events, place_events, variant_events, union_events, union_field_events, union_items_events, unions_events, present, kind_events, fields_events, table_events, shape_events, events, leaf_events}
+use Rattle.planus_dump.specs.Events.{Event, field_label, absent_events, no_union_events, wrong_tag, TableEvents, stride_of, variant_of, member_events, item_events, items_events, list_events, place_events, variant_events, union_events, union_field_events, union_items_events, unions_events, present, kind_events, fields_events, table_events, shape_events, events, leaf_events}
 use Rattle.planus_dump.specs.FaultLines.{HasNoSpace, HaveNoFault, IsNoFault}
-use Rattle.planus_dump.specs.Describes.{plain_size, plain_field_size, IsText, IsByteList, held_at, IsItem, IsListOf, IsReferred, IsField, IsVariant, IsTagged, IsUnion, IsVectorOfUnions, IsUnionVector, HasKind, IsTableOf, Describes}
+use Rattle.planus_dump.specs.Describes.{plain_size, plain_field_size, IsText, IsByteList, held_at, IsItem, IsListOf, IsReferred, IsField, IsMember, IsVariant, IsTagged, IsUnion, IsVectorOfUnions, IsUnionVector, HasKind, IsTableOf, Describes}
 use Rattle.planus_dump.specs.declared.schemas.Schema.{Schema}
 use Rattle.planus_dump.specs.declared.schemas.TableSchema.{TableSchema}
 use Rattle.planus_dump.specs.declared.schemas.FieldSchema.{FieldSchema}
 use Rattle.planus_dump.specs.declared.schemas.VariantSchema.{VariantSchema}
+use Rattle.planus_dump.specs.declared.schemas.VariantKind.{VariantKind}
+use Rattle.planus_dump.specs.declared.schemas.VariantKind.TheVariants as member
 use Rattle.planus_dump.specs.declared.schemas.Kind.{Kind}
 use Rattle.planus_dump.specs.declared.schemas.Kind.TheVariants.{One, List as ListOf, Union, UnionVector, U8, I8, Bytes, Fixed, FixedList, Nested}
 use Rattle.planus_dump.specs.declared.schemas.Item.{Item}
@@ -214,15 +216,21 @@ module _ (steps : List Step) (given : Finish) (values : AllByRecursion (ValueHol
       let test : (q == 0) ≡ false = eq_false q 0 (λ z. absurd (omega arith)) in
       rw test (field_no_fault required kind content field k q path is e here.1 h)
 
-  variant_no_fault : (o : Option VariantSchema) (tag n d start f : ℕ) (path : List ℕ) → IsVariant steps IsTable o n → value_at given.places n ≡ Some d → Leads given.bytes (start + f) (position_of given.bytes d)
-      → HasNoSpace path → HaveNoFault (variant_events E tag (drop start given.bytes) f path o)
-  variant_no_fault (Some variant) tag n d start f path is e leads h = ((lines_told path h).union tag (string_bytes variant.name), tables variant.table n d start f path is e leads h)
-  variant_no_fault None tag n d start f path is e leads h = absurd is
+  member_no_fault : (schema : Schema) (kind : VariantKind) (n d start f : ℕ) (path : List ℕ) → IsMember steps IsTable kind n → value_at given.places n ≡ Some d → Leads given.bytes (start + f) (position_of given.bytes d)
+      → HasNoSpace path → HaveNoFault (member_events E schema kind (drop start given.bytes) f path)
+  member_no_fault schema (member.Table index) n d start f path is e leads h = tables index n d start f path is e leads h
+  member_no_fault schema (member.Struct index) n d start f path is e leads h = absurd is
+  member_no_fault schema member.Text n d start f path is e leads h = text_no_fault n d start f path is e leads h
 
-  tagged_no_fault : (variants : Option (Vec VariantSchema Global)) (tag n d start f : ℕ) (path : List ℕ) → IsTagged steps IsTable variants tag n → value_at given.places n ≡ Some d
-      → Leads given.bytes (start + f) (position_of given.bytes d) → HasNoSpace path → HaveNoFault (union_events E variants tag (drop start given.bytes) f path)
-  tagged_no_fault (Some variants) tag n d start f path is e leads h = variant_no_fault (variant_of variants.items tag) tag n d start f path is e leads h
-  tagged_no_fault None tag n d start f path is e leads h = absurd is
+  variant_no_fault : (schema : Schema) (o : Option VariantSchema) (tag n d start f : ℕ) (path : List ℕ) → IsVariant steps IsTable o n → value_at given.places n ≡ Some d → Leads given.bytes (start + f) (position_of given.bytes d)
+      → HasNoSpace path → HaveNoFault (variant_events E schema tag (drop start given.bytes) f path o)
+  variant_no_fault schema (Some variant) tag n d start f path is e leads h = ((lines_told path h).union tag (string_bytes variant.name), member_no_fault schema variant.kind n d start f path is e leads h)
+  variant_no_fault schema None tag n d start f path is e leads h = absurd is
+
+  tagged_no_fault : (schema : Schema) (variants : Option (Vec VariantSchema Global)) (tag n d start f : ℕ) (path : List ℕ) → IsTagged steps IsTable variants tag n → value_at given.places n ≡ Some d
+      → Leads given.bytes (start + f) (position_of given.bytes d) → HasNoSpace path → HaveNoFault (union_events E schema variants tag (drop start given.bytes) f path)
+  tagged_no_fault schema (Some variants) tag n d start f path is e leads h = variant_no_fault schema (variant_of variants.items tag) tag n d start f path is e leads h
+  tagged_no_fault schema None tag n d start f path is e leads h = absurd is
 
 record Sees (B : List ℕ) (k : ℕ) (entries : List (ℕ × Field)) (seen : Seen) : Type 0 where
   object : seen.object ≡ drop k B
@@ -338,11 +346,11 @@ unions_by : (E : TableEvents) (schema : Schema) (required : Bool) (index : ℕ) 
 unions_by E schema required index path r o e h = subst (λ (a : Result (Option SeenUnions) (List ℕ)). HaveNoFault (unions_events E schema required index path a)) (sym e) h
 
 union_items_no_fault : (E : TableEvents) (schema : Schema) (index : ℕ) (items : SeenUnions) (path : List ℕ) (n i : ℕ)
-    → ((j : ℕ) → i ≤ j → j < i + n → HaveNoFault (union_events E (slice_get schema.unions.items index) (slice_index items.tags j) items.references (j * 4) (item_path path j)))
+    → ((j : ℕ) → i ≤ j → j < i + n → HaveNoFault (union_events E schema (slice_get schema.unions.items index) (slice_index items.tags j) items.references (j * 4) (item_path path j)))
     → HaveNoFault (union_items_events E schema index items path n i)
 union_items_no_fault E schema index items path zero i each = tt
 union_items_no_fault E schema index items path (suc n) i each =
-    all_append IsNoFault (union_events E (slice_get schema.unions.items index) (slice_index items.tags i) items.references (i * 4) (item_path path i))
+    all_append IsNoFault (union_events E schema (slice_get schema.unions.items index) (slice_index items.tags i) items.references (i * 4) (item_path path i))
     (union_items_events E schema index items path n (i + 1))
     (each i (omega arith) (omega arith)) (union_items_no_fault E schema index items path n (i + 1) (λ j least below. each j (omega arith) (omega arith)))
 
@@ -430,8 +438,8 @@ module _ (steps : List Step) (given : Finish) (values : AllByRecursion (ValueHol
       by_tag n tag d is e leads (inl (zero_is, none)) = absurd (zero_tagged index tag n zero_is is)
       by_tag n tag d is e leads (inr some) =
           union_field_by E schema required index seen.object path (wrong_tag schema seen i) (union_at seen i) (Some (record { tag = tag; offset = Slot seen.slots (i + 1) })) some
-          (subst (λ bytes. HaveNoFault (union_events E (slice_get schema.unions.items index) tag bytes (Slot seen.slots (i + 1)) path)) (sym sees.object)
-          (tagged_no_fault steps given values E IsTable tables (slice_get schema.unions.items index) tag n d k (Slot seen.slots (i + 1)) path is e
+          (subst (λ bytes. HaveNoFault (union_events E schema (slice_get schema.unions.items index) tag bytes (Slot seen.slots (i + 1)) path)) (sym sees.object)
+          (tagged_no_fault steps given values E IsTable tables schema (slice_get schema.unions.items index) tag n d k (Slot seen.slots (i + 1)) path is e
           (references_lead given.bytes (k + Slot seen.slots (i + 1)) d leads) h))
   union_no_fault index _ _ is same next = absurd is
 
@@ -459,9 +467,9 @@ module _ (steps : List Step) (given : Finish) (values : AllByRecursion (ValueHol
             let one : Tagged (IsTagged steps IsTable (slice_get schema.unions.items index)) given.places made.0 j
             = tagged_at (IsTagged steps IsTable (slice_get schema.unions.items index)) given.places items made.0 made.1 is j (omega (arith, found.count)) in
             let tag : slice_index (drop (items_at S q) S) j ≡ one.pair.0 = ap (λ bytes. slice_index bytes j) tags_here ∙ byte_at (drop (kt + 4) given.bytes) j one.pair.0 (list.each_tag j one.pair one.there).there in
-            subst (λ n. HaveNoFault (union_events E (slice_get schema.unions.items index) n (drop (items_at S p) S) (j * 4) (item_path path j))) (sym tag)
-            (subst (λ bytes. HaveNoFault (union_events E (slice_get schema.unions.items index) one.pair.0 bytes (j * 4) (item_path path j))) (sym references_here)
-            (tagged_no_fault steps given values E IsTable tables (slice_get schema.unions.items index) one.pair.0 one.step one.pair.1 (kv + 4) (j * 4) (item_path path j) one.holds one.is_value
+            subst (λ n. HaveNoFault (union_events E schema (slice_get schema.unions.items index) n (drop (items_at S p) S) (j * 4) (item_path path j))) (sym tag)
+            (subst (λ bytes. HaveNoFault (union_events E schema (slice_get schema.unions.items index) one.pair.0 bytes (j * 4) (item_path path j))) (sym references_here)
+            (tagged_no_fault steps given values E IsTable tables schema (slice_get schema.unions.items index) one.pair.0 one.step one.pair.1 (kv + 4) (j * 4) (item_path path j) one.holds one.is_value
             (list.each_reference j one.pair one.there).leads (item_path_no_space path j h)))),
       )
   union_vector_items_no_fault index q p t d _ v is e reads tags references = absurd is

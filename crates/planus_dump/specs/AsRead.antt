@@ -1,7 +1,7 @@
 -- The tests of a dump are the clauses of `planus_read`.
 use Rattle.std.specs.Prelude.{◌≡◌, ◌≢◌, ◌↔◌, ℕ, ℤ, ◌+◌, ◌*◌, ◌/◌, ◌%◌, ◌<◌, ◌≤◌, ◌⊎◌, List, [], ◌∷◌, ◌++◌, map}
 use Rattle.std.specs.Prelude.{length, drop, take, Option, Some, None, Result, Ok, Err, true, false, String}
-use Rattle.std.specs.Prelude.{nat_eq, from_bits, FitsSigned}
+use Rattle.std.specs.Prelude.{nat_eq, slice_get, from_bits, FitsSigned}
 use Rattle.std.specs.Fmt.{decimal, signed_decimal}
 use Rattle.std.specs.Int.{Width, w8, w16, w32, w64, byte_len, cast_unsigned}
 use Rattle.std.specs.List.{AllByRecursion}
@@ -23,6 +23,7 @@ use Rattle.planus_read.specs.Enums.{variant_in, Numbered, unsigned_enum, signed_
 use Rattle.planus_read.specs.lemmas.NumberLaws.{AreBytes}
 use Rattle.planus_read.specs.Tables.{table_object, table_slots, slot_of, tag_of, BothSlots, HalfVector}
 use Rattle.planus_read.specs.Tables.{UnionAbsent, UnionThere, UnionBroken, UnionVectorSlots}
+use Rattle.planus_view.specs.PlainRefs.{plain_ref_reading}
 use Rattle.planus_dump.specs.Lines.{quoted, bytes_text, truth_text, names_text, field_path}
 use Rattle.planus_dump.specs.Lines.{struct_line, value_line}
 use Rattle.planus_dump.specs.Tests.{fault_text}
@@ -32,6 +33,7 @@ use Rattle.planus_dump.specs.Answers.{table_at, union_at, unions_at, Seen, SeenI
 use Rattle.planus_dump.specs.Answers.{SeenUnions, some_of}
 use Rattle.planus_dump.specs.ReadingViews.{answer_seen, table_seen}
 use Rattle.planus_dump.specs.Events.{Event, line, TableEvents, fault_event, counted_events}
+use Rattle.planus_dump.specs.Events.{led_events}
 use Rattle.planus_dump.specs.Events.{struct_events, structs, enum_at, number_leaf, number_width, names_in, place_events}
 use Rattle.planus_dump.specs.declared.values.Leaf.TheVariants.{Bool, Text, Bytes}
 use Rattle.planus_dump.specs.declared.schemas.Schema.{Schema}
@@ -196,6 +198,21 @@ pub record StructsAreSaid (S : List ℕ) (f : ℕ) : Type 0 where
       → (f + shape.size ≤ length S → ⊥)
       → struct_events schema (structs schema left) (Some shape) S f path
       ≡ fault_event path (fault_text InvalidOffset) ∷ []
+
+-- A union's struct is said where the reference at f of S leads, or the error of the reader is.
+pub record LedStructsAreSaid (S : List ℕ) (f : ℕ) : Type 0 where
+  pub there :
+      (schema : Schema) (index : ℕ) (shape : StructSchema) (path : List ℕ) (position : ℕ)
+      → slice_get schema.structs.items index ≡ Some shape
+      → Answer (plain_ref_reading shape.size S f) (Ok position)
+      → led_events schema index S f path (bits_at w32 S f)
+      ≡ line (struct_line path (string_bytes shape.name))
+      ∷ fields_at schema (structs schema 63) shape.fields.items S position path
+  pub fault :
+      (schema : Schema) (index : ℕ) (shape : StructSchema) (path : List ℕ) (e : ErrorKind)
+      → slice_get schema.structs.items index ≡ Some shape
+      → Answer (plain_ref_reading shape.size S f) (Err e)
+      → led_events schema index S f path (bits_at w32 S f) ≡ fault_event path (fault_text e) ∷ []
 
 -- ---- buffers in byte vectors
 

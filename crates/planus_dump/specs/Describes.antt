@@ -11,6 +11,8 @@ use Rattle.planus_dump.specs.Events.{variant_of}
 use Rattle.planus_dump.specs.declared.schemas.Schema.{Schema}
 use Rattle.planus_dump.specs.declared.schemas.TableSchema.{TableSchema}
 use Rattle.planus_dump.specs.declared.schemas.VariantSchema.{VariantSchema}
+use Rattle.planus_dump.specs.declared.schemas.VariantKind.{VariantKind}
+use Rattle.planus_dump.specs.declared.schemas.VariantKind.TheVariants as member
 use Rattle.planus_dump.specs.declared.schemas.Kind.{Kind}
 use Rattle.planus_dump.specs.declared.schemas.Kind.TheVariants.{One, List as ListOf, Union}
 use Rattle.planus_dump.specs.declared.schemas.Kind.TheVariants.{UnionVector, U8, I8, Bytes}
@@ -78,8 +80,14 @@ module _ (steps : List Step) (IsTable : ℕ → ℕ → Type 0) where
   IsField required kind (Some (tags_field n)) = ⊥
   IsField required kind (Some (values_field n)) = ⊥
 
+  -- scripts write no structs
+  abbrev pub IsMember : VariantKind → ℕ → Type 0
+  IsMember (member.Table index) n = IsTable index n
+  IsMember (member.Struct index) n = ⊥
+  IsMember member.Text n = IsText (slice_get steps n)
+
   abbrev pub IsVariant : Option VariantSchema → ℕ → Type 0
-  IsVariant (Some variant) n = IsTable variant.table n
+  IsVariant (Some variant) n = IsMember variant.kind n
   IsVariant None n = ⊥
 
   abbrev pub IsTagged : Option (Vec VariantSchema Global) → ℕ → ℕ → Type 0

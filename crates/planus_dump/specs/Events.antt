@@ -31,6 +31,8 @@ use Rattle.planus_dump.specs.declared.schemas.Schema.{Schema}
 use Rattle.planus_dump.specs.declared.schemas.TableSchema.{TableSchema}
 use Rattle.planus_dump.specs.declared.schemas.FieldSchema.{FieldSchema}
 use Rattle.planus_dump.specs.declared.schemas.VariantSchema.{VariantSchema}
+use Rattle.planus_dump.specs.declared.schemas.VariantKind.{VariantKind}
+use Rattle.planus_dump.specs.declared.schemas.VariantKind.TheVariants as member
 use Rattle.planus_dump.specs.declared.schemas.Kind.{Kind}
 use Rattle.planus_dump.specs.declared.schemas.Kind.TheVariants.{One, List as ListOf, Union}
 use Rattle.planus_dump.specs.declared.schemas.Kind.TheVariants.{UnionVector, U8, I8, Bytes}
@@ -236,6 +238,11 @@ abbrev pub value_events : Schema → Fixed → List ℕ → ℕ → List ℕ →
 value_events schema value S f path =
     fixed_events schema (structs schema greatest_nesting) value S f path
 
+-- the struct to which the reference at f of S leads, by the reference's number or its error
+abbrev pub led_events : Schema → ℕ → List ℕ → ℕ → List ℕ → Result ℕ (List ℕ) → List Event
+led_events schema index S f path (Ok n) = value_events schema (fixed.Struct index) S (f + n) path
+led_events schema index S f path (Err fault) = fault_event path fault ∷ []
+
 -- a vector of such values, or its error
 abbrev pub fixed_list_events : Schema → Fixed → List ℕ → Result SeenItems (List ℕ) → List Event
 fixed_list_events schema value path (Ok items) =
@@ -292,19 +299,25 @@ module _ (E : TableEvents) where
   place_events (Nested index) S f path =
       nested_events index path (answered (byte_list_tests S f) (content_at S f))
 
-  abbrev pub variant_events : ℕ → List ℕ → ℕ → List ℕ → Option VariantSchema → List Event
-  variant_events tag S f path (Some variant) =
-      line (union_line path tag (string_bytes variant.name)) ∷ E variant.table S f path
-  variant_events tag S f path None = fault_event path (fault_text (UnknownUnionTag tag)) ∷ []
-
-  -- a union of these variants, if the schema has them
-  abbrev pub union_events :
-      Option (Vec VariantSchema Global) → ℕ → List ℕ → ℕ → List ℕ → List Event
-  union_events None tag S f path = []
-  union_events (Some variants) tag S f path =
-      variant_events tag S f path (variant_of variants.items tag)
-
   module _ (schema : Schema) where
+    -- a variant's value, to which the reference at f of S leads
+    abbrev pub member_events : VariantKind → List ℕ → ℕ → List ℕ → List Event
+    member_events (member.Table index) S f path = E index S f path
+    member_events (member.Struct index) S f path = led_events schema index S f path (bits_at w32 S f)
+    member_events member.Text S f path = leaf_events LeafText S f path
+
+    abbrev pub variant_events : ℕ → List ℕ → ℕ → List ℕ → Option VariantSchema → List Event
+    variant_events tag S f path (Some one) =
+        line (union_line path tag (string_bytes one.name)) ∷ member_events one.kind S f path
+    variant_events tag S f path None = fault_event path (fault_text (UnknownUnionTag tag)) ∷ []
+
+    -- a union of these variants, if the schema has them
+    abbrev pub union_events :
+        Option (Vec VariantSchema Global) → ℕ → List ℕ → ℕ → List ℕ → List Event
+    union_events None tag S f path = []
+    union_events (Some variants) tag S f path =
+        variant_events tag S f path (variant_of variants.items tag)
+
     -- `wrong`: the tag of a union without a value
     abbrev pub union_field_events : Truth → ℕ → List ℕ → List ℕ → Option ℕ
         → Result (Option SeenUnion) (List ℕ) → List Event

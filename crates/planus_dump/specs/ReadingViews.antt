@@ -57,6 +57,13 @@ SeesPlace table i (Some place) =
     (Slot table.slots i ≢ 0) × (place_bytes place ≡ table.object)
     × (place_offset place ≡ Slot table.slots i)
 
+-- the place to which the reference at f of S leads, by what a dump says of the reference's number
+abbrev pub SeesLed :
+    List ℕ → ℕ → Result ℕ (List ℕ) → Result Place ErrorKind → Type 0
+SeesLed S f said (Ok place) =
+    (n : ℕ) × (said ≡ Ok n) × (place_bytes place ≡ S) × (place_offset place ≡ f + n)
+SeesLed S f said (Err kind) = said ≡ Err (fault_text kind)
+
 abbrev pub unions_view : Unions → UnionView
 unions_view unions = union_view_of unions.vector
 

@@ -16,6 +16,8 @@ use Rattle.planus_dump.specs.declared.schemas.Kind.TheVariants.{Nested}
 use Rattle.planus_dump.specs.declared.schemas.StructSchema.{StructSchema}
 use Rattle.planus_dump.specs.declared.schemas.StructFieldSchema.{StructFieldSchema}
 use Rattle.planus_dump.specs.declared.schemas.VariantSchema.{VariantSchema}
+use Rattle.planus_dump.specs.declared.schemas.VariantKind.{VariantKind}
+use Rattle.planus_dump.specs.declared.schemas.VariantKind.TheVariants as member
 use Rattle.planus_dump.specs.declared.schemas.Fixed.{Fixed}
 use Rattle.planus_dump.specs.declared.schemas.Fixed.TheVariants as fixed
 use Rattle.planus_dump.specs.declared.schemas.Item.{Item}
@@ -67,20 +69,26 @@ table_fits tables unions table =
 abbrev pub is_name_or_none : List ℕ → Bool
 is_name_or_none bytes = length bytes == 0 || is_name bytes
 
--- the tag isn't 0 or another's, the table is there, and the name is one if there is any
-abbrev pub variant_fits : ℕ → VariantSchema → List VariantSchema → Bool
-variant_fits tables variant others =
-    not (variant.tag == 0) && nat_lt variant.table tables
+-- the schema has the variant's table or struct
+abbrev pub variant_kind_fits : ℕ → ℕ → VariantKind → Bool
+variant_kind_fits tables structs (member.Table index) = nat_lt index tables
+variant_kind_fits tables structs (member.Struct index) = nat_lt index structs
+variant_kind_fits tables structs member.Text = true
+
+-- the tag isn't 0 or another's, the type is there, and the name is one if there is any
+abbrev pub variant_fits : ℕ → ℕ → VariantSchema → List VariantSchema → Bool
+variant_fits tables structs variant others =
+    not (variant.tag == 0) && variant_kind_fits tables structs variant.kind
     && not (list_any (λ other. other.tag == variant.tag) others)
     && is_name_or_none (string_bytes variant.name)
 
-abbrev pub variants_fit : ℕ → List VariantSchema → Bool
-variants_fit tables [] = true
-variants_fit tables (variant ∷ rest) =
-    variant_fits tables variant rest && variants_fit tables rest
+abbrev pub variants_fit : ℕ → ℕ → List VariantSchema → Bool
+variants_fit tables structs [] = true
+variants_fit tables structs (variant ∷ rest) =
+    variant_fits tables structs variant rest && variants_fit tables structs rest
 
-abbrev pub union_fits : ℕ → Vec VariantSchema Global → Bool
-union_fits tables variants = variants_fit tables variants.items
+abbrev pub union_fits : ℕ → ℕ → Vec VariantSchema Global → Bool
+union_fits tables structs variants = variants_fit tables structs variants.items
 
 -- the schema has the value's enum or struct
 abbrev pub fixed_fits : ℕ → ℕ → Fixed → Bool
@@ -117,5 +125,5 @@ abbrev pub is_good : Schema → Bool
 is_good schema =
     nat_lt schema.root (table_count schema)
     && list_all (table_fits (table_count schema) (union_count schema)) schema.tables.items
-    && list_all (union_fits (table_count schema)) schema.unions.items
+    && list_all (union_fits (table_count schema) (length schema.structs.items)) schema.unions.items
     && fixed_values_fit (length schema.enums.items) (length schema.structs.items) schema

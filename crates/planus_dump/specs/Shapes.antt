@@ -6,6 +6,7 @@ use Rattle.planus_dump.specs.declared.schemas.Schema.{Schema}
 use Rattle.planus_dump.specs.declared.schemas.TableSchema.{TableSchema}
 use Rattle.planus_dump.specs.declared.schemas.FieldSchema.{FieldSchema}
 use Rattle.planus_dump.specs.declared.schemas.VariantSchema.{VariantSchema}
+use Rattle.planus_dump.specs.declared.schemas.VariantKind.{VariantKind}
 use Rattle.planus_dump.specs.declared.schemas.Kind.{Kind}
 use Rattle.planus_dump.specs.declared.schemas.EnumSchema.{EnumSchema}
 use Rattle.planus_dump.specs.declared.schemas.StructSchema.{StructSchema}
@@ -40,13 +41,13 @@ table_shape shape =
 pub record VariantShape : Type 0 where
   pub tag : ℕ
   pub name : List ℕ
-  pub table : ℕ
+  pub kind : VariantKind
 
 abbrev pub variant_shape : VariantSchema → VariantShape
 variant_shape variant = record {
   tag = variant.tag;
   name = string_bytes variant.name;
-  table = variant.table;
+  kind = variant.kind;
 }
 
 abbrev pub union_shape : Vec VariantSchema Global → List VariantShape

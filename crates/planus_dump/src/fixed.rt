@@ -1,14 +1,14 @@
 #![tactic(auto, using(crate::proofs::Fed::fed_refused))]
 
 ghost use Rattle.std.specs.Prelude.{◌≡◌, ◌+◌, ◌-◌, ◌*◌, ◌^◌, min, slice_get};
-ghost use Rattle.std.specs.Int.{byte_len};
+ghost use Rattle.std.specs.Int.{byte_len, w32};
 ghost use Rattle.planus_read.specs.Places.{place_bytes, place_offset};
 ghost use Rattle.planus_read.specs.Slices.{slice_bytes};
-ghost use Rattle.planus_dump.specs.Answers.{vector_at};
+ghost use Rattle.planus_dump.specs.Answers.{bits_at, vector_at};
 ghost use Rattle.planus_dump.specs.Events.{number_leaf, number_width, enum_size, struct_size};
 ghost use Rattle.planus_dump.specs.Events.{leaf_events, enum_events, enum_at, answer_event};
 ghost use Rattle.planus_dump.specs.Events.{fixed_size as fixed_size_lem, fixed_events, structs};
-ghost use Rattle.planus_dump.specs.Events.{struct_events, value_events};
+ghost use Rattle.planus_dump.specs.Events.{struct_events, value_events, led_events};
 ghost use Rattle.planus_dump.specs.Events.{fixed_list_events, values_events, counted_events};
 ghost use Rattle.planus_dump.specs.inner.Feeding.{Feeds};
 ghost use Rattle.std.specs.Prelude.{Some, [], ◌∷◌};
@@ -16,7 +16,9 @@ ghost use Rattle.std.specs.Prelude.{Some, [], ◌∷◌};
 use crate::enums::names_of;
 use crate::line_sink::LineSink;
 use crate::lines::Lines;
-use crate::readings::{double_at, read_bits, read_values, single_at, slice_from, value_at};
+use crate::readings::{
+    double_at, led_place, read_bits, read_values, single_at, slice_from, value_at,
+};
 use crate::schemas::{EnumSchema, Fixed, Number, Schema, StructFieldSchema, StructSchema};
 use crate::sink_error::SinkError;
 use crate::values::Leaf;
@@ -278,6 +280,24 @@ pub fn dump_value<L: Lines>(
         (place_bytes place.entry) (place_offset place.entry) path.now) result out.new }
 {
     dump_fixed(schema, out, GREATEST_NESTING, path, fixed, place)
+}
+
+/// Dumps the struct to which the reference at a place leads.
+pub fn dump_led<L: Lines>(
+    schema: &Schema,
+    out: &mut LineSink<L>,
+    path: &str,
+    index: usize,
+    place: Place<'_>,
+) -> Result<(), SinkError>
+    ensures { Feeds L.takes L.breaks out.old
+        (led_events schema.now index (place_bytes place.entry) (place_offset place.entry) path.now
+        (bits_at w32 (place_bytes place.entry) (place_offset place.entry))) result out.new }
+{
+    match led_place(place) {
+        Ok(target) => dump_value(schema, out, path, Fixed::Struct(index), target),
+        Err(kind) => out.put_fault(path, kind),
+    }
 }
 
 pub fn dump_values<L: Lines>(

@@ -6,7 +6,7 @@ ghost use Rattle.planus_dump.specs.declared.schemas.Schema as schema;
 ghost use Rattle.planus_read.specs.declared.table_reader.Table as reader;
 ghost use Rattle.planus_dump.specs.AsRead.{ReadingsAreSaid, UnionsAreSaid, UnionVectorsAreSaid};
 ghost use Rattle.planus_dump.specs.AsRead.{FloatsAreSaid, EnumsAreSaid, StructsAreSaid};
-ghost use Rattle.planus_dump.specs.AsRead.{BuffersAreSaid, FlagsAreSaid};
+ghost use Rattle.planus_dump.specs.AsRead.{LedStructsAreSaid, BuffersAreSaid, FlagsAreSaid};
 ghost use Rattle.planus_dump.specs.Laws.{FaultLinesAreTold, PathsHaveNoSpace};
 ghost use Rattle.planus_dump.specs.Laws.{FinishesHaveNoFault, DumpsHaveNoFault};
 
@@ -30,6 +30,7 @@ pub fn readings_are_said()
     ensures values { (S : List ℕ) (f : ℕ) → ReadingsAreSaid S f }
     ensures floats { (S : List ℕ) (f : ℕ) → FloatsAreSaid S f }
     ensures structs { (S : List ℕ) (f : ℕ) → StructsAreSaid S f }
+    ensures led { (S : List ℕ) (f : ℕ) → LedStructsAreSaid S f }
     ensures buffers { (S : List ℕ) (f : ℕ) → BuffersAreSaid S f }
 {}
 

@@ -29,7 +29,7 @@ pub use printed::push_hex;
 pub use runs::{DumpRunError, dump_run};
 pub use schemas::{
     EnumSchema, FieldSchema, Fixed, Item, Kind, Number, Schema, StructFieldSchema, StructSchema,
-    TableSchema, VariantSchema,
+    TableSchema, VariantKind, VariantSchema,
 };
 pub use view_error::ViewError;
 pub use views::{End, Seen, view};

@@ -10,7 +10,7 @@ ghost use Rattle.planus_dump.specs.Answers.{some_tag, lone_tag as lone_tag_lem};
 ghost use Rattle.planus_dump.specs.Events.{TableEvents, leaf_events, number_width};
 ghost use Rattle.planus_dump.specs.ReadingViews.{answer_seen, table_seen};
 ghost use Rattle.planus_dump.specs.ReadingViews.{SeesUnion, SeesPlace, IsFound, found_events};
-ghost use Rattle.planus_dump.specs.ReadingViews.{IsSliceFrom, IsFloat, values_seen};
+ghost use Rattle.planus_dump.specs.ReadingViews.{IsSliceFrom, IsFloat, SeesLed, values_seen};
 
 use crate::line::Bits;
 use crate::schemas::{Item, Number};
@@ -118,6 +118,16 @@ pub fn slice_from<'buf>(
         return Err(ErrorKind::InvalidOffset);
     }
     Ok(slice)
+}
+
+/// Returns the place to which the reference at a place leads.
+pub fn led_place<'buf>(place: Place<'buf>) -> Result<Place<'buf>, ErrorKind>
+    ensures { SeesLed (place_bytes place.entry) (place_offset place.entry)
+        (bits_at w32 (place_bytes place.entry) (place_offset place.entry)) result }
+{
+    let reference = place.read::<u32>()?;
+    let position = place.read::<Position<'buf>>()?;
+    Ok(Place::new(position.slice, position.offset + reference as usize))
 }
 
 pub fn read_values<'buf>(

@@ -49,8 +49,19 @@ pub struct VariantSchema {
     pub tag: u8,
     /// The name, printed after the tag; where it is empty, none is.
     pub name: String,
-    /// The index of the variant's table.
-    pub table: usize,
+    /// What the reference of a union with this tag leads to.
+    pub kind: VariantKind,
+}
+
+/// The type of a variant.
+#[derive(Clone, Copy, Debug)]
+pub enum VariantKind {
+    /// The table at this index.
+    Table(usize),
+    /// The struct at this index, by itself.
+    Struct(usize),
+    /// A string.
+    Text,
 }
 
 /// An enum.

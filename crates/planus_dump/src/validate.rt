@@ -4,12 +4,12 @@ ghost use Rattle.std.specs.List.{list_all, list_any};
 ghost use Rattle.std.specs.Prelude.{◌==◌};
 ghost use Rattle.planus_dump.specs.Schemas.{is_name_byte, is_name, item_fits, kind_fits};
 ghost use Rattle.planus_dump.specs.Schemas.{field_fits, table_fits, variants_fit};
-ghost use Rattle.planus_dump.specs.Schemas.{is_name_or_none, variant_fits};
+ghost use Rattle.planus_dump.specs.Schemas.{is_name_or_none, variant_fits, variant_kind_fits};
 ghost use Rattle.planus_dump.specs.Schemas.{union_fits, is_good, fixed_fits, fixed_kind_fits};
 ghost use Rattle.planus_dump.specs.Schemas.{fixed_kinds_fit, struct_fits, fixed_values_fit};
 
 use crate::schemas::{
-    FieldSchema, Fixed, Item, Kind, Schema, StructSchema, TableSchema, VariantSchema,
+    FieldSchema, Fixed, Item, Kind, Schema, StructSchema, TableSchema, VariantKind, VariantSchema,
 };
 
 fn is_name_byte_of(byte: u8) -> bool
@@ -70,20 +70,35 @@ fn is_name_or_none_of(name: &str) -> bool
     name.is_empty() || is_name_of(name)
 }
 
-fn variant_fits_in(variant: &VariantSchema, others: &[VariantSchema], tables: usize) -> bool
-    ensures { result ≡ variant_fits tables variant.now others.now }
+fn variant_kind_fits_in(kind: VariantKind, tables: usize, structs: usize) -> bool
+    ensures { result ≡ variant_kind_fits tables structs kind }
+{
+    match kind {
+        VariantKind::Table(index) => index < tables,
+        VariantKind::Struct(index) => index < structs,
+        VariantKind::Text => true,
+    }
+}
+
+fn variant_fits_in(
+    variant: &VariantSchema,
+    others: &[VariantSchema],
+    tables: usize,
+    structs: usize,
+) -> bool
+    ensures { result ≡ variant_fits tables structs variant.now others.now }
 {
     variant.tag != 0
-        && variant.table < tables
+        && variant_kind_fits_in(variant.kind, tables, structs)
         && !has_tag(others, variant.tag)
         && is_name_or_none_of(variant.name.as_str())
 }
 
-fn variants_fit_in(variants: &[VariantSchema], tables: usize) -> bool
-    ensures { result ≡ variants_fit tables variants.now }
+fn variants_fit_in(variants: &[VariantSchema], tables: usize, structs: usize) -> bool
+    ensures { result ≡ variants_fit tables structs variants.now }
 {
     for (index, variant) in variants.iter().enumerate() {
-        if !variant_fits_in(variant, &variants[index + 1..], tables) {
+        if !variant_fits_in(variant, &variants[index + 1..], tables, structs) {
             return false;
         }
     }
@@ -101,11 +116,11 @@ fn tables_fit_in(all: &[TableSchema], tables: usize, unions: usize) -> bool
     true
 }
 
-fn unions_fit_in(all: &[Vec<VariantSchema>], tables: usize) -> bool
-    ensures { result ≡ list_all (union_fits tables) all.now }
+fn unions_fit_in(all: &[Vec<VariantSchema>], tables: usize, structs: usize) -> bool
+    ensures { result ≡ list_all (union_fits tables structs) all.now }
 {
     for variants in all {
-        if !variants_fit_in(variants.as_slice(), tables) {
+        if !variants_fit_in(variants.as_slice(), tables, structs) {
             return false;
         }
     }
@@ -192,6 +207,6 @@ pub fn is_good_schema(schema: &Schema) -> bool
     let unions = schema.unions.len();
     schema.root < tables
         && tables_fit_in(schema.tables.as_slice(), tables, unions)
-        && unions_fit_in(schema.unions.as_slice(), tables)
+        && unions_fit_in(schema.unions.as_slice(), tables, schema.structs.len())
         && fixed_values_fit_in(schema)
 }

@@ -10,18 +10,19 @@ ghost use Rattle.planus_dump.specs.Events.{events, kind_events, place_events, va
 ghost use Rattle.planus_dump.specs.Events.{absent_events, no_union_events, wrong_tag as wrong_tag_lem};
 ghost use Rattle.planus_dump.specs.Events.{field_label, buffer_events, stride_of as stride_lem};
 ghost use Rattle.planus_dump.specs.Events.{union_events, unions_events, list_events, table_events};
+ghost use Rattle.planus_dump.specs.Events.{member_events};
 ghost use Rattle.planus_dump.specs.ReadingViews.{table_seen, found_events, unions_seen};
 ghost use Rattle.planus_dump.specs.inner.Feeding.{Feeds};
 ghost use Rattle.std.specs.Prelude.{Some, Ok, false};
 ghost use Rattle.std.specs.Option.{option_map};
 
-use crate::fixed::{dump_value, dump_values};
+use crate::fixed::{dump_led, dump_value, dump_values};
 use crate::line_sink::LineSink;
 use crate::lines::Lines;
 use crate::readings::{
     Found, field_place, item_found, leaf_found, lone_tag, read_table, read_union, read_values,
 };
-use crate::schemas::{FieldSchema, Item, Kind, Schema, TableSchema, VariantSchema};
+use crate::schemas::{FieldSchema, Item, Kind, Schema, TableSchema, VariantKind, VariantSchema};
 use crate::sink_error::SinkError;
 use crate::unions::{Unions, read_unions};
 use crate::values::{Leaf, Value};
@@ -289,6 +290,26 @@ fn dump_items<L: Lines>(
 }
 
 #[cycle(walk)]
+fn dump_member<L: Lines>(
+    schema: &Schema,
+    out: &mut LineSink<L>,
+    left: usize,
+    path: &str,
+    kind: VariantKind,
+    place: Place<'_>,
+) -> Result<(), SinkError>
+    ensures { Feeds L.takes L.breaks out.old
+        (member_events (events schema.now left) schema.now kind
+        (place_bytes place.entry) (place_offset place.entry) path.now) result out.new }
+{
+    match kind {
+        VariantKind::Table(index) => dump_table(schema, out, left, path, index, place),
+        VariantKind::Struct(index) => dump_led(schema, out, path, index, place),
+        VariantKind::Text => dump_found(schema, out, left, path, leaf_found(place, Leaf::Text)),
+    }
+}
+
+#[cycle(walk)]
 fn dump_union<L: Lines>(
     schema: &Schema,
     out: &mut LineSink<L>,
@@ -299,7 +320,8 @@ fn dump_union<L: Lines>(
 ) -> Result<(), SinkError>
     ensures { let place = tagged_place tagged.entry in
         Feeds L.takes L.breaks out.old
-        (union_events (events schema.now left) (slice_get schema.now.unions.items index)
+        (union_events (events schema.now left) schema.now
+        (slice_get schema.now.unions.items index)
         (tagged_tag tagged.entry) (place_bytes place) (place_offset place) path.now) result out.new }
 {
     let variants = match schema.unions.get(index) {
@@ -310,7 +332,7 @@ fn dump_union<L: Lines>(
     match variant_with(variants.as_slice(), tag) {
         Some(variant) => {
             out.put_union(path, tag, variant.name.as_str())?;
-            dump_table(schema, out, left, path, variant.table, tagged.place())
+            dump_member(schema, out, left, path, variant.kind, tagged.place())
         }
         None => out.put_fault(path, ErrorKind::UnknownUnionTag { tag }),
     }

@@ -20,7 +20,7 @@ use Rattle.planus_schema.specs.declared.schema.UnionMember.{UnionMember}
 use Rattle.planus_schema.specs.declared.scalar.Scalar.{Scalar}
 use Rattle.planus_schema.specs.declared.scalar.Scalar.TheVariants as scalar
 use Rattle.planus_schema.specs.Layouts.{body_in}
-use Rattle.planus_resolve.specs.Sound.{IsSound, AreSound, RefersBody, RefersField, RefersBefore, Refers, IsNested, IsTableAt, IsBelow}
+use Rattle.planus_resolve.specs.Sound.{IsSound, AreSound, RefersBody, RefersMember, RefersField, RefersBefore, Refers, IsNested, IsTableAt, IsBelow}
 use Rattle.planus_resolve.specs.Schemas.{IsBody}
 use Rattle.planus_resolve.specs.Unions.{tag_in, is_tag}
 use Rattle.planus_dump.specs.declared.schemas.Schema as dump
@@ -30,9 +30,9 @@ use Rattle.planus_dump.specs.declared.schemas.VariantSchema.{VariantSchema}
 use Rattle.planus_dump.specs.declared.schemas.FieldSchema.{FieldSchema}
 use Rattle.planus_dump.specs.declared.schemas.StructSchema.{StructSchema}
 use Rattle.planus_dump.specs.declared.schemas.StructFieldSchema.{StructFieldSchema}
-use Rattle.planus_dump.specs.Schemas.{is_name, is_name_byte, is_name_or_none, variant_fits, kind_fits, field_fits, table_fits, variants_fit, union_fits, fixed_fits, fixed_kind_fits, fixed_kinds_fit, struct_field_fits, struct_fits, is_good}
+use Rattle.planus_dump.specs.Schemas.{is_name, is_name_byte, is_name_or_none, variant_kind_fits, variant_fits, kind_fits, field_fits, table_fits, variants_fit, union_fits, fixed_fits, fixed_kind_fits, fixed_kinds_fit, struct_field_fits, struct_fits, is_good}
 use Rattle.planus_dump.specs.Shapes.{FieldShape, field_shape, TableShape, table_shape, StructFieldShape, struct_field_shape, StructShape, struct_shape, VariantShape, variant_shape, union_shape}
-use Rattle.planus_inspect.specs.Shown.{shown_byte, after_dot, last_word, some_word, shown_name, scalar_fixed, scalar_kind, scalar_list, base_fixed, one_kind, list_kind, kind_of, field_shown, fields_shown, table_shown, member_shown, union_shown, field_in_struct, struct_fields_shown, struct_shown, Shows}
+use Rattle.planus_inspect.specs.Shown.{shown_byte, after_dot, last_word, some_word, shown_name, scalar_fixed, scalar_kind, scalar_list, base_fixed, one_kind, list_kind, kind_of, field_shown, fields_shown, table_shown, member_kind, member_shown, union_shown, field_in_struct, struct_fields_shown, struct_shown, Shows}
 
 both : (a b : Bool) → a ≡ true → b ≡ true → (a && b) ≡ true
 both true true e f = refl
@@ -262,26 +262,35 @@ none_alike t (m ∷ ms) h = rw (other_tag t m.tag h.0) (none_alike t ms h.1)
 
 -- the variants of a union, by their shapes
 abbrev variant_is_fit : ℕ → VariantShape → List VariantShape → Bool
-variant_is_fit n variant others = not (variant.tag == 0) && nat_lt variant.table n && not (list_any (λ other. other.tag == variant.tag) others) && is_name_or_none variant.name
+variant_is_fit n variant others = not (variant.tag == 0) && variant_kind_fits n n variant.kind && not (list_any (λ other. other.tag == variant.tag) others) && is_name_or_none variant.name
 
 abbrev variants_are_fit : ℕ → List VariantShape → Bool
 variants_are_fit n [] = true
 variants_are_fit n (variant ∷ rest) = variant_is_fit n variant rest && variants_are_fit n rest
 
+member_fits : (bs : List Body) (n : ℕ) → IsIndex bs n → (b : Base) → RefersMember bs b → variant_kind_fits n n (member_kind b) ≡ true
+unfolding IsIndex
+member_fits bs n index (base.Scalar x) h = refl
+member_fits bs n index base.Text h = refl
+member_fits bs n index (base.Enum i) h = refl
+member_fits bs n index (base.Struct i) h = index i (body.Struct h.1.0) h.1.1
+member_fits bs n index (base.Table i) h = index i (body.Table h.1.0) h.1.1
+member_fits bs n index (base.Union i) h = refl
+
 members_fit : (bs : List Body) (n : ℕ) → IsIndex bs n → (ms : List UnionMember) → list_all is_tag (map tag_in ms) ≡ true → IsDistinct nat_eq (map tag_in ms)
-    → AllByRecursion (λ m. IsTableAt bs m.table) ms → variants_are_fit n (map member_shown ms) ≡ true
+    → AllByRecursion (λ m. RefersMember bs m.base) ms → variants_are_fit n (map member_shown ms) ≡ true
 unfolding IsIndex IsDistinct
 members_fit bs n index [] tags distinct tables = refl
 members_fit bs n index (m ∷ ms) tags distinct tables =
     let tag = both_true (is_tag m.tag) (list_all is_tag (map tag_in ms)) tags in
-    let inside : nat_lt m.table n ≡ true = index m.table (body.Table tables.0.0) tables.0.1 in
+    let inside : variant_kind_fits n n (member_kind m.base) ≡ true = member_fits bs n index m.base tables.0 in
     let rest = members_fit bs n index ms tag.1 distinct.1 tables.1 in
     let alone = none_alike m.tag ms distinct.0 in
     let first = some_tag m.tag tag.0 in
     let others = list_any (λ (other : VariantShape). other.tag == m.tag) (map member_shown ms) in
     both (variant_is_fit n (member_shown m) (map member_shown ms)) (variants_are_fit n (map member_shown ms))
-    (both (not (m.tag == 0) && nat_lt m.table n && not others) (is_name_or_none (shown_name m.name.items))
-    (both (not (m.tag == 0) && nat_lt m.table n) (not others) (both (not (m.tag == 0)) (nat_lt m.table n) first inside) alone) (some_name (shown_name m.name.items) (shown_is_name m.name.items))) rest
+    (both (not (m.tag == 0) && variant_kind_fits n n (member_kind m.base) && not others) (is_name_or_none (shown_name m.name.items))
+    (both (not (m.tag == 0) && variant_kind_fits n n (member_kind m.base)) (not others) (both (not (m.tag == 0)) (variant_kind_fits n n (member_kind m.base)) first inside) alone) (some_name (shown_name m.name.items) (shown_is_name m.name.items))) rest
   where
     some_name : (name : List ℕ) → is_name name ≡ true → is_name_or_none name ≡ true
     some_name name h = by_test (length name == 0)
@@ -303,13 +312,13 @@ any_mapped : (t : ℕ) (variants : List VariantSchema) → list_any (λ (other :
 any_mapped t [] = refl
 any_mapped t (variant ∷ rest) = ap (λ any. (variant.tag == t) || any) (any_mapped t rest)
 
-variants_pass : (n : ℕ) (variants : List VariantSchema) → variants_are_fit n (map variant_shape variants) ≡ variants_fit n variants
+variants_pass : (n : ℕ) (variants : List VariantSchema) → variants_are_fit n (map variant_shape variants) ≡ variants_fit n n variants
 variants_pass n [] = refl
 variants_pass n (variant ∷ rest) =
-    ap (λ any. (not (variant.tag == 0) && nat_lt variant.table n && not any && is_name_or_none (string_bytes variant.name)) && variants_are_fit n (map variant_shape rest)) (any_mapped variant.tag rest)
-    ∙ ap (λ fit. variant_fits n variant rest && fit) (variants_pass n rest)
+    ap (λ any. (not (variant.tag == 0) && variant_kind_fits n n variant.kind && not any && is_name_or_none (string_bytes variant.name)) && variants_are_fit n (map variant_shape rest)) (any_mapped variant.tag rest)
+    ∙ ap (λ fit. variant_fits n n variant rest && fit) (variants_pass n rest)
 
-union_passes : (n : ℕ) (v : Vec VariantSchema Global) → variants_are_fit n (union_shape v) ≡ true → union_fits n v ≡ true
+union_passes : (n : ℕ) (v : Vec VariantSchema Global) → variants_are_fit n (union_shape v) ≡ true → union_fits n n v ≡ true
 union_passes n v h = sym (variants_pass n v.items) ∙ h
 
 same_length : {A B C : Type 0} (f : A → C) (g : B → C) (xs : List A) (ys : List B) → map f xs ≡ map g ys → length xs ≡ length ys
@@ -335,7 +344,7 @@ sound_is_good schema root shown h sound (table, there) =
     = subst (AllByRecursion (StructFits n)) (sym h.structs_are) (all_mapped struct_shown (Refers1 bs n) (StructFits n) (struct_is_fit bs n) ds each) in
     let root_fits : nat_lt shown.root n ≡ true = subst (λ i. nat_lt i n ≡ true) (sym h.root_is) (index root (body.Table table) there) in
     let tables_fit : list_all (table_fits n n) shown.tables.items ≡ true = all_of_map table_shape (table_fits n n) (TableFits n) (table_passes n) shown.tables.items table_shapes in
-    let unions_fit : list_all (union_fits n) shown.unions.items ≡ true = all_of_map union_shape (union_fits n) (λ v. variants_are_fit n v ≡ true) (union_passes n) shown.unions.items union_shapes in
+    let unions_fit : list_all (union_fits n n) shown.unions.items ≡ true = all_of_map union_shape (union_fits n n) (λ v. variants_are_fit n v ≡ true) (union_passes n) shown.unions.items union_shapes in
     let kinds_fit : list_all (fixed_kinds_fit n n) shown.tables.items ≡ true = all_of_map table_shape (fixed_kinds_fit n n) (TableFits n) (kinds_pass n) shown.tables.items table_shapes in
     let structs_fit : list_all (struct_fits n n) shown.structs.items ≡ true = all_of_map struct_shape (struct_fits n n) (StructFits n) (struct_passes n) shown.structs.items struct_shapes in
     rw (tables, unions, enums, structs, root_fits, tables_fit, unions_fit, kinds_fit, structs_fit) refl

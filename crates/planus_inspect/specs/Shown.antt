@@ -24,6 +24,8 @@ use Rattle.planus_dump.specs.declared.schemas.Fixed.TheVariants as fixed
 use Rattle.planus_dump.specs.declared.schemas.Item.TheVariants as item
 use Rattle.planus_dump.specs.declared.schemas.Kind.{Kind}
 use Rattle.planus_dump.specs.declared.schemas.Kind.TheVariants as kind
+use Rattle.planus_dump.specs.declared.schemas.VariantKind.{VariantKind}
+use Rattle.planus_dump.specs.declared.schemas.VariantKind.TheVariants as member
 use Rattle.planus_dump.specs.declared.schemas.Number as numbers
 use Rattle.planus_dump.specs.declared.schemas.Number.TheVariants as number
 use Rattle.planus_dump.specs.Schemas.{is_name_byte}
@@ -151,8 +153,18 @@ fields_shown (body.Union u) = []
 abbrev pub table_shown : Declared → TableShape
 table_shown d = record { name = shown_name d.name.items; fields = fields_shown d.body }
 
+-- a member of a union: a table, a struct or a string
+abbrev pub member_kind : Base → VariantKind
+member_kind (base.Scalar s) = member.Text
+member_kind base.Text = member.Text
+member_kind (base.Enum i) = member.Text
+member_kind (base.Struct i) = member.Struct i
+member_kind (base.Table i) = member.Table i
+member_kind (base.Union i) = member.Text
+
 abbrev pub member_shown : UnionMember → VariantShape
-member_shown m = record { tag = m.tag; name = shown_name m.name.items; table = m.table }
+member_shown m =
+    record { tag = m.tag; name = shown_name m.name.items; kind = member_kind m.base }
 
 abbrev pub union_shown : Declared → List VariantShape
 union_shown d = members_of d.body

@@ -1,12 +1,22 @@
 //! Unions as a dump reads them.
 ghost use Rattle.std.specs.Prelude.{◌≡◌, map, IfOk};
 ghost use Rattle.planus_dump.specs.Shapes.{variant_shape};
-ghost use Rattle.planus_inspect.specs.Shown.{member_shown, union_shown};
+ghost use Rattle.planus_inspect.specs.Shown.{member_kind, member_shown, union_shown};
 
 use crate::names::shown_name;
-use planus_dump::VariantSchema;
-use planus_schema::{Body, Declared, UnionMember};
+use planus_dump::{VariantKind, VariantSchema};
+use planus_schema::{Base, Body, Declared, UnionMember};
 use std::alloc::{AllocError, Global};
+
+fn variant_kind(base: Base) -> VariantKind
+    ensures { result ≡ member_kind base }
+{
+    match base {
+        Base::Table(index) => VariantKind::Table(index),
+        Base::Struct(index) => VariantKind::Struct(index),
+        Base::Scalar(_) | Base::Text | Base::Enum(_) | Base::Union(_) => VariantKind::Text,
+    }
+}
 
 fn variant_schema(alloc: Global, member: &UnionMember) -> Result<VariantSchema, AllocError>
     ensures { IfOk result (λ shown. variant_shape shown ≡ member_shown member.now) }
@@ -14,7 +24,7 @@ fn variant_schema(alloc: Global, member: &UnionMember) -> Result<VariantSchema, 
     Ok(VariantSchema {
         tag: member.tag,
         name: shown_name(alloc, &member.name)?,
-        table: member.table,
+        kind: variant_kind(member.base),
     })
 }
 

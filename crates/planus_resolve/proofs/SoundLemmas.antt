@@ -24,14 +24,15 @@ use Rattle.planus_resolve.proofs.DefaultLemmas.{default_lawful}
 use Rattle.planus_schema.specs.Distinct.{AreDistinct, Each2}
 use Rattle.planus_schema.specs.Layouts.{measure_of_body, measure_in, body_in}
 use Rattle.planus_resolve.specs.Structs.{SaysStructField, natural_of, is_count, count_in, count_said}
-use Rattle.planus_resolve.specs.Unions.{SaysMember, target_of, wanted_of}
+use Rattle.planus_resolve.specs.Unions.{SaysMember, target_of, wanted_of, expected_as}
+use Rattle.planus_resolve.specs.Fitting.{fits, is_member}
 use Rattle.planus_resolve.specs.Names.{UsedAs}
 use Rattle.planus_resolve.specs.Names.{as_type, as_record, as_root}
 use Rattle.planus_resolve.specs.Tables.{SaysField, NestedIs, table_found, nested_name}
 use Rattle.planus_resolve.specs.Schemas.{SaysBody, SayBodies, IsHeadOf, StatementsV, no_statements, after, after_file, after_files, said_of, Means}
 use Rattle.planus_schema.specs.declared.schema.Declared.{Declared}
 use Rattle.planus_schema.specs.declared.schema.Schema.{Schema}
-use Rattle.planus_resolve.specs.Sound.{IsTableAt, Refers, IsNested, RefersField, IsBelow, IsCount, RefersBefore, RefersBody, AreSound, IsSound}
+use Rattle.planus_resolve.specs.Sound.{IsTableAt, Refers, RefersMember, IsNested, RefersField, IsBelow, IsCount, RefersBefore, RefersBody, AreSound, IsSound}
 
 pub base_of_body : Option Body → ℕ → Option Base
 base_of_body None i = None
@@ -138,12 +139,27 @@ refers_fields hs bs space ids (d ∷ ds) [] m x = absurd x
 refers_fields hs bs space ids (d ∷ ds) (f ∷ fs) m x =
     (record { kind = refers_type hs bs space d.kind f.kind m x.0.kind; nested = refers_nested hs bs space (setting (codes "nested_flatbuffer") d.attributes) f.nested m x.0.nested; default = default_lawful hs d.default f.kind (option_map value_of f.default) x.0.default }, refers_fields hs bs space ids ds fs m x.1)
 
-refers_members : (hs : List HeadV) (bs : List Body) (space : SpaceV) (ds : List MemberV) (ms : List UnionMember) → Matches hs bs → Each2 (SaysMember hs space) ds ms → AllByRecursion (λ x. IsTableAt bs x.table) ms
+fits_member : (w : UsedAs) (b : Base) → fits (expected_as w) b ≡ true → is_member b ≡ true
+fits_member as_type b e = e
+fits_member as_record (base.Scalar s) e = e
+fits_member as_record base.Text e = absurd cc
+fits_member as_record (base.Enum i) e = e
+fits_member as_record (base.Struct i) e = refl
+fits_member as_record (base.Table i) e = refl
+fits_member as_record (base.Union i) e = e
+fits_member as_root (base.Scalar s) e = e
+fits_member as_root base.Text e = absurd cc
+fits_member as_root (base.Enum i) e = e
+fits_member as_root (base.Struct i) e = refl
+fits_member as_root (base.Table i) e = refl
+fits_member as_root (base.Union i) e = e
+
+refers_members : (hs : List HeadV) (bs : List Body) (space : SpaceV) (ds : List MemberV) (ms : List UnionMember) → Matches hs bs → Each2 (SaysMember hs space) ds ms → AllByRecursion (λ x. RefersMember bs x.base) ms
 refers_members hs bs space [] [] m x = tt
 refers_members hs bs space [] (f ∷ fs) m x = absurd x
 refers_members hs bs space (d ∷ ds) [] m x = absurd x
 refers_members hs bs space (d ∷ ds) (f ∷ fs) m x =
-    (refers_named hs bs (wanted_of d) space (target_of d) (base.Table f.table) m x.0.table, refers_members hs bs space ds fs m x.1)
+    ((fits_member (wanted_of d) f.base x.0.fits, refers_named hs bs (wanted_of d) space (target_of d) f.base m x.0.base), refers_members hs bs space ds fs m x.1)
 
 measured : (before : List Body) (i : ℕ) (m : Measure) (o : Option Body) → o ≡ slice_get before i → measure_of_body o ≡ Some m → i < length before
 measured before i m None s e = absurd cc

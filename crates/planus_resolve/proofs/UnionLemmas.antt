@@ -12,8 +12,8 @@ use Rattle.planus_resolve.specs.declared.fault.Stop.TheVariants as stop
 use Rattle.std.specs.Option.{option_map}
 use Rattle.std.proofs.lemmas.List.{append-nil}
 use Rattle.planus_resolve.specs.Names.{HeadV, SpaceV, listed, also_said}
-use Rattle.planus_resolve.specs.Wrong.{Broken, broken, when, first, wrong_table, Stops}
-use Rattle.planus_resolve.specs.WrongUnions.{member_name, target_path, wrong_tag, wrong_member, wrong_members}
+use Rattle.planus_resolve.specs.Wrong.{Broken, broken, when, first, Stops}
+use Rattle.planus_resolve.specs.WrongUnions.{member_name, target_path, wrong_tag, wrong_target, wrong_member, wrong_members}
 use Rattle.planus_resolve.proofs.FaultLemmas.{skip, passes, stops_first, stops_next, stops_now}
 use Rattle.planus_schema.specs.declared.schema.UnionMember.{UnionMember}
 use Rattle.planus_schema.specs.Distinct.{AreDistinct, is_in}
@@ -68,14 +68,14 @@ members_next hs space previous tags names ms d ds all tag tags' names' here same
     ∙ ap (wrong_members hs space previous tags names) (sym here) ∙ same)
 
 pub tag_missing : (hs : List HeadV) (space : SpaceV) (previous : Option ℕ) (tags : List ℕ) (m : Member) → tag_said previous (digits_of m.value) ≡ None → wrong_member hs space previous tags m ≡ broken problem.TagOutOfRange m.path.left
-tag_missing hs space previous tags m e = ap (λ o. first (wrong_tag tags m o) (wrong_table problem.MemberIsNoTable hs (wanted_of (member_of m)) space (target_path m))) e
+tag_missing hs space previous tags m e = ap (λ o. first (wrong_tag tags m o) (wrong_target hs (wanted_of (member_of m)) space (target_path m))) e
 
 pub tag_used : (hs : List HeadV) (space : SpaceV) (previous : Option ℕ) (tags : List ℕ) (m : Member) (n : ℕ) → tag_said previous (digits_of m.value) ≡ Some n → list_any (λ t. nat_eq t n) tags ≡ true → wrong_member hs space previous tags m ≡ broken problem.TagTaken m.path.left
 tag_used hs space previous tags m n e h =
-    ap (λ o. first (wrong_tag tags m o) (wrong_table problem.MemberIsNoTable hs (wanted_of (member_of m)) space (target_path m))) e
-    ∙ ap (λ b. first (when b problem.TagTaken m.path.left) (wrong_table problem.MemberIsNoTable hs (wanted_of (member_of m)) space (target_path m))) h
+    ap (λ o. first (wrong_tag tags m o) (wrong_target hs (wanted_of (member_of m)) space (target_path m))) e
+    ∙ ap (λ b. first (when b problem.TagTaken m.path.left) (wrong_target hs (wanted_of (member_of m)) space (target_path m))) h
 
-pub tag_free : (hs : List HeadV) (space : SpaceV) (previous : Option ℕ) (tags : List ℕ) (m : Member) (n : ℕ) → tag_said previous (digits_of m.value) ≡ Some n → list_any (λ t. nat_eq t n) tags ≡ false → wrong_member hs space previous tags m ≡ wrong_table problem.MemberIsNoTable hs (wanted_of (member_of m)) space (target_path m)
+pub tag_free : (hs : List HeadV) (space : SpaceV) (previous : Option ℕ) (tags : List ℕ) (m : Member) (n : ℕ) → tag_said previous (digits_of m.value) ≡ Some n → list_any (λ t. nat_eq t n) tags ≡ false → wrong_member hs space previous tags m ≡ wrong_target hs (wanted_of (member_of m)) space (target_path m)
 tag_free hs space previous tags m n e h =
-    ap (λ o. first (wrong_tag tags m o) (wrong_table problem.MemberIsNoTable hs (wanted_of (member_of m)) space (target_path m))) e
-    ∙ ap (λ b. first (when b problem.TagTaken m.path.left) (wrong_table problem.MemberIsNoTable hs (wanted_of (member_of m)) space (target_path m))) h
+    ap (λ o. first (wrong_tag tags m o) (wrong_target hs (wanted_of (member_of m)) space (target_path m))) e
+    ∙ ap (λ b. first (when b problem.TagTaken m.path.left) (wrong_target hs (wanted_of (member_of m)) space (target_path m))) h

@@ -15,10 +15,30 @@ fits_in_struct index (base.Struct i) = nat_lt i index
 fits_in_struct index (base.Table i) = false
 fits_in_struct index (base.Union i) = false
 
+-- a table or a struct
+abbrev pub is_record : Base → Bool
+is_record (base.Scalar s) = false
+is_record base.Text = false
+is_record (base.Enum i) = false
+is_record (base.Struct i) = true
+is_record (base.Table i) = true
+is_record (base.Union i) = false
+
+-- what a member of a union may be: a table, a struct or a string
+abbrev pub is_member : Base → Bool
+is_member (base.Scalar s) = false
+is_member base.Text = true
+is_member (base.Enum i) = false
+is_member (base.Struct i) = true
+is_member (base.Table i) = true
+is_member (base.Union i) = false
+
 abbrev pub fits : Expected → Base → Bool
 fits expected.AnyType b = true
 fits (expected.InStruct index) b = fits_in_struct index b
 fits expected.Table b = is_set (table_in (Some b))
+fits expected.Record b = is_record b
+fits expected.Member b = is_member b
 
 -- this is a type, and it may stand there
 abbrev pub is_fit : Expected → Option Base → Bool

@@ -19,6 +19,7 @@ use Rattle.planus_schema.specs.Distinct.{AreDistinct}
 use Rattle.planus_resolve.specs.Defaults.{value_of, is_default}
 use Rattle.planus_schema.specs.Layouts.{measure_in, body_in}
 use Rattle.planus_resolve.specs.Structs.{items_in}
+use Rattle.planus_resolve.specs.Fitting.{is_member}
 use Rattle.planus_resolve.specs.Schemas.{IsBody, IsFour, said_of}
 
 abbrev pub IsTableAt : List Body → ℕ → Type 0
@@ -67,11 +68,15 @@ pub record RefersBefore (bs : List Body) (n : ℕ) (f : StructField) : Type 0 wh
   pub size : f.size ≡ items_in f.count * item.size
   pub alignment : f.alignment ≡ item.alignment
 
+-- a table, a struct or a string
+abbrev pub RefersMember : List Body → Base → Type 0
+RefersMember bs b = (is_member b ≡ true) × Refers bs b
+
 abbrev pub RefersBody : List Body → ℕ → Body → Type 0
 RefersBody bs n (body.Table t) = AllByRecursion (RefersField bs) t.fields.items
 RefersBody bs n (body.Struct s) = AllByRecursion (RefersBefore bs n) s.fields.items
 RefersBody bs n (body.Enum e) = Unit {0}
-RefersBody bs n (body.Union u) = AllByRecursion (λ m. IsTableAt bs m.table) u.members.items
+RefersBody bs n (body.Union u) = AllByRecursion (λ m. RefersMember bs m.base) u.members.items
 
 -- from the declaration n on
 abbrev pub AreSound : List Body → ℕ → List Body → Type 0

@@ -4,12 +4,14 @@ use Rattle.std.specs.Prelude.{map, Option, Some, None, codes, if◌then◌else�
 use Rattle.std.specs.List.{IsDistinct, list_all}
 use Rattle.std.specs.Option.{option_map}
 use Rattle.planus_syntax.specs.Values.{PathV, MemberV, UnionV, names_of}
-use Rattle.planus_schema.specs.declared.schema.Base.TheVariants as base
 use Rattle.planus_schema.specs.declared.schema.Union.{Union}
 use Rattle.planus_schema.specs.declared.schema.UnionMember.{UnionMember}
 use Rattle.planus_schema.specs.Numbers.{integer_said}
 use Rattle.planus_resolve.specs.Names.{UsedAs}
-use Rattle.planus_resolve.specs.Names.{as_type, as_record}
+use Rattle.planus_resolve.specs.Names.{as_type, as_record, as_root}
+use Rattle.planus_resolve.specs.Fitting.{fits}
+use Rattle.planus_resolve.specs.declared.expected.Expected.{Expected}
+use Rattle.planus_resolve.specs.declared.expected.Expected.TheVariants as expected
 use Rattle.planus_resolve.specs.Structs.{natural_of}
 use Rattle.planus_resolve.specs.Names.{HeadV, SpaceV, words_of, dotted, base_as, has, also_said}
 use Rattle.planus_schema.specs.Distinct.{AreDistinct, Each2}
@@ -48,11 +50,18 @@ wanted_of m = wanted_for m.target
     wanted_for None = as_record
     wanted_for (Some p) = as_type
 
+-- a table or a struct, and after an alias also a string
+abbrev pub expected_as : UsedAs → Expected
+expected_as as_type = expected.Member
+expected_as as_record = expected.Record
+expected_as as_root = expected.Record
+
 pub record SaysMember (hs : List HeadV) (space : SpaceV) (d : MemberV) (m : UnionMember)
     : Type 0 where
   pub name : m.name.items ≡ dotted (words_of d.path)
   pub docs : names_of m.docs.items ≡ d.docs
-  pub table : base_as hs (wanted_of d) space (target_of d) ≡ Some (base.Table m.table)
+  pub base : base_as hs (wanted_of d) space (target_of d) ≡ Some m.base
+  pub fits : fits (expected_as (wanted_of d)) m.base ≡ true
 
 abbrev pub tag_in : UnionMember → ℕ
 tag_in m = m.tag

@@ -16,6 +16,7 @@ use Rattle.planus_resolve.specs.Names.{as_type}
 use Rattle.planus_resolve.specs.declared.fault.Stop.{Stop}
 use Rattle.planus_resolve.specs.declared.fault.Stop.TheVariants as stop
 use Rattle.planus_resolve.specs.Names.{HeadV, SpaceV, base_as, table_in, is_set}
+use Rattle.planus_resolve.specs.Fitting.{is_fit}
 
 -- `left`: the number of tokens from the word at fault to the end of its text
 pub record Broken : Type 0 where
@@ -61,3 +62,8 @@ wrong_kind e hs space k = wrong_base e hs as_type space (path_in_kind k)
 abbrev pub wrong_table : Problem → List HeadV → UsedAs → SpaceV → Path → Option Broken
 wrong_table problem hs w space p = first (wrong_base expected.Table hs w space p)
     (when (not (is_set (table_in (base_as hs w space (path_of p))))) problem p.left)
+
+-- a name that has to be that of a type that may stand there
+abbrev pub wrong_fit : Problem → Expected → List HeadV → UsedAs → SpaceV → Path → Option Broken
+wrong_fit problem e hs w space p = first (wrong_base e hs w space p)
+    (when (not (is_fit e (base_as hs w space (path_of p)))) problem p.left)

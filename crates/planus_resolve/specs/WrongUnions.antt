@@ -9,8 +9,9 @@ use Rattle.planus_syntax.specs.declared.value.UnionBody.{UnionBody}
 use Rattle.planus_schema.specs.Distinct.{is_in}
 use Rattle.planus_resolve.specs.declared.fault.Problem.TheVariants as problem
 use Rattle.planus_resolve.specs.Names.{HeadV, SpaceV, words_of, dotted, attribute_named, listed}
-use Rattle.planus_resolve.specs.Unions.{tag_said, wanted_of}
-use Rattle.planus_resolve.specs.Wrong.{Broken, broken, when, first, wrong_table}
+use Rattle.planus_resolve.specs.Names.{UsedAs}
+use Rattle.planus_resolve.specs.Unions.{tag_said, wanted_of, expected_as}
+use Rattle.planus_resolve.specs.Wrong.{Broken, broken, when, first, wrong_fit}
 
 abbrev pub target_path : Member → Path
 target_path m = target_or m.target
@@ -27,11 +28,15 @@ abbrev pub wrong_tag : List ℕ → Member → Option ℕ → Option Broken
 wrong_tag tags m None = broken problem.TagOutOfRange m.path.left
 wrong_tag tags m (Some n) = when (list_any (λ t. nat_eq t n) tags) problem.TagTaken m.path.left
 
+-- a name that is not that of a member's type
+abbrev pub wrong_target : List HeadV → UsedAs → SpaceV → Path → Option Broken
+wrong_target hs w space p = wrong_fit problem.NoUnionMember (expected_as w) hs w space p
+
 -- a member after the tag `previous`, and after these tags
 abbrev pub wrong_member : List HeadV → SpaceV → Option ℕ → List ℕ → Member → Option Broken
 wrong_member hs space previous tags m =
     first (wrong_tag tags m (tag_said previous (digits_of m.value)))
-    (wrong_table problem.MemberIsNoTable hs (wanted_of (member_of m)) space (target_path m))
+    (wrong_target hs (wanted_of (member_of m)) space (target_path m))
 
 -- the members after the tag `previous`, after these tags and these names
 abbrev pub wrong_members : List HeadV → SpaceV → Option ℕ → List ℕ → List Name → List Member

@@ -13,8 +13,12 @@ pub enum Expected {
     /// Scalars, and enums and structs that are declared before the struct of this index: it is the
     /// type of a struct's field.
     InStruct { index: usize },
-    /// Tables: it is a root, a member of a union, or the request or the response of a method.
+    /// Tables: it is a root, or the request or the response of a method.
     Table,
+    /// Tables and structs: it is a member of a union without an alias.
+    Record,
+    /// Tables, structs and strings: it is a member of a union, after its alias.
+    Member,
 }
 
 impl Expected {
@@ -30,6 +34,8 @@ impl Expected {
                 _ => false,
             },
             Expected::Table => matches!(base, Base::Table(_)),
+            Expected::Record => matches!(base, Base::Struct(_) | Base::Table(_)),
+            Expected::Member => matches!(base, Base::Text | Base::Struct(_) | Base::Table(_)),
         }
     }
 }

@@ -30,8 +30,8 @@ pub enum Problem {
     ValueOutOfRange,
     /// The number of a member is not from 1 to 255.
     TagOutOfRange,
-    /// A member of a union is no table.
-    MemberIsNoTable,
+    /// A member of a union is no table, no struct, and no string after an alias.
+    NoUnionMember,
     /// A field of a struct is no scalar, enum or struct.
     NoStructField,
     /// A struct or an enum in a struct is declared after it, or is the struct itself.

@@ -1,13 +1,14 @@
 //! The type that a name refers to.
 
-ghost use Rattle.std.specs.Prelude.{◌≡◌, map, IfOk, Some};
+ghost use Rattle.std.specs.Prelude.{◌≡◌, true, map, IfOk, Some};
 ghost use Rattle.std.specs.Option.{option_map};
 ghost use Rattle.planus_syntax.specs.Values.{path_of, kind_of, item_of};
 ghost use Rattle.planus_resolve.specs.inner.Scopes.{scope_heads, scope_space};
 ghost use Rattle.planus_resolve.specs.Names.{used_as};
 ghost use Rattle.planus_resolve.specs.Names.{head_of, plain_base as plain_base_lem};
 ghost use Rattle.planus_resolve.specs.Names.{base_of_head};
-ghost use Rattle.planus_resolve.specs.Wrong.{Tells, wrong_base, wrong_kind, wrong_table};
+ghost use Rattle.planus_resolve.specs.Wrong.{Tells, wrong_base, wrong_fit, wrong_kind, wrong_table};
+ghost use Rattle.planus_resolve.specs.Fitting.{fits};
 ghost use Rattle.planus_resolve.specs.Names.{base_as, type_named, item_at, is_array as is_array_lem};
 
 use crate::expected::Expected;
@@ -121,6 +122,27 @@ pub(crate) fn table_at(
 {
     match base_of(scope, wanted, path, Expected::Table) {
         Ok(Base::Table(index)) => Ok(index),
+        Ok(_) => Err(wrong(problem, path.left)),
+        Err(stop) => Err(stop),
+    }
+}
+
+/// Returns the type that a name refers to, if it may stand there.
+pub(crate) fn base_at(
+    scope: &Scope,
+    wanted: Wanted,
+    path: &Path,
+    expected: Expected,
+    problem: Problem,
+) -> Result<Base, Stop>
+    ensures named { IfOk result (λ b. base_as (scope_heads scope.now) (used_as wanted)
+        (scope_space scope.now) (path_of path.now) ≡ Some b) }
+    ensures fits { IfOk result (λ b. fits expected b ≡ true) }
+    ensures wrong { Tells (wrong_fit problem expected (scope_heads scope.now) (used_as wanted)
+        (scope_space scope.now) path.now) result }
+{
+    match base_of(scope, wanted, path, expected) {
+        Ok(base) if expected.fits(base) => Ok(base),
         Ok(_) => Err(wrong(problem, path.left)),
         Err(stop) => Err(stop),
     }

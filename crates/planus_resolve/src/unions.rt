@@ -12,22 +12,26 @@ ghost use Rattle.planus_resolve.specs.Unions.{target_of as target_of_lem};
 ghost use Rattle.planus_resolve.specs.Unions.{wanted_of as wanted_of_lem};
 ghost use Rattle.planus_resolve.specs.Unions.{SaysMember, tag_in};
 ghost use Rattle.planus_resolve.specs.Unions.{is_tag, tag_said};
-ghost use Rattle.planus_resolve.specs.Wrong.{Tells, wrong_table};
-ghost use Rattle.planus_resolve.specs.WrongUnions.{target_path, wrong_member, wrong_members};
+ghost use Rattle.planus_resolve.specs.Unions.{expected_as as expected_as_lem};
+ghost use Rattle.planus_resolve.specs.Wrong.{Tells};
+ghost use Rattle.planus_resolve.specs.WrongUnions.{target_path, wrong_target, wrong_member};
+ghost use Rattle.planus_resolve.specs.WrongUnions.{wrong_members};
 ghost use Rattle.planus_resolve.specs.WrongUnions.{wrong_union, wrong_flags};
-ghost use Rattle.planus_resolve.specs.Names.{attribute_named, has as has_lem, used_as};
+ghost use Rattle.planus_resolve.specs.Names.{attribute_named, base_as, has as has_lem, used_as};
+ghost use Rattle.planus_resolve.specs.Fitting.{fits};
 ghost use Rattle.planus_syntax.specs.Values.{attribute_of};
 ghost use Rattle.planus_resolve.specs.Unions.{IsUnion, SaysUnion};
 ghost use Rattle.planus_syntax.specs.Values.{union_of as union_of_lem};
 
 use crate::attributes::setting;
+use crate::expected::Expected;
 use crate::fault::{Problem, Stop, or_return, wrong};
 use crate::head::dotted_name;
-use crate::kind::table_at;
+use crate::kind::base_at;
 use crate::lookup::Wanted;
 use crate::names::copied;
 use crate::scope::Scope;
-use planus_schema::{Union, UnionMember, integer};
+use planus_schema::{Base, Union, UnionMember, integer};
 use planus_syntax::{Attribute, Member, Path, UnionBody};
 
 pub(crate) fn target_of(member: &Member) -> &Path
@@ -49,6 +53,35 @@ pub(crate) fn wanted_of(member: &Member) -> Wanted
     }
 }
 
+fn expected_as(wanted: Wanted) -> Expected
+    ensures { result ≡ expected_as_lem (used_as wanted) }
+{
+    match wanted {
+        Wanted::AnyType => Expected::Member,
+        Wanted::Record | Wanted::Root => Expected::Record,
+    }
+}
+
+fn base_of(scope: &Scope, declared: &Member) -> Result<Base, Stop>
+    ensures named { IfOk result (λ b. base_as (scope_heads scope.now)
+        (wanted_of_lem (member_of declared.now)) (scope_space scope.now)
+        (target_of_lem (member_of declared.now)) ≡ Some b) }
+    ensures fits { IfOk result (λ b. fits (expected_as_lem (wanted_of_lem (member_of declared.now))) b
+        ≡ true) }
+    ensures wrong { Tells (wrong_target (scope_heads scope.now)
+        (wanted_of_lem (member_of declared.now)) (scope_space scope.now)
+        (target_path declared.now)) result }
+{
+    let wanted = wanted_of(declared);
+    base_at(
+        scope,
+        wanted,
+        target_of(declared),
+        expected_as(wanted),
+        Problem::NoUnionMember,
+    )
+}
+
 fn tag_of(previous: u8, member: &Member) -> Option<u8>
     ensures within { IfSome result (λ n. is_tag n ≡ true) }
     ensures said { result ≡ tag_said (Some previous) (member_of member.now).value }
@@ -67,12 +100,11 @@ fn tag_of(previous: u8, member: &Member) -> Option<u8>
 fn member(scope: &Scope, declared: &Member, tag: u8) -> Result<UnionMember, Stop>
     ensures read { IfOk result (λ m. SaysMember (scope_heads scope.now) (scope_space scope.now)
         (member_of declared.now) m × m.tag ≡ tag) }
-    ensures wrong { Tells (wrong_table Problem.MemberIsNoTable (scope_heads scope.now)
+    ensures wrong { Tells (wrong_target (scope_heads scope.now)
         (wanted_of_lem (member_of declared.now)) (scope_space scope.now)
         (target_path declared.now)) result }
 {
-    let path = target_of(declared);
-    let table = or_return!(table_at(scope, wanted_of(declared), path, Problem::MemberIsNoTable));
+    let base = or_return!(base_of(scope, declared));
     let name = or_return!(
         dotted_name(
             scope.alloc,
@@ -87,7 +119,7 @@ fn member(scope: &Scope, declared: &Member, tag: u8) -> Result<UnionMember, Stop
     Ok(UnionMember {
         name,
         docs,
-        table,
+        base,
         tag,
     })
 }

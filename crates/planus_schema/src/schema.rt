@@ -94,12 +94,12 @@ pub struct Enum {
     pub values: Vec<EnumValue>,
 }
 
-/// A member of a union; tags begin at 1.
+/// A member of a union; tags begin at 1. `base`: a table, a struct or `string`.
 #[derive(Drop)]
 pub struct UnionMember {
     pub name: Vec<u8>,
     pub docs: Vec<Vec<u8>>,
-    pub table: usize,
+    pub base: Base,
     pub tag: u8,
 }
 

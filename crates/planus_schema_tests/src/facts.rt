@@ -169,7 +169,7 @@ fn member_says(schema: &Schema, member: &UnionMember, name: &[u8], fact: &Fact<'
     member.name.as_slice() == name
         && match fact.word {
             "is" => is_size(member.tag as usize, fact.said),
-            "of" => is_named(schema, member.table, fact.said.as_bytes()),
+            "of" => is_base(schema, member.base, fact.said.as_bytes()),
             _ => false,
         }
 }

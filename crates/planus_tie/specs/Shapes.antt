@@ -21,6 +21,8 @@ use Rattle.planus_tie.specs.Ranks.{rank_in}
 use Rattle.planus_tie.specs.Reading.{after, begins, body_of}
 use Rattle.planus_tie.specs.Wanted.{is_bytes, read_slot}
 use Rattle.planus_tie.specs.declared.shapes.Range.{Range}
+use Rattle.planus_tie.specs.declared.shapes.MemberType.{MemberType}
+use Rattle.planus_tie.specs.declared.shapes.MemberType.TheVariants as member
 use Rattle.planus_tie.specs.declared.shapes.Tagged.{Tagged}
 
 -- the lists
@@ -63,18 +65,34 @@ ranges_from first [] = []
 ranges_from first (d ∷ ds) =
     ranges_in first d.body ++ ranges_from (first + fields_in d.body) ds
 
--- of a union's member the union's index, its tag, and its table's index
-abbrev pub tagged : List ℕ → ℕ → UnionMember → Tagged
-tagged ranks i m =
-    record { union = rank_in ranks i; tag = m.tag; table = rank_in ranks m.table }
+abbrev pub size_or_0 : Option Measure → ℕ
+size_or_0 None = 0
+size_or_0 (Some m) = m.size
 
-abbrev pub tagged_in : List ℕ → ℕ → Body → List Tagged
-tagged_in ranks i (body.Union one) = map (tagged ranks i) one.members.items
-tagged_in ranks i b = []
+-- in bytes
+abbrev pub size_of : List Declared → Base → ℕ
+size_of ds b = size_or_0 (measure_in (map body_in ds) b)
 
-abbrev pub tagged_from : List ℕ → ℕ → List Declared → List Tagged
-tagged_from ranks i [] = []
-tagged_from ranks i (d ∷ ds) = tagged_in ranks i d.body ++ tagged_from ranks (i + 1) ds
+-- a table by its index, a struct by its size, or a string
+abbrev pub member_type : List Declared → List ℕ → Base → MemberType
+member_type ds ranks (base.Table i) = member.Table (rank_in ranks i)
+member_type ds ranks (base.Struct i) = member.Struct (size_of ds (base.Struct i))
+member_type ds ranks b = member.Text
+
+-- of a union's member the union's index, its tag, and its type
+abbrev pub tagged : List Declared → List ℕ → ℕ → UnionMember → Tagged
+tagged ds ranks i m =
+    record { union = rank_in ranks i; tag = m.tag; kind = member_type ds ranks m.base }
+
+abbrev pub tagged_in : List Declared → List ℕ → ℕ → Body → List Tagged
+tagged_in all ranks i (body.Union one) = map (tagged all ranks i) one.members.items
+tagged_in all ranks i b = []
+
+-- of the unions of all declarations, from the i-th on
+abbrev pub tagged_from : List Declared → List ℕ → ℕ → List Declared → List Tagged
+tagged_from all ranks i [] = []
+tagged_from all ranks i (d ∷ ds) =
+    tagged_in all ranks i d.body ++ tagged_from all ranks (i + 1) ds
 
 -- their texts
 
@@ -86,14 +104,6 @@ plural name vector = name ++ (if vector then codes "s" else [])
 
 abbrev pub value_kind : List ℕ → List ℕ
 value_kind kind = codes "Value(ValueKind::" ++ (kind ++ codes ")")
-
-abbrev pub size_or_0 : Option Measure → ℕ
-size_or_0 None = 0
-size_or_0 (Some m) = m.size
-
--- in bytes
-abbrev pub size_of : List Declared → Base → ℕ
-size_of ds b = size_or_0 (measure_in (map body_in ds) b)
 
 -- a table's or a union's index, or the size of a value in bytes
 abbrev pub base_kind : List Declared → List ℕ → Base → Bool → List ℕ
@@ -137,9 +147,15 @@ abbrev pub range_text : List ℕ → Range → List ℕ
 range_text comma r = range_start r.first ++ (codes ",count:"
     ++ (decimal r.count ++ (codes "}" ++ comma)))
 
+abbrev pub member_text : MemberType → List ℕ
+member_text (member.Table i) = numbered (codes "Table") i
+member_text (member.Struct size) = numbered (codes "Struct") size
+member_text member.Text = codes "Text"
+
 abbrev pub tagged_text : List ℕ → Tagged → List ℕ
 tagged_text comma t = codes "Variant{union:" ++ (decimal t.union ++ (codes ",tag:"
-    ++ (decimal t.tag ++ (codes ",table:" ++ (decimal t.table ++ (codes "}" ++ comma))))))
+    ++ (decimal t.tag ++ (codes ",kind:VariantKind::" ++ (member_text t.kind
+    ++ (codes "}" ++ comma))))))
 
 -- the only entry of a list has no comma after it
 abbrev pub comma_of : ℕ → List ℕ
@@ -171,7 +187,7 @@ has_ranges ds text = begins (after (codes "pub const TABLES:[TableShape;") text)
 
 abbrev pub has_tagged : List Declared → List ℕ → List ℕ → Bool
 has_tagged ds ranks text = begins (after (codes "pub const VARIANTS:[Variant;") text)
-    (tagged_list (tagged_from ranks 0 ds))
+    (tagged_list (tagged_from ds ranks 0 ds))
 
 -- the schema has these lists
 abbrev pub has_schema : List ℕ → Bool

@@ -7,8 +7,9 @@ ghost use Rattle.planus_tie.specs.Wanted.{is_bytes as is_bytes_lem, is_absent as
 ghost use Rattle.planus_tie.specs.Wanted.{kind_word as kind_word_lem, ending as ending_lem};
 ghost use Rattle.planus_tie.specs.Wanted.{is_number as is_number_lem, read_slot as read_slot_lem};
 ghost use Rattle.planus_tie.specs.Wanted.{is_reference as is_reference_lem, is_ubyte};
+ghost use Rattle.planus_tie.specs.Shapes.{size_of as size_of_lem};
 
-use planus_schema::{Base, FieldType, Scalar, TableField, Value};
+use planus_schema::{Base, Declared, FieldType, Scalar, TableField, Value, measure_of};
 
 /// Returns the name of a scalar type in code.
 pub fn scalar_name(scalar: Scalar) -> &'static str
@@ -119,5 +120,15 @@ pub fn ending(field: &TableField) -> &'static str
         "_required"
     } else {
         "_field"
+    }
+}
+
+/// Returns the size of a value in bytes.
+pub(crate) fn size_of(declared: &[Declared], base: Base) -> usize
+    ensures { result ≡ size_of_lem declared.now base }
+{
+    match measure_of(declared, base) {
+        Some(measure) => measure.size,
+        None => 0,
     }
 }

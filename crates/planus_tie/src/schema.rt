@@ -4,8 +4,9 @@ ghost use Rattle.std.specs.Prelude.{◌≡◌, ◌++◌, IfOk, OnOk, IsTrue, cod
 ghost use Rattle.std.specs.List.{flat_map};
 ghost use Rattle.planus_schema.specs.Plans.{line_of};
 ghost use Rattle.planus_tie.specs.Shapes.{numbered, plural, value_kind, base_kind, bytes_kind};
-ghost use Rattle.planus_tie.specs.Shapes.{size_of as size_of_lem, field_kind, field_start};
+ghost use Rattle.planus_tie.specs.Shapes.{field_kind, field_start};
 ghost use Rattle.planus_tie.specs.Shapes.{field_text, field_texts, range_text, tagged_text};
+ghost use Rattle.planus_tie.specs.Shapes.{member_text};
 ghost use Rattle.planus_tie.specs.Shapes.{required_text, range_start, slot_text};
 ghost use Rattle.planus_tie.specs.Shapes.{comma_of as comma_of_lem};
 ghost use Rattle.planus_tie.specs.Shapes.{fields_list as fields_list_lem};
@@ -18,14 +19,14 @@ ghost use Rattle.planus_tie.specs.Shapes.{has_schema as has_schema_lem};
 ghost use Rattle.planus_tie.specs.SchemaTies.{is_schema_text as is_schema_text_lem, IsSchemaTied};
 
 use crate::bare::bare;
-use crate::kinds::{is_bytes, read_slot};
+use crate::kinds::{is_bytes, read_slot, size_of};
 use crate::name_lists::is_names_text;
 use crate::naming::Naming;
 use crate::pieces::{push_number, push_str};
 use crate::ranks::rank_in;
 use crate::reading::{after, begins, body_of};
-use crate::shapes::{Range, Tagged, lines_of, ranges_of, tagged_of};
-use planus_schema::{Base, Declared, Line, TableField, measure_of};
+use crate::shapes::{MemberType, Range, Tagged, lines_of, ranges_of, tagged_of};
+use planus_schema::{Base, Declared, Line, TableField};
 use std::alloc::{AllocError, Global};
 
 fn push_plural(out: &mut Vec<u8>, name: &str, vector: bool) -> Result<(), AllocError>
@@ -71,15 +72,6 @@ fn push_value_kind(
     push_str(out, "Value(ValueKind::")?;
     push_numbered(out, name, vector, number)?;
     push_str(out, ")")
-}
-
-fn size_of(declared: &[Declared], base: Base) -> usize
-    ensures { result ≡ size_of_lem declared.now base }
-{
-    match measure_of(declared, base) {
-        Some(measure) => measure.size,
-        None => 0,
-    }
 }
 
 fn push_base_kind(
@@ -216,6 +208,25 @@ fn push_ranges(out: &mut Vec<u8>, comma: &str, ranges: &[Range]) -> Result<(), A
     Ok(())
 }
 
+fn push_type(out: &mut Vec<u8>, name: &str, number: usize) -> Result<(), AllocError>
+    ensures { OnOk result (out.new.items ≡ out.old.items ++ numbered name.now number) }
+{
+    push_str(out, name)?;
+    push_str(out, "(")?;
+    push_number(out, number as u64)?;
+    push_str(out, ")")
+}
+
+fn push_member_type(out: &mut Vec<u8>, kind: MemberType) -> Result<(), AllocError>
+    ensures { OnOk result (out.new.items ≡ out.old.items ++ member_text kind) }
+{
+    match kind {
+        MemberType::Table(index) => push_type(out, "Table", index),
+        MemberType::Struct(size) => push_type(out, "Struct", size),
+        MemberType::Text => push_str(out, "Text"),
+    }
+}
+
 fn push_member(out: &mut Vec<u8>, comma: &str, member: &Tagged) -> Result<(), AllocError>
     ensures { OnOk result (out.new.items ≡ out.old.items ++ tagged_text comma.now member.now) }
 {
@@ -223,8 +234,8 @@ fn push_member(out: &mut Vec<u8>, comma: &str, member: &Tagged) -> Result<(), Al
     push_number(out, member.union as u64)?;
     push_str(out, ",tag:")?;
     push_number(out, member.tag as u64)?;
-    push_str(out, ",table:")?;
-    push_number(out, member.table as u64)?;
+    push_str(out, ",kind:VariantKind::")?;
+    push_member_type(out, member.kind)?;
     push_end(out, comma)
 }
 

@@ -6,10 +6,12 @@ ghost use Rattle.planus_tie.specs.Ranks.{rank_in as rank_in_lem};
 ghost use Rattle.planus_tie.specs.Shapes.{AreBySlot, AreLines, PushesLines};
 ghost use Rattle.planus_tie.specs.Shapes.{live_count as live_count_lem, ranges_in, ranges_from};
 ghost use Rattle.planus_tie.specs.Shapes.{fields_in as fields_in_lem, tagged as tagged_lem};
+ghost use Rattle.planus_tie.specs.Shapes.{member_type as member_type_lem};
 ghost use Rattle.planus_tie.specs.Shapes.{tagged_in, tagged_from};
 
+use crate::kinds::size_of;
 use crate::ranks::rank_in;
-use planus_schema::{Body, Declared, Line, Plan, Table, UnionMember};
+use planus_schema::{Base, Body, Declared, Line, Plan, Table, UnionMember};
 use std::alloc::{AllocError, Global};
 
 /// The fields of a table in the list of all.
@@ -19,12 +21,22 @@ pub(crate) struct Range {
     pub(crate) count: usize,
 }
 
-/// A union's member: the union's index, its tag, and its table's index.
+/// The type of a union's member.
+#[derive(Clone, Copy)]
+pub(crate) enum MemberType {
+    /// The table of this index.
+    Table(usize),
+    /// A struct of this size in bytes.
+    Struct(usize),
+    Text,
+}
+
+/// A union's member: the union's index, its tag, and its type.
 #[derive(Clone, Copy)]
 pub(crate) struct Tagged {
     pub(crate) union: usize,
     pub(crate) tag: u8,
-    pub(crate) table: usize,
+    pub(crate) kind: MemberType,
 }
 
 fn put_by_slot(lines: &mut Vec<Line<'_>>) -> Result<(), AllocError>
@@ -124,42 +136,59 @@ pub(crate) fn ranges_of(alloc: Global, declared: &[Declared]) -> Result<Vec<Rang
     Ok(ranges)
 }
 
-fn tagged_member(ranks: &[usize], index: usize, member: &UnionMember) -> Tagged
-    ensures { result ≡ tagged_lem ranks.now index member.now }
+fn member_type(declared: &[Declared], ranks: &[usize], base: Base) -> MemberType
+    ensures { result ≡ member_type_lem declared.now ranks.now base }
+{
+    match base {
+        Base::Table(index) => MemberType::Table(rank_in(ranks, index)),
+        Base::Struct(_) => MemberType::Struct(size_of(declared, base)),
+        _ => MemberType::Text,
+    }
+}
+
+fn tagged_member(
+    declared: &[Declared],
+    ranks: &[usize],
+    index: usize,
+    member: &UnionMember,
+) -> Tagged
+    ensures { result ≡ tagged_lem declared.now ranks.now index member.now }
 {
     Tagged {
         union: rank_in(ranks, index),
         tag: member.tag,
-        table: rank_in(ranks, member.table),
+        kind: member_type(declared, ranks, member.base),
     }
 }
 
 fn push_members(
     out: &mut Vec<Tagged>,
+    declared: &[Declared],
     ranks: &[usize],
     index: usize,
     members: &[UnionMember],
 ) -> Result<(), AllocError>
     ensures { OnOk result (out.new.items
-        ≡ out.old.items ++ map (tagged_lem ranks.now index) members.now) }
+        ≡ out.old.items ++ map (tagged_lem declared.now ranks.now index) members.now) }
 {
     'members: for member in members {
-        out.push(tagged_member(ranks, index, member))?;
+        out.push(tagged_member(declared, ranks, index, member))?;
     }
     Ok(())
 }
 
 fn push_tagged(
     out: &mut Vec<Tagged>,
+    declared: &[Declared],
     ranks: &[usize],
     index: usize,
     body: &Body,
 ) -> Result<(), AllocError>
     ensures { OnOk result (out.new.items
-        ≡ out.old.items ++ tagged_in ranks.now index body.now) }
+        ≡ out.old.items ++ tagged_in declared.now ranks.now index body.now) }
 {
     match body {
-        Body::Union(one) => push_members(out, ranks, index, &one.members),
+        Body::Union(one) => push_members(out, declared, ranks, index, &one.members),
         _ => Ok(()),
     }
 }
@@ -170,12 +199,12 @@ pub(crate) fn tagged_of(
     ranks: &[usize],
     declared: &[Declared],
 ) -> Result<Vec<Tagged>, AllocError>
-    ensures { IfOk result (λ all. all.items ≡ tagged_from ranks.now 0 declared.now) }
+    ensures { IfOk result (λ all. all.items ≡ tagged_from declared.now ranks.now 0 declared.now) }
 {
     let mut all = Vec::new(alloc);
     let mut index = 0;
     'declared: for one in declared {
-        push_tagged(&mut all, ranks, index, &one.body)?;
+        push_tagged(&mut all, declared, ranks, index, &one.body)?;
         index += 1;
     }
     Ok(all)

@@ -26,6 +26,7 @@ use Rattle.planus_verify.specs.declared.schema.FieldKind.TheVariants as kind
 use Rattle.planus_verify.specs.declared.schema.FieldShape.{FieldShape}
 use Rattle.planus_verify.specs.declared.schema.ValueKind.{ValueKind}
 use Rattle.planus_verify.specs.declared.schema.Variant.{Variant}
+use Rattle.planus_verify.specs.declared.schema.VariantKind.{VariantKind}
 use Rattle.planus_verify.proofs.Fields.{place_of}
 use Rattle.planus_verify.proofs.Loops.{item_faults}
 use Rattle.planus_verify.proofs.Outcomes.{broken}
@@ -160,7 +161,7 @@ module _ (P : List Step → Type 0) where
 
   -- an item
   pub item_read :
-      (place at : FieldPlace) (i : ℕ) (B S : List ℕ) (begin start f k : ℕ) (table : Option ℕ)
+      (place at : FieldPlace) (i : ℕ) (B S : List ℕ) (begin start f k : ℕ) (table : Option VariantKind)
       → at ≡ record { table = place.table; start = place.start; slot = place.slot; item = Some i }
       → B ≡ S → begin ≡ start → f ≡ k → P (variant_steps (fault.Field at) table B begin f)
       → P (variant_steps (place_faults place (Some i)) table S start k)

@@ -27,6 +27,8 @@ use Rattle.planus_verify.specs.declared.fault.Fault.TheVariants as fault
 use Rattle.planus_verify.specs.declared.fault.FieldPlace.{FieldPlace}
 use Rattle.planus_verify.specs.declared.schema.ValueKind.TheVariants as value
 use Rattle.planus_verify.specs.declared.schema.Variant.{Variant}
+use Rattle.planus_verify.specs.declared.schema.VariantKind.{VariantKind}
+use Rattle.planus_verify.specs.declared.schema.VariantKind.TheVariants as variant
 use Rattle.planus_verify.specs.declared.search_end.SearchEnd.{SearchEnd}
 use Rattle.planus_verify.proofs.FieldReadings.{union_missing, union_damaged, unions_missing}
 use Rattle.planus_verify.proofs.FieldReadings.{unions_damaged, vector_read, union_read, unions_read}
@@ -154,10 +156,12 @@ vector_absent {T} {E} table i found is answer =
     subst (λ o. UnionVectorAnswer (reads_unions {T = T} {E = E}) table i (Ok o)) is answer
 
 variant_first :
-    (here : ErrorKind → Fault) (table : Option ℕ) (S : List ℕ) (start f t : ℕ) (o v : List ℕ) (b : ℕ)
-    → EntersFirst (variant_steps here table S start f) t o v b → ⊥
+    (here : ErrorKind → Fault) (one : Option VariantKind) (S : List ℕ) (start f t : ℕ)
+    (o v : List ℕ) (b : ℕ) → EntersFirst (variant_steps here one S start f) t o v b → ⊥
 variant_first here None S start f t o v b h = h
-variant_first here (Some index) S start f t o v b h = h
+variant_first here (Some (variant.Table index)) S start f t o v b h = h
+variant_first here (Some variant.Text) S start f t o v b h = h
+variant_first here (Some (variant.Struct size)) S start f t o v b h = h
 
 module _ (schema : Shapes) (Ends : OfPlace) (n left : ℕ) (at : FieldPlace) where
   abbrev Searched : Result ℕ SearchEnd → List Step → Type 0
@@ -179,14 +183,14 @@ module _ (schema : Shapes) (Ends : OfPlace) (n left : ℕ) (at : FieldPlace) whe
         count = items.count;
       }) (vector_reading S f 4)) (Ok view)
       → SearchesSteps schema Ends n (items_from 0 view.count
-      (item_steps (λ i. place_faults at (Some i)) (λ i. Some t) view.bytes view.start)) left r
+      (item_steps (λ i. place_faults at (Some i)) (λ i. Some (variant.Table t)) view.bytes view.start)) left r
       → Searched r (value_steps (place_faults at) (value.Tables t) S start f)
   vector_searched t S start f view r there h =
       vector_read (Searched r) (place_faults at)
       (λ i. reference_steps (place_faults at (Some i)) t) S start f view there
       (λ holds. test_holds schema Ends n (place_faults at None) (vector_clauses S f 4) _ left r
       holds
-      (no_first_item (λ i. place_faults at (Some i)) (λ i. Some t) view.bytes view.start 0 view.count)
+      (no_first_item (λ i. place_faults at (Some i)) (λ i. Some (variant.Table t)) view.bytes view.start 0 view.count)
       h)
 
   -- a buffer in a byte vector

@@ -11,6 +11,7 @@ use Rattle.planus_verify.specs.Steps.{text_steps, reference_steps, variant_steps
 use Rattle.planus_verify.specs.Walks.{DoesTable, NoTable, InOrder, Tested, IsTested, tested_as}
 use Rattle.planus_verify.specs.declared.fault.Fault.{Fault}
 use Rattle.planus_verify.specs.declared.fault.Fault.TheVariants as fault
+use Rattle.planus_verify.specs.declared.schema.VariantKind.{VariantKind}
 use Rattle.planus_verify.specs.declared.fault.FieldPlace.{FieldPlace}
 use Rattle.planus_verify.specs.lemmas.InOrder.{then_more, stops_there, last_step}
 
@@ -139,7 +140,10 @@ module _ (W : DoesTable) (place at : FieldPlace) (i : ℕ) (B S : List ℕ) (beg
       (subst (λ n. InOrder W (reference_steps (fault.Field at) t B begin n) left r) offset h)))
 
   pub variant_item :
-      (table : Option ℕ) → InOrder W (variant_steps (fault.Field at) table B begin f) left r
-      → InOrder W (variant_steps (place_faults place (Some i)) table S start k) left r
-  variant_item None h = h
-  variant_item (Some t) h = reference_item t h
+      (one : Option VariantKind) → InOrder W (variant_steps (fault.Field at) one B begin f) left r
+      → InOrder W (variant_steps (place_faults place (Some i)) one S start k) left r
+  variant_item one h =
+      subst (λ here. InOrder W (variant_steps here one S start k) left r) (item_faults place at i e)
+      (subst (λ l. InOrder W (variant_steps (fault.Field at) one l start k) left r) bytes
+      (subst (λ n. InOrder W (variant_steps (fault.Field at) one B n k) left r) begins
+      (subst (λ n. InOrder W (variant_steps (fault.Field at) one B begin n) left r) offset h)))

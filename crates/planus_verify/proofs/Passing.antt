@@ -24,6 +24,8 @@ use Rattle.planus_verify.specs.declared.schema.FieldKind.TheVariants as kind
 use Rattle.planus_verify.specs.declared.schema.ValueKind.{ValueKind}
 use Rattle.planus_verify.specs.declared.schema.ValueKind.TheVariants as value
 use Rattle.planus_verify.specs.declared.schema.Variant.{Variant}
+use Rattle.planus_verify.specs.declared.schema.VariantKind.{VariantKind}
+use Rattle.planus_verify.specs.declared.schema.VariantKind.TheVariants as variant
 use Rattle.planus_verify.proofs.Fields.{value_field, union_field, unions_field, place_of}
 use Rattle.planus_verify.proofs.Tables.{reference_is, nested_by}
 
@@ -142,10 +144,10 @@ of_kind P given schema i t same index h =
 
 -- a union whose tag has a variant
 pub variant_passed :
-    (here : ErrorKind → Fault) (given schema : Shapes) (n t : ℕ) (variant : Option ℕ) (S : List ℕ)
-    (start f left : ℕ) (r : Option ℕ) → given ≡ schema → variant ≡ Some t
+    (here : ErrorKind → Fault) (given schema : Shapes) (n t : ℕ) (one : Option VariantKind)
+    (S : List ℕ) (start f left : ℕ) (r : Option ℕ) → given ≡ schema → one ≡ Some (variant.Table t)
     → StepsPass (Walks given n) (reference_steps here t S start f) left r
-    → StepsPass (Walks schema n) (variant_steps here variant S start f) left r
-variant_passed here given schema n t variant S start f left r same is h =
+    → StepsPass (Walks schema n) (variant_steps here one S start f) left r
+variant_passed here given schema n t one S start f left r same is h =
     subst (λ v. StepsPass (Walks schema n) (variant_steps here v S start f) left r) (sym is)
     (subst (λ s. StepsPass (Walks s n) (reference_steps here t S start f) left r) same h)

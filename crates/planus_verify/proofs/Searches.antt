@@ -18,6 +18,8 @@ use Rattle.planus_verify.specs.declared.fault.Fault.{Fault}
 use Rattle.planus_verify.specs.declared.fault.Fault.TheVariants as fault
 use Rattle.planus_verify.specs.declared.fault.FieldPlace.{FieldPlace}
 use Rattle.planus_verify.specs.declared.schema.FieldShape.{FieldShape}
+use Rattle.planus_verify.specs.declared.schema.VariantKind.{VariantKind}
+use Rattle.planus_verify.specs.declared.schema.VariantKind.TheVariants as variant
 use Rattle.planus_verify.specs.declared.search_end.SearchEnd.{SearchEnd}
 use Rattle.planus_verify.specs.declared.search_end.SearchEnd.TheVariants.{Found, TooMany, NoMemory}
 use Rattle.planus_verify.proofs.Tables.{IsTableAt}
@@ -295,46 +297,59 @@ tables_append count (step ∷ steps) more =
 module _ (at here : ErrorKind → Fault) (S : List ℕ) (start f : ℕ) (more : List Step) (i : ℕ)
     (o v : List ℕ) (b : ℕ) where
   enters_either :
-      (table : Option ℕ) → EntersAfter at (variant_steps here table S start f ++ more) i o v b
-      → EntersAfter at (variant_steps here table S start f) i o v b ⊎ EntersAfter at more i o v b
-  enters_either None h = inr h
-  enters_either (Some t) (inl h) = inl (inl h)
-  enters_either (Some t) (inr h) = inr h
+      (one : Option VariantKind) → (EntersFirst more i o v b → ⊥)
+      → EntersAfter at (variant_steps here one S start f ++ more) i o v b
+      → EntersAfter at (variant_steps here one S start f) i o v b ⊎ EntersAfter at more i o v b
+  enters_either None none h = inr h
+  enters_either (Some (variant.Table t)) none (inl h) = inl (inl h)
+  enters_either (Some (variant.Table t)) none (inr h) = inr h
+  enters_either (Some variant.Text) none (inl h) = absurd (none h.2)
+  enters_either (Some variant.Text) none (inr h) = inr h
+  enters_either (Some (variant.Struct size)) none (inl h) = absurd (none h.2)
+  enters_either (Some (variant.Struct size)) none (inr h) = inr h
 
   enters_here :
-      (table : Option ℕ) → EntersAfter at (variant_steps here table S start f) i o v b
-      → EntersAfter at (variant_steps here table S start f ++ more) i o v b
+      (one : Option VariantKind) → EntersAfter at (variant_steps here one S start f) i o v b
+      → EntersAfter at (variant_steps here one S start f ++ more) i o v b
   enters_here None h = absurd h
-  enters_here (Some t) (inl h) = inl h
-  enters_here (Some t) (inr h) = absurd h
+  enters_here (Some (variant.Table t)) (inl h) = inl h
+  enters_here (Some (variant.Table t)) (inr h) = absurd h
+  enters_here (Some variant.Text) (inl h) = absurd h.2
+  enters_here (Some variant.Text) (inr h) = absurd h
+  enters_here (Some (variant.Struct size)) (inl h) = absurd h.2
+  enters_here (Some (variant.Struct size)) (inr h) = absurd h
 
   enters_later :
-      (table : Option ℕ) → EntersAfter at more i o v b
-      → EntersAfter at (variant_steps here table S start f ++ more) i o v b
+      (one : Option VariantKind) → EntersAfter at more i o v b
+      → EntersAfter at (variant_steps here one S start f ++ more) i o v b
   enters_later None h = h
-  enters_later (Some t) h = inr h
+  enters_later (Some (variant.Table t)) h = inr h
+  enters_later (Some variant.Text) h = inr h
+  enters_later (Some (variant.Struct size)) h = inr h
 
   first_later :
-      (table : Option ℕ) → (EntersFirst more i o v b → ⊥)
-      → EntersFirst (variant_steps here table S start f ++ more) i o v b → ⊥
+      (one : Option VariantKind) → (EntersFirst more i o v b → ⊥)
+      → EntersFirst (variant_steps here one S start f ++ more) i o v b → ⊥
   first_later None none h = none h
-  first_later (Some t) none h = h
+  first_later (Some (variant.Table t)) none h = h
+  first_later (Some variant.Text) none h = h
+  first_later (Some (variant.Struct size)) none h = h
 
-module _ (here : ℕ → ErrorKind → Fault) (table : ℕ → Option ℕ) (S : List ℕ) (start : ℕ) where
+module _ (here : ℕ → ErrorKind → Fault) (kind_of : ℕ → Option VariantKind) (S : List ℕ) (start : ℕ) where
   abbrev pub item_steps : ℕ → List Step
-  item_steps i = variant_steps (here i) (table i) S start (i * 4)
+  item_steps i = variant_steps (here i) (kind_of i) S start (i * 4)
 
   pub no_first_item :
       (i m t : ℕ) (o v : List ℕ) (b : ℕ) → EntersFirst (items_from i m item_steps) t o v b → ⊥
   no_first_item i zero t o v b h = h
   no_first_item i (suc m) t o v b h =
       first_later (here i) (here i) S start (i * 4) (items_from (i + 1) m item_steps) t o v b
-      (table i) (no_first_item (i + 1) m t o v b) h
+      (kind_of i) (no_first_item (i + 1) m t o v b) h
 
 module _ (schema : Shapes) (Ends : OfPlace) (n : ℕ) (count : ℕ)
-    (here : ℕ → ErrorKind → Fault) (table : ℕ → Option ℕ) (S : List ℕ) (start : ℕ) where
+    (here : ℕ → ErrorKind → Fault) (kind_of : ℕ → Option VariantKind) (S : List ℕ) (start : ℕ) where
   abbrev steps_at : ℕ → List Step
-  steps_at = item_steps here table S start
+  steps_at = item_steps here kind_of S start
 
   -- Whatever the items from the one at i on answer, all items do.
   abbrev pub ItemsSoFar : ℕ → ℕ → ℕ → Type 0
@@ -371,9 +386,10 @@ module _ (schema : Shapes) (Ends : OfPlace) (n : ℕ) (count : ℕ)
       (Through schema Ends n (Entered (steps_at i ++ more))) _ _ _ left next r
       (through_either schema Ends n (Entered (steps_at i)) (Entered more)
       (Entered (steps_at i ++ more))
-      (λ p t o v b. enters_either (fault.Field p) (here i) S start (i * 4) more t o v b (table i)))
+      (λ p t o v b. enters_either (fault.Field p) (here i) S start (i * 4) more t o v b (kind_of i)
+      (no_first_item here kind_of S start (i + 1) (count - (i + 1)) t o v b)))
       (through_as schema Ends n (Entered more) (Entered (steps_at i ++ more))
-      (λ p t o v b. enters_later (fault.Field p) (here i) S start (i * 4) more t o v b (table i)))
+      (λ p t o v b. enters_later (fault.Field p) (here i) S start (i * 4) more t o v b (kind_of i)))
       (omega (arith, e)) passed h))
 
   pub item_stops :
@@ -387,7 +403,7 @@ module _ (schema : Shapes) (Ends : OfPlace) (n : ℕ) (count : ℕ)
       (stops (Through schema Ends n (Entered (steps_at i)))
       (Through schema Ends n (Entered (steps_at i ++ more))) _ _ left end
       (through_as schema Ends n (Entered (steps_at i)) (Entered (steps_at i ++ more))
-      (λ p t o v b. enters_here (fault.Field p) (here i) S start (i * 4) more t o v b (table i)))
+      (λ p t o v b. enters_here (fault.Field p) (here i) S start (i * 4) more t o v b (kind_of i)))
       (omega (arith, e)) stopped))
 
   pub items_end :

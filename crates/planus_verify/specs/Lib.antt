@@ -4,6 +4,7 @@ pub mod Walks
 pub mod Verified
 pub mod Laws
 pub mod Whole
+pub mod Rooms
 pub mod Passes
 pub mod Trails
 pub mod Soughts

@@ -5,6 +5,7 @@ use Rattle.planus_verify.specs.declared.schema.Schema.{Schema}
 use Rattle.planus_verify.specs.declared.schema.TableShape.{TableShape}
 use Rattle.planus_verify.specs.declared.schema.FieldShape.{FieldShape}
 use Rattle.planus_verify.specs.declared.schema.Variant.{Variant}
+use Rattle.planus_verify.specs.declared.schema.VariantKind.{VariantKind}
 
 pub record Shapes : Type 0 where
   pub fields : List FieldShape
@@ -28,8 +29,8 @@ fields_in fields (Some shape) = take shape.count (drop shape.first fields)
 abbrev pub fields_of : Shapes → ℕ → List FieldShape
 fields_of schema t = fields_in schema.fields (slice_get schema.tables t)
 
--- the table of a union's tag, where the schema has the tag
-abbrev pub variant_in : List Variant → ℕ → ℕ → Option ℕ
+-- what a union's reference leads to by its tag, where the schema has the tag
+abbrev pub variant_in : List Variant → ℕ → ℕ → Option VariantKind
 variant_in [] u tag = None
 variant_in (one ∷ rest) u tag =
-    if (one.union == u) && (one.tag == tag) then Some one.table else variant_in rest u tag
+    if (one.union == u) && (one.tag == tag) then Some one.kind else variant_in rest u tag

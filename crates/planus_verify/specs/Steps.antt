@@ -12,6 +12,7 @@ use Rattle.planus_read.specs.declared.errors.ErrorKind.{ErrorKind}
 use Rattle.planus_read.specs.declared.errors.ErrorKind.TheVariants.{InvalidOffset}
 use Rattle.planus_read.specs.declared.errors.ErrorKind.TheVariants.{InvalidVtableLength}
 use Rattle.planus_read.specs.declared.errors.ErrorKind.TheVariants.{MissingRequired}
+use Rattle.planus_view.specs.PlainRefs.{plain_ref_clauses}
 use Rattle.planus_verify.specs.Schemas.{Shapes, fields_of, variant_in}
 use Rattle.planus_verify.specs.declared.schema.FieldShape.{FieldShape}
 use Rattle.planus_verify.specs.declared.schema.Variant.{Variant}
@@ -19,6 +20,8 @@ use Rattle.planus_verify.specs.declared.schema.FieldKind.{FieldKind}
 use Rattle.planus_verify.specs.declared.schema.FieldKind.TheVariants as kind
 use Rattle.planus_verify.specs.declared.schema.ValueKind.{ValueKind}
 use Rattle.planus_verify.specs.declared.schema.ValueKind.TheVariants as value
+use Rattle.planus_verify.specs.declared.schema.VariantKind.{VariantKind}
+use Rattle.planus_verify.specs.declared.schema.VariantKind.TheVariants as variant
 use Rattle.planus_verify.specs.declared.fault.Fault.{Fault}
 use Rattle.planus_verify.specs.declared.fault.FieldPlace.{FieldPlace}
 use Rattle.planus_verify.specs.declared.fault.Fault.TheVariants as fault
@@ -88,10 +91,18 @@ abbrev pub present_steps : Faults → Bool → (ℕ → List Step) → ℕ → L
 present_steps at required steps zero = absent_steps at required
 present_steps at required steps (suc f) = steps (suc f)
 
--- the reference at f to the table of a tag's variant; other tags may be of a later schema
-abbrev pub variant_steps : (ErrorKind → Fault) → Option ℕ → List ℕ → ℕ → ℕ → List Step
+-- the struct of this size to which the reference at f leads
+abbrev pub struct_steps : (ErrorKind → Fault) → ℕ → List ℕ → ℕ → List Step
+struct_steps here size S f = Tests here (plain_ref_clauses size S f) ∷ []
+
+-- the reference at f of a union, by the kind of its tag's variant; other tags may be of a later
+-- schema
+abbrev pub variant_steps :
+    (ErrorKind → Fault) → Option VariantKind → List ℕ → ℕ → ℕ → List Step
 variant_steps here None S start f = []
-variant_steps here (Some t) S start f = reference_steps here t S start f
+variant_steps here (Some (variant.Table t)) S start f = reference_steps here t S start f
+variant_steps here (Some variant.Text) S start f = text_steps here S f
+variant_steps here (Some (variant.Struct size)) S start f = struct_steps here size S f
 
 -- the number at f, of one byte
 abbrev pub tag_at : List ℕ → ℕ → ℕ

@@ -9,6 +9,8 @@ use Rattle.planus_verify.specs.declared.schema.FieldKind.{FieldKind}
 use Rattle.planus_verify.specs.declared.schema.FieldKind.TheVariants as kind
 use Rattle.planus_verify.specs.declared.schema.ValueKind.{ValueKind}
 use Rattle.planus_verify.specs.declared.schema.ValueKind.TheVariants as value
+use Rattle.planus_verify.specs.declared.schema.VariantKind.{VariantKind}
+use Rattle.planus_verify.specs.declared.schema.VariantKind.TheVariants as variant
 
 abbrev pub all_of : {X : Type 0} → (X → Bool) → List X → Bool
 all_of test [] = true
@@ -48,12 +50,18 @@ abbrev pub table_fits : List FieldShape → TableShape → Bool
 table_fits fields shape =
     nat_le (shape.first + shape.count) (length fields) && apart_from 0 (fields_in fields (Some shape))
 
+-- The table to which a variant refers is one of so many.
+abbrev pub variant_fits : ℕ → VariantKind → Bool
+variant_fits tables (variant.Table t) = nat_lt t tables
+variant_fits tables variant.Text = true
+variant_fits tables (variant.Struct size) = true
+
 -- Variants are in the order of their unions and tags, with tags above 0 and tables of the schema.
 abbrev pub variants_rise : ℕ → ℕ → ℕ → List Variant → Bool
 variants_rise tables u tag [] = true
 variants_rise tables u tag (one ∷ rest) =
     (nat_lt u one.union || ((u == one.union) && nat_lt tag one.tag))
-    && (nat_lt 0 one.tag && (nat_lt one.table tables
+    && (nat_lt 0 one.tag && (variant_fits tables one.kind
     && variants_rise tables one.union one.tag rest))
 
 -- All ranges are in the list of fields, the slots of each table apart, tables that are named there,

@@ -2,6 +2,8 @@
 
 ghost use Rattle.std.specs.Prelude.{◌≡◌, ℕ, true, Ok};
 ghost use Rattle.planus_read.specs.Places.{place_bytes, place_start, place_offset};
+ghost use Rattle.planus_read.specs.Clauses.{AllHold};
+ghost use Rattle.planus_read.specs.Reading.{text_clauses};
 ghost use Rattle.planus_read.specs.Slices.{slice_bytes, slice_start};
 ghost use Rattle.planus_read.specs.declared.errors.ErrorKind.{ErrorKind};
 ghost use Rattle.planus_view.specs.UnionVectorView.{view_of as unions_of};
@@ -50,6 +52,18 @@ pub(crate) fn value_passes(kind: ValueKind, buffer: SliceWithStartOffset<'_>, of
         ValueKind::Plains(size) => plains_are_there(buffer, offset, size).is_ok(),
         ValueKind::Texts => texts_pass(buffer, offset),
         _ => false,
+    }
+}
+
+/// Whether a string passes to which a reference leads.
+#[inline(always)]
+pub(crate) fn text_at_passes(at: Place<'_>) -> bool
+    ensures { result ≡ true → AllHold (text_clauses (place_bytes at.entry)
+        (place_offset at.entry)) }
+{
+    match at.read::<TextTest>() {
+        Ok(test) => test.passes,
+        Err(_) => false,
     }
 }
 

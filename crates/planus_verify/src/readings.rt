@@ -3,9 +3,11 @@
 ghost use Rattle.planus_read.specs.Places.{place_bytes, place_offset};
 ghost use Rattle.planus_read.specs.Reading.{vector_clauses, byte_list_clauses, text_clauses};
 ghost use Rattle.planus_read.specs.Slices.{slice_bytes};
+ghost use Rattle.planus_view.specs.PlainRefs.{plain_ref_clauses};
 ghost use Rattle.planus_verify.specs.Steps.{plain_clauses};
 ghost use Rattle.planus_verify.specs.Walks.{IsTested};
 
+use crate::struct_room::StructRoom;
 use planus_read::errors::ErrorKind;
 use planus_read::{Place, SliceWithStartOffset, array_from_buffer};
 
@@ -47,6 +49,19 @@ pub(crate) fn text_is_there(at: Place<'_>) -> Result<(), ErrorKind>
 {
     let _text = at.read::<&str>()?;
     Ok(())
+}
+
+/// Tests the struct of this size in bytes to which a reference leads.
+#[inline]
+pub(crate) fn struct_is_there(at: Place<'_>, size: usize) -> Result<(), ErrorKind>
+    ensures { IsTested (plain_ref_clauses size (place_bytes at.entry) (place_offset at.entry))
+        result }
+{
+    match at.read::<StructRoom>() {
+        Ok(room) if size <= room.bytes => Ok(()),
+        Ok(_) => Err(ErrorKind::InvalidOffset),
+        Err(kind) => Err(kind),
+    }
 }
 
 /// Tests a byte vector.

@@ -62,10 +62,21 @@ pub enum ValueKind {
     Nested(usize),
 }
 
-/// A variant of a union: the union's number, a tag above 0, and the index of its table.
+/// A variant of a union: the union's number, a tag above 0, and what its reference leads to.
 #[derive(Clone, Copy, Debug)]
 pub struct Variant {
     pub union: usize,
     pub tag: u8,
-    pub table: usize,
+    pub kind: VariantKind,
+}
+
+/// What the reference of a union leads to.
+#[derive(Clone, Copy, Debug)]
+pub enum VariantKind {
+    /// The table at this index.
+    Table(usize),
+    /// A string.
+    Text,
+    /// A struct of this size in bytes.
+    Struct(usize),
 }

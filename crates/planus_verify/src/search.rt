@@ -17,10 +17,10 @@ ghost use Rattle.planus_verify.specs.declared.schema.ValueKind.TheVariants as va
 
 use crate::ends::end_at;
 use crate::fault::FieldPlace;
-use crate::schema::{FieldKind, FieldShape, Schema, ValueKind};
+use crate::schema::{FieldKind, FieldShape, Schema, ValueKind, VariantKind};
 use crate::search_end::SearchEnd;
 use crate::sought::Sought;
-use crate::walk::{fields_at, variant_table};
+use crate::walk::{fields_at, variant_kind};
 use planus_read::table_reader::Table;
 use planus_read::{Place, SliceWithStartOffset, TableRead, TaggedPlace};
 use planus_view::{UnionVector, Vector};
@@ -244,8 +244,12 @@ fn search_variant(
         (place_bytes (tagged_place tagged.entry)) (place_start (tagged_place tagged.entry))
         (place_offset (tagged_place tagged.entry))) left result }
 {
-    match variant_table(search.schema.variants, union, tagged.tag()) {
-        Some(index) => search_reference(search, index, tagged.place(), place, depth, left),
+    match variant_kind(search.schema.variants, union, tagged.tag()) {
+        Some(VariantKind::Table(index)) => {
+            search_reference(search, index, tagged.place(), place, depth, left)
+        }
+        Some(VariantKind::Text) => Ok(left),
+        Some(VariantKind::Struct(_)) => Ok(left),
         None => Ok(left),
     }
 }

@@ -2,6 +2,7 @@
 
 mod ship;
 mod trails;
+mod unions;
 
 use crate::{Fault, FieldPlace, Limits, Schema, verify};
 use planus_read::errors::ErrorKind;

@@ -1,14 +1,15 @@
 //! Tests of strings.
 
-ghost use Rattle.std.specs.Prelude.{◌≡◌, true, IfSome};
+ghost use Rattle.std.specs.Prelude.{◌≡◌, true, IfOk, IfSome};
 ghost use Rattle.planus_read.specs.Clauses.{AllHold};
 ghost use Rattle.planus_read.specs.Heads.{IsTextOf};
 ghost use Rattle.planus_read.specs.Reading.{text_clauses};
 ghost use Rattle.planus_read.specs.Slices.{slice_bytes};
 
-use planus_read::{SliceWithStartOffset, Stride, VectorRead, array_from_buffer};
+use planus_read::errors::ErrorKind;
+use planus_read::{SliceWithStartOffset, Stride, TableRead, VectorRead, array_from_buffer};
 
-/// An item of a vector of strings: whether it is one.
+/// Whether a string is one.
 #[derive(Clone, Copy)]
 pub(crate) struct TextTest {
     pub passes: bool,
@@ -41,6 +42,18 @@ pub(crate) fn text_passes(buffer: SliceWithStartOffset<'_>, offset: usize) -> bo
     match array_from_buffer(buffer, offset) {
         Ok((items, count)) => text_in(items.as_slice(), count as usize).is_some(),
         Err(_) => false,
+    }
+}
+
+impl<'b> TableRead<'b> for TextTest {
+    ghost reads = { λ S start f r. IfOk r (λ test. test.passes ≡ true
+        → AllHold (text_clauses S f)) };
+
+    #[inline(always)]
+    fn from_buffer(buffer: SliceWithStartOffset<'b>, offset: usize) -> Result<TextTest, ErrorKind> {
+        Ok(TextTest {
+            passes: text_passes(buffer, offset),
+        })
     }
 }
 

@@ -12,8 +12,10 @@ ghost use Rattle.planus_verify.specs.Steps.{union_field_steps, unions_field_step
 ghost use Rattle.planus_verify.specs.Walks.{NoTable, InOrder, Walks, tested_as, absent_as};
 
 use crate::fault::{Fault, FieldPlace};
-use crate::readings::{bytes_are_there, plain_is_there, plains_are_there, text_is_there};
-use crate::schema::{FieldKind, FieldShape, Schema, ValueKind, Variant};
+use crate::readings::{
+    bytes_are_there, plain_is_there, plains_are_there, struct_is_there, text_is_there,
+};
+use crate::schema::{FieldKind, FieldShape, Schema, ValueKind, Variant, VariantKind};
 use planus_read::errors::ErrorKind;
 use planus_read::table_reader::Table;
 use planus_read::{Place, SliceWithStartOffset, TableRead, TaggedPlace};
@@ -41,12 +43,12 @@ pub(crate) fn fields_at<'s>(schema: &Schema<'s>, index: usize) -> &'s [FieldShap
     }
 }
 
-pub(crate) fn variant_table(variants: &[Variant], union: usize, tag: u8) -> Option<usize>
+pub(crate) fn variant_kind(variants: &[Variant], union: usize, tag: u8) -> Option<VariantKind>
     ensures { result ≡ variant_in variants.now union tag }
 {
     for variant in variants {
         if variant.union == union && variant.tag == tag {
-            return Some(variant.table);
+            return Some(variant.kind);
         }
     }
     None
@@ -304,8 +306,11 @@ fn verify_variant(
         (place_bytes (tagged_place tagged.entry)) (place_start (tagged_place tagged.entry))
         (place_offset (tagged_place tagged.entry))) left result }
 {
-    match variant_table(schema.variants, union, tagged.tag()) {
-        Some(index) => verify_reference(schema, index, tagged.place(), place, depth, left),
+    let at = tagged.place();
+    match variant_kind(schema.variants, union, tagged.tag()) {
+        Some(VariantKind::Table(index)) => verify_reference(schema, index, at, place, depth, left),
+        Some(VariantKind::Text) => verify_text(at, place, left),
+        Some(VariantKind::Struct(size)) => tested(place, struct_is_there(at, size), left),
         None => Ok(left),
     }
 }

@@ -8,3 +8,4 @@ pub mod TableLaws
 pub mod SubViewTexts
 pub mod SubViewItems
 pub mod ReadBack
+pub mod PlainRefs

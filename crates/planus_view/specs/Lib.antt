@@ -15,3 +15,4 @@ pub mod Copies
 pub mod Laws
 pub mod ReadBack
 pub mod Texts
+pub mod PlainRefs

@@ -6,7 +6,7 @@ use Rattle.std.proofs.lemmas.Str.{IsUtf8-had}
 use Rattle.planus_read.specs.Clauses.{AllHold}
 use Rattle.planus_read.specs.Reading.{byte_list_clauses, vector_clauses, table_clauses}
 use Rattle.planus_read.specs.Reading.{union_vector_clauses}
-use Rattle.planus_views.specs.Fields.{TextHolds}
+use Rattle.planus_views.specs.Fields.{StructHolds, TextHolds}
 
 pub text_had : (S : List ℕ) (f : ℕ) → ∥ TextHolds S f ∥₁ → TextHolds S f
 text_had S f h = (
@@ -25,6 +25,9 @@ text_had S f h = (
     ),
   ),
 )
+
+pub struct_had : (size : ℕ) (S : List ℕ) (f : ℕ) → ∥ StructHolds size S f ∥₁ → StructHolds size S f
+struct_had size S f h = ∥∥₁_elim h (Prim.hlevel props) (λ t. t)
 
 pub bytes_had :
     (S : List ℕ) (f : ℕ) → ∥ AllHold (byte_list_clauses S f) ∥₁ → AllHold (byte_list_clauses S f)

@@ -18,7 +18,9 @@ use Rattle.planus_verify.specs.declared.fault.Fault.{Fault}
 use Rattle.planus_verify.specs.Steps.{Step, Faults, union_steps, member_steps, variant_steps, tag_at}
 use Rattle.planus_verify.specs.Verified.{OfTable, StepsHold, Verified, IsVerified}
 use Rattle.planus_verify.specs.declared.schema.FieldKind.TheVariants as kind
-use Rattle.planus_views.specs.Fields.{Has, Unbroken, IsMember, TableHolds}
+use Rattle.planus_verify.specs.declared.schema.VariantKind.{VariantKind}
+use Rattle.planus_verify.specs.declared.schema.VariantKind.TheVariants as variant
+use Rattle.planus_views.specs.Fields.{Has, Unbroken, IsMember, VariantHolds}
 use Rattle.planus_views.proofs.Fields.{field_holds, faults_of}
 
 module _ (H : OfTable) (at : Faults) (steps : ℕ → ℕ → List Step) where
@@ -67,13 +69,15 @@ module _ (H : OfTable) (at : Faults) (steps : ℕ → ℕ → List Step) where
     short_needed true is short h = h.0.0
     short_needed false is short h = let e = sym (le-leb (length V) (2 * i) short) ∙ is in cc
 
--- the table of a tag, if the schema has the tag
+-- what a tag's reference leads to, if the schema has the tag
 pub variant_holds :
-    (schema : Shapes) (n : ℕ) (here : ErrorKind → Fault) (table_of : Option ℕ) (S : List ℕ)
-    (start f : ℕ) → StepsHold (Verified schema n) (variant_steps here table_of S start f)
-    → IfSome table_of (λ t. TableHolds schema n t start S f)
+    (schema : Shapes) (n : ℕ) (here : ErrorKind → Fault) (one : Option VariantKind) (S : List ℕ)
+    (start f : ℕ) → StepsHold (Verified schema n) (variant_steps here one S start f)
+    → IfSome one (VariantHolds schema n start S f)
 variant_holds schema n here None S start f h = tt
-variant_holds schema n here (Some t) S start f h = (h.0, h.1.0)
+variant_holds schema n here (Some (variant.Table t)) S start f h = (h.0, h.1.0)
+variant_holds schema n here (Some variant.Text) S start f h = h.0
+variant_holds schema n here (Some (variant.Struct size)) S start f h = h.0
 
 module _ (schema : Shapes) (t u i : ℕ) (required : Bool) (table : Table)
     (verified : IsVerified schema t table)
@@ -182,15 +186,15 @@ not_absent schema t u i table verified has none =
     has)
     (Prim.hlevel props) (λ h. not_absent_by (Verified schema h.0) schema t u i table h.1 none)
 
--- the table of a tag that the schema has
-pub member_table :
-    (schema : Shapes) (u tag given t start : ℕ) (S : List ℕ) (f : ℕ) → tag ≡ given
-    → variant_in schema.variants u given ≡ Some t → IsMember schema u tag start S f
-    → ∥ ((n : ℕ) × TableHolds schema n t start S f) ∥₁
-member_table schema u tag given t start S f same is member =
+-- what the reference of a tag leads to that the schema has
+pub member_holds :
+    (schema : Shapes) (u tag given : ℕ) (one : VariantKind) (start : ℕ) (S : List ℕ) (f : ℕ)
+    → tag ≡ given → variant_in schema.variants u given ≡ Some one
+    → IsMember schema u tag start S f → ∥ ((n : ℕ) × VariantHolds schema n start S f one) ∥₁
+member_holds schema u tag given one start S f same is member =
     ∥∥₁_map member
     (λ h. (
       h.0,
-      subst (λ (o : Option ℕ). IfSome o (λ t. TableHolds schema h.0 t start S f))
+      subst (λ (o : Option VariantKind). IfSome o (VariantHolds schema h.0 start S f))
           (ap (λ n. variant_in schema.variants u n) same ∙ is) h.1,
     ))

@@ -137,7 +137,7 @@ module _ (H : OfTable) (Written : OfWritten) (B : List ℕ) (tables_hold : Table
       (inside : k + 4 ≤ length B) (long : length V ≡ 2 * slot_count entries)
       (variants : List Variant) (t : ℕ) where
     kind_holds : (at_ : Faults) (required : Bool) (one : FieldKind) (slot : ℕ)
-        → FieldFits Written variants (content_at contents) required one slot
+        → FieldFits Written B variants (content_at contents) required one slot
         → StepsHold H (kind_steps variants at_ required one slot (drop k B) V k)
     kind_holds at_ required (kind.Value one) slot fits =
         slot_holds at_ required one (Slot V slot) (content_at contents slot) (field_at entries slot) fits
@@ -148,7 +148,7 @@ module _ (H : OfTable) (Written : OfWritten) (B : List ℕ) (tables_hold : Table
         (field_at entries (slot + 1)) refl refl fits (holds slot) (holds (slot + 1))
     kind_holds at_ required (kind.Unions u) slot fits = absurd fits
 
-    fields_hold : (fields : List FieldShape) → FieldsFit Written variants (content_at contents) fields
+    fields_hold : (fields : List FieldShape) → FieldsFit Written B variants (content_at contents) fields
         → StepsHold H (fields_steps variants t (drop k B) V k fields)
     fields_hold [] fits = tt
     fields_hold (field ∷ fields) fits =

@@ -6,25 +6,24 @@ use Rattle.std.proofs.lemmas.Bool.Decides.{nat_tests}
 use Rattle.std.proofs.lemmas.List.{length-drop}
 use Rattle.std.specs.Prelude.{nat_le}
 use Rattle.std.specs.Int.{w8}
-use Rattle.planus_read.specs.Bytes.{BytesStand, position_of}
+use Rattle.planus_read.specs.Bytes.{BytesStand}
 use Rattle.planus_read.specs.Clauses.{AllHold}
-use Rattle.planus_read.specs.Reading.{Leads}
 use Rattle.planus_read.specs.TableReading.{SlotReads}
 use Rattle.planus_read.specs.Tables.{Slot}
-use Rattle.planus_read.specs.Values.{Field, Plain, plain, reference, field_at, slot_count}
+use Rattle.planus_read.specs.Values.{Field, Plain, plain, field_at, slot_count}
 use Rattle.planus_read.proofs.ListItems.{num_of_bytes}
 use Rattle.planus_read.proofs.Reading.{num_value}
-use Rattle.planus_read.proofs.SliceLaws.{references_lead, bytes_in_slice}
+use Rattle.planus_read.proofs.SliceLaws.{bytes_in_slice}
 use Rattle.planus_read.proofs.TableReading.{slot_below}
-use Rattle.planus_write.specs.Contents.{Content, item, written}
-use Rattle.planus.specs.ReadBack.{FieldHoldsIf}
+use Rattle.planus_write.specs.Contents.{Content, item}
+use Rattle.planus.specs.ReadBack.{FieldHolds, FieldHoldsIf}
 use Rattle.planus_verify.specs.Schemas.{variant_in}
 use Rattle.planus_verify.specs.Steps.{Step, Faults, member_steps, union_steps, union_clauses}
 use Rattle.planus_verify.specs.Steps.{union_field_steps, variant_steps, tag_at, plain_clauses}
 use Rattle.planus_verify.specs.Verified.{OfTable, StepsHold}
 use Rattle.planus_verify.specs.declared.schema.Variant.{Variant}
-use Rattle.planus_views.specs.Written.{OfWritten, FitsMember, FitsUnion, FitsUnionIf}
-use Rattle.planus_views.proofs.WrittenValues.{TablesHold, plain_there}
+use Rattle.planus_views.specs.Written.{OfWritten, FitsUnion, FitsUnionIf}
+use Rattle.planus_views.proofs.WrittenValues.{TablesHold, held_variant, plain_there}
 
 later_or : (b : Bool) (x : Field) (rest : Option Field) (a n i : ℕ) → (b ≡ false → a ≡ i → ⊥)
     → max (a + 1) n ≡ i + 1 → (n ≡ i + 1 → rest ≡ None → ⊥) → (if b then Some x else rest) ≡ None → ⊥
@@ -78,11 +77,6 @@ module _ (H : OfTable) (Written : OfWritten) (B : List ℕ) (tables_hold : Table
   abbrev Goal : Type 0
   Goal = StepsHold H (union_field_steps variants at_ required u i S V k)
 
-  member_holds : (one : Option ℕ) (d q : ℕ) → FitsMember Written one d → Leads B (k + q) (position_of B d)
-      → StepsHold H (variant_steps (at_ None) one S k q)
-  member_holds None d q fits leads = tt
-  member_holds (Some t) d q fits leads = tables_hold (at_ None) t d k q fits leads
-
   nothing : required ≡ false → field_at entries i ≡ None → Goal
   nothing may none =
       let zero = subst (SlotReads B k (Slot V i)) none (reads i) in
@@ -95,9 +89,10 @@ module _ (H : OfTable) (Written : OfWritten) (B : List ℕ) (tables_hold : Table
         no_member H at_ steps required (Slot V i) (Slot V (i + 1)) (tag_at S (Slot V i)) zero may,
       ))
 
-  there : (one : Plain) (d : ℕ) → FitsUnion Written variants u one d
-      → field_at entries i ≡ Some (plain one) → field_at entries (i + 1) ≡ Some (reference d) → Goal
-  there one d (tag, bytes, some, fits) tag_is value_is =
+  there : (one : Plain) (content : Content) (other : Field)
+      → FitsUnion Written B variants u one content → FieldHolds B content other
+      → field_at entries i ≡ Some (plain one) → field_at entries (i + 1) ≡ Some other → Goal
+  there one content other (tag, bytes, some, fits) holds tag_is value_is =
       by_end H at_ steps required (nat_le (length V) (2 * i)) i S V
       (λ past. absurd (grind (arith, nat_tests, past, both)))
       (λ more. (
@@ -109,11 +104,11 @@ module _ (H : OfTable) (Written : OfWritten) (B : List ℕ) (tables_hold : Table
       tag_reads : SlotReads B k (Slot V i) (Some (plain one))
       tag_reads = subst (SlotReads B k (Slot V i)) tag_is (reads i)
 
-      value_reads : SlotReads B k (Slot V (i + 1)) (Some (reference d))
+      value_reads : SlotReads B k (Slot V (i + 1)) (Some other)
       value_reads = subst (SlotReads B k (Slot V (i + 1))) value_is (reads (i + 1))
 
       both : 2 * i + 4 ≤ length V
-      both = let below = slot_below entries (i + 1) (reference d) value_is in omega (arith, below, long)
+      both = let below = slot_below entries (i + 1) other value_is in omega (arith, below, long)
 
       tag_bytes : BytesStand B (k + Slot V i) (tag ∷ [])
       tag_bytes = subst (BytesStand B (k + Slot V i)) bytes tag_reads.1
@@ -127,18 +122,18 @@ module _ (H : OfTable) (Written : OfWritten) (B : List ℕ) (tables_hold : Table
 
       member : StepsHold H (steps (tag_at S (Slot V i)) (Slot V (i + 1)))
       member = subst (λ (n : ℕ). StepsHold H (steps n (Slot V (i + 1)))) tag_there
-          (member_holds (variant_in variants u tag) d (Slot V (i + 1)) fits
-          (references_lead B (k + Slot V (i + 1)) d value_reads.1))
+          (held_variant H Written B tables_hold at_ k (Slot V (i + 1)) other value_reads.1
+          (variant_in variants u tag) content fits holds)
 
   pub union_holds : (first next : Option Content) (field other : Option Field)
       → field_at entries i ≡ field → field_at entries (i + 1) ≡ other
-      → FitsUnionIf Written variants required u first next
+      → FitsUnionIf Written B variants required u first next
       → FieldHoldsIf B first field → FieldHoldsIf B next other → Goal
   union_holds None None None None none other fits holds more = nothing fits none
   union_holds None None (Some field) other is too fits holds more = absurd holds
   union_holds None None None (Some other) is too fits holds more = absurd more
-  union_holds (Some (item one)) (Some (written d)) (Some field) (Some other) is too fits holds more =
-      there one d fits (is ∙ ap Some holds) (too ∙ ap Some more)
-  union_holds (Some (item one)) (Some (written d)) None other is too fits holds more = absurd holds
-  union_holds (Some (item one)) (Some (written d)) (Some field) None is too fits holds more = absurd more
+  union_holds (Some (item one)) (Some content) (Some field) (Some other) is too fits holds more =
+      there one content other fits more (is ∙ ap Some holds) too
+  union_holds (Some (item one)) (Some content) None other is too fits holds more = absurd holds
+  union_holds (Some (item one)) (Some content) (Some field) None is too fits holds more = absurd more
   union_holds first next field other is too fits holds more = absurd fits

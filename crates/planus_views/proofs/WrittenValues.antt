@@ -1,7 +1,7 @@
 -- What was written in a field passes each test of it.
 use Prim.Native.Nat.{zero, suc}
 use Rattle.std.proofs.Common.{◌≡◌, ℕ, ◌+◌, ◌*◌, ◌≤◌, ◌<◌, List, [], ◌∷◌, ◌++◌, length, drop}
-use Rattle.std.proofs.Common.{Some, None, sym, subst, ap, ◌∙◌, arith}
+use Rattle.std.proofs.Common.{Option, Some, None, sym, subst, ap, ◌∙◌, arith}
 use Rattle.std.proofs.lemmas.List.{drop-drop, length-drop}
 use Rattle.std.proofs.lemmas.Option.{slice_get_within, slice_get-get_or}
 use Rattle.std.specs.Prelude.{slice_get, get_or}
@@ -9,27 +9,32 @@ use Rattle.std.specs.Str.{IsUtf8}
 use Rattle.planus_read.specs.Bytes.{BytesStand, position_of}
 use Rattle.planus_read.specs.Clauses.{AllHold}
 use Rattle.planus_read.specs.Reading.{Leads, count_at, items_at, text_clauses, byte_list_clauses}
-use Rattle.planus_read.specs.Reading.{vector_clauses}
+use Rattle.planus_read.specs.Reading.{vector_clauses, target}
 use Rattle.planus_read.specs.ReadsBack.{ListReads, ReferenceReads}
 use Rattle.planus_read.specs.Stands.{at, Stands, FieldStands}
 use Rattle.planus_read.specs.Values.{Field, Value, reference, text, byte_list}
 use Rattle.planus_read.specs.Values.{plain_list, reference_list, union_vector, table}
-use Rattle.planus_read.proofs.Reading.{stood_inside, vector_holds}
+use Rattle.planus_read.proofs.Reading.{leads_inside, leads_to, stood_inside, vector_holds}
 use Rattle.planus_read.proofs.ReadingLaws.{lawful_text, lawful_byte_list, lawful_vector}
 use Rattle.planus_read.proofs.ReadsBack.{what_stands_reads_back}
-use Rattle.planus_read.proofs.SliceLaws.{references_lead, bytes_in_slice}
+use Rattle.planus_read.proofs.SliceLaws.{references_lead, bytes_in_slice, leads_in_slices}
 use Rattle.planus_write.specs.Contents.{Content, item, value, values, written}
 use Rattle.planus.specs.ReadBack.{FieldHolds, AllStand}
+use Rattle.planus.specs.Unions.{IsApart, IsText as IsTextIn}
+use Rattle.planus_view.specs.PlainRefs.{ApartStands, plain_ref_clauses}
 use Rattle.planus_verify.specs.Steps.{Step, Faults, items_from, value_steps, text_steps}
 use Rattle.planus_verify.specs.Steps.{plain_clauses, reference_steps, vector_steps}
+use Rattle.planus_verify.specs.Steps.{struct_steps, variant_steps}
 use Rattle.planus_verify.specs.Verified.{OfTable, StepsHold}
 use Rattle.planus_verify.specs.declared.schema.ValueKind.{ValueKind}
 use Rattle.planus_verify.specs.declared.schema.ValueKind.TheVariants as kind_of
+use Rattle.planus_verify.specs.declared.schema.VariantKind.{VariantKind}
+use Rattle.planus_verify.specs.declared.schema.VariantKind.TheVariants as variant
 use Rattle.planus_verify.specs.declared.fault.Fault.{Fault}
 use Rattle.planus_read.specs.declared.errors.ErrorKind.{ErrorKind}
 use Rattle.planus_views.specs.Written.{OfWritten, IsText, AreTexts, IsByteList, IsPlainList, AllAt}
 use Rattle.planus_views.specs.Written.{AreTables, HoldsPlain, HoldsValue, HoldsValues, HoldsWritten}
-use Rattle.planus_views.specs.Written.{FitsKind}
+use Rattle.planus_views.specs.Written.{FitsKind, FitsMember}
 
 pub both_hold : (H : OfTable) (xs ys : List Step) → StepsHold H xs → StepsHold H ys
     → StepsHold H (xs ++ ys)
@@ -56,6 +61,24 @@ module _ (B : List ℕ) (k q : ℕ) where
   text_there d bytes utf8 stands leads =
       let read = what_stands_reads_back B (at (position_of B d)) (text bytes) utf8 stands k q leads in
       (lawful_text (drop k B) q).decides.1 (bytes, read.there)
+
+  struct_there : (d : ℕ) (bytes : List ℕ) (size : ℕ) → length bytes ≡ size → ApartStands B d bytes
+      → Leads B (k + q) (position_of B d) → AllHold (plain_ref_clauses size (drop k B) q)
+  struct_there d bytes size long stands leads =
+      let p : ℕ = q + leads.0 in
+      let whole : position_of B d ≡ k + q + leads.0 = leads.2 in
+      let same : position_of B d ≡ k + p = omega (arith, whole) in
+      let here : Leads (drop k B) q p =
+      leads_in_slices B k q p (subst (Leads B (k + q)) same leads) in
+      let to : p ≡ target (drop k B) q = leads_to (drop k B) q p here in
+      let inside : length bytes ≤ length (drop (position_of B d) B) =
+      stood_inside (drop (position_of B d) B) bytes stands in (
+        leads_inside (drop k B) q p here,
+        (
+          omega (arith, to, same, inside, long, length-drop (position_of B d) B, length-drop k B),
+          tt,
+        ),
+      )
 
   bytes_there : (d : ℕ) (bytes : List ℕ) → Stands B (at (position_of B d)) (byte_list bytes)
       → Leads B (k + q) (position_of B d) → AllHold (byte_list_clauses (drop k B) q)
@@ -211,3 +234,32 @@ module _ (H : OfTable) (Written : OfWritten) (B : List ℕ) (tables_hold : Table
   held (kind_of.Table t) content fits holds = held_table t content fits holds
   held (kind_of.Tables t) content fits holds = held_tables t content fits holds
   held (kind_of.Nested t) content fits holds = absurd fits
+
+  held_string : (content : Content) (bytes : List ℕ) → IsUtf8 bytes → IsTextIn B content bytes
+      → FieldHolds B content field → StepsHold H (text_steps (at_ None) (drop k B) q)
+  held_string (value one) bytes utf8 is holds = (
+    text_there B k q holds.0 bytes utf8
+        (subst (λ (v : Value). Stands B (at (position_of B holds.0)) v) is holds.2)
+        (led holds.0 holds.1),
+    tt,
+  )
+  held_string (written d) bytes utf8 stands holds =
+      (text_there B k q d bytes utf8 stands (led d holds), tt)
+  held_string _ bytes utf8 is holds = absurd is
+
+  held_struct : (size : ℕ) (content : Content) (bytes : List ℕ) → length bytes ≡ size
+      → IsApart B content bytes → FieldHolds B content field
+      → StepsHold H (struct_steps (at_ None) size (drop k B) q)
+  held_struct size (written d) bytes long stands holds =
+      (struct_there B k q d bytes size long stands (led d holds), tt)
+  held_struct size _ bytes long stands holds = absurd stands
+
+  pub held_variant : (one : Option VariantKind) (content : Content)
+      → FitsMember Written B one content → FieldHolds B content field
+      → StepsHold H (variant_steps (at_ None) one (drop k B) k q)
+  held_variant None content fits holds = tt
+  held_variant (Some (variant.Table t)) content fits holds = held_table t content fits holds
+  held_variant (Some variant.Text) content fits holds =
+      held_string content fits.0 fits.1 fits.2 holds
+  held_variant (Some (variant.Struct size)) content fits holds =
+      held_struct size content fits.0 fits.1 fits.2 holds

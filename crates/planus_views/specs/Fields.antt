@@ -7,6 +7,7 @@ use Rattle.planus_read.specs.Reading.{target, items_at, count_at, slots_of, text
 use Rattle.planus_read.specs.Reading.{vector_clauses, table_clauses, union_vector_clauses}
 use Rattle.planus_read.specs.Tables.{BothSlots, table_object, table_slots, table_start, slot_of}
 use Rattle.planus_read.specs.declared.table_reader.Table.{Table}
+use Rattle.planus_view.specs.PlainRefs.{plain_ref_clauses}
 use Rattle.planus_verify.specs.Schemas.{Shapes, fields_of, variant_in}
 use Rattle.planus_verify.specs.Verified.{Verified}
 use Rattle.planus_verify.specs.declared.schema.FieldShape.{FieldShape}
@@ -14,6 +15,8 @@ use Rattle.planus_verify.specs.declared.schema.FieldKind.{FieldKind}
 use Rattle.planus_verify.specs.declared.schema.FieldKind.TheVariants as kind
 use Rattle.planus_verify.specs.declared.schema.ValueKind.{ValueKind}
 use Rattle.planus_verify.specs.declared.schema.ValueKind.TheVariants as value
+use Rattle.planus_verify.specs.declared.schema.VariantKind.{VariantKind}
+use Rattle.planus_verify.specs.declared.schema.VariantKind.TheVariants as variant
 
 -- the field in a slot
 abbrev pub field_in : List FieldShape → ℕ → Option FieldShape
@@ -88,20 +91,30 @@ pub record Unbroken (table : Table) (i : ℕ) : Type 0 where
   pub inside :
       (length (table_slots table) ≤ 2 * i → ⊥) → slot_of table i + 1 ≤ length (table_object table)
 
--- The table to which the reference at f leads is verified as the one of this tag of union u, if the
--- schema has the tag.
+-- All bytes of a struct of this size are in S, to which the reference at f leads.
+abbrev pub StructHolds : ℕ → List ℕ → ℕ → Type 0
+StructHolds size S f = AllHold (plain_ref_clauses size S f)
+
+-- What the reference at f of a union leads to is verified as of this kind.
+abbrev pub VariantHolds : Shapes → ℕ → ℕ → List ℕ → ℕ → VariantKind → Type 0
+VariantHolds schema n start S f (variant.Table t) = TableHolds schema n t start S f
+VariantHolds schema n start S f variant.Text = TextHolds S f
+VariantHolds schema n start S f (variant.Struct size) = StructHolds size S f
+
+-- What the reference at f leads to is verified as that of this tag of union u, if the schema has the
+-- tag.
 abbrev pub IsMember : Shapes → ℕ → ℕ → ℕ → List ℕ → ℕ → Type 0
 IsMember schema u tag start S f =
-    ∥ ((n : ℕ) × IfSome (variant_in schema.variants u tag) (λ t. TableHolds schema n t start S f)) ∥₁
+    ∥ ((n : ℕ) × IfSome (variant_in schema.variants u tag) (VariantHolds schema n start S f)) ∥₁
 
--- A vector of unions stands, its tags at f and its references at g; and each of its tables is
--- verified as the one of its tag, if the schema has the tag.
+-- A vector of unions stands, its tags at f and its references at g; and what each of these leads to
+-- is verified as that of its tag, if the schema has the tag.
 abbrev pub UnionsHold : Shapes → ℕ → ℕ → ℕ → List ℕ → ℕ → ℕ → Type 0
 UnionsHold schema n u start S f g =
     AllHold (union_vector_clauses S f g)
     × ((i : ℕ) → i < count_at S f
     → IfSome (variant_in schema.variants u (slice_index (drop (items_at S f) S) i))
-    (λ t. TableHolds schema n t (start + items_at S g) (drop (items_at S g) S) (i * 4)))
+    (VariantHolds schema n (start + items_at S g) (drop (items_at S g) S) (i * 4)))
 
 -- A vector of unions has no slots, or both hold 0.
 abbrev pub UnionVectorAbsent : Table → ℕ → Type 0

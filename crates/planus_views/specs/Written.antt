@@ -8,6 +8,7 @@ use Rattle.planus_read.specs.Stands.{ReferenceStands}
 use Rattle.planus_read.specs.Values.{Plain, Value, text, byte_list, plain_list, reference_list}
 use Rattle.planus_write.specs.Contents.{Content, item, value, values, written}
 use Rattle.planus.specs.ReadBack.{TableStands, content_at}
+use Rattle.planus.specs.Unions.{IsApart, IsText as IsTextIn}
 use Rattle.planus_verify.specs.Schemas.{Shapes, fields_of, variant_in}
 use Rattle.planus_verify.specs.Verified.{tables_in}
 use Rattle.planus_verify.specs.Walks.{RootWalks}
@@ -19,6 +20,8 @@ use Rattle.planus_verify.specs.declared.schema.FieldKind.TheVariants as kind
 use Rattle.planus_verify.specs.declared.schema.Variant.{Variant}
 use Rattle.planus_verify.specs.declared.schema.ValueKind.{ValueKind}
 use Rattle.planus_verify.specs.declared.schema.ValueKind.TheVariants as kind_of
+use Rattle.planus_verify.specs.declared.schema.VariantKind.{VariantKind}
+use Rattle.planus_verify.specs.declared.schema.VariantKind.TheVariants as variant
 use Rattle.planus_views.specs.Fields.{TableHolds}
 
 -- of the table of an index, at a distance from the end
@@ -82,37 +85,49 @@ abbrev pub FitsIf : OfWritten → Bool → ValueKind → Option Content → Type
 FitsIf Written required kind None = required ≡ false
 FitsIf Written required kind (Some content) = FitsKind Written kind content
 
--- a table of a union's tag; other tags may be of a later schema
-abbrev pub FitsMember : OfWritten → Option ℕ → ℕ → Type 0
-FitsMember Written None distance = ⊤
-FitsMember Written (Some t) distance = Written t distance
+-- a string, written before or with the table
+abbrev pub HoldsText : List ℕ → Content → Type 0
+HoldsText B content = (bytes : List ℕ) × IsUtf8 bytes × IsTextIn B content bytes
 
-abbrev pub FitsUnion : OfWritten → List Variant → ℕ → Plain → ℕ → Type 0
-FitsUnion Written variants u plain distance =
+-- a struct of this size, written before
+abbrev pub HoldsStruct : List ℕ → ℕ → Content → Type 0
+HoldsStruct B size content = (bytes : List ℕ) × (length bytes ≡ size) × IsApart B content bytes
+
+-- what a union's reference of this kind leads to in B; other tags may be of a later schema
+abbrev pub FitsMember : OfWritten → List ℕ → Option VariantKind → Content → Type 0
+FitsMember Written B None = HoldsWritten (λ distance. ⊤)
+FitsMember Written B (Some (variant.Table t)) = HoldsWritten (Written t)
+FitsMember Written B (Some variant.Text) = HoldsText B
+FitsMember Written B (Some (variant.Struct size)) = HoldsStruct B size
+
+abbrev pub FitsUnion : OfWritten → List ℕ → List Variant → ℕ → Plain → Content → Type 0
+FitsUnion Written B variants u plain content =
     (tag : ℕ) × (plain.bytes ≡ tag ∷ []) × (1 ≤ tag)
-    × FitsMember Written (variant_in variants u tag) distance
+    × FitsMember Written B (variant_in variants u tag) content
 
 -- a union by the contents of its two slots, or nothing where the field isn't required
 abbrev pub FitsUnionIf :
-    OfWritten → List Variant → Bool → ℕ → Option Content → Option Content → Type 0
-FitsUnionIf Written variants required u None None = required ≡ false
-FitsUnionIf Written variants required u (Some (item plain)) (Some (written distance)) =
-    FitsUnion Written variants u plain distance
-FitsUnionIf Written variants required u _ _ = ⊥
+    OfWritten → List ℕ → List Variant → Bool → ℕ → Option Content → Option Content → Type 0
+FitsUnionIf Written B variants required u None None = required ≡ false
+FitsUnionIf Written B variants required u (Some (item plain)) (Some content) =
+    FitsUnion Written B variants u plain content
+FitsUnionIf Written B variants required u _ _ = ⊥
 
 -- A field, by the contents of all slots. Of vectors of unions nothing is said.
 abbrev pub FieldFits :
-    OfWritten → List Variant → (ℕ → Option Content) → Bool → FieldKind → ℕ → Type 0
-FieldFits Written variants at required (kind.Value one) slot = FitsIf Written required one (at slot)
-FieldFits Written variants at required (kind.Union u) slot =
-    FitsUnionIf Written variants required u (at slot) (at (slot + 1))
-FieldFits Written variants at required (kind.Unions u) slot = ⊥
+    OfWritten → List ℕ → List Variant → (ℕ → Option Content) → Bool → FieldKind → ℕ → Type 0
+FieldFits Written B variants at required (kind.Value one) slot =
+    FitsIf Written required one (at slot)
+FieldFits Written B variants at required (kind.Union u) slot =
+    FitsUnionIf Written B variants required u (at slot) (at (slot + 1))
+FieldFits Written B variants at required (kind.Unions u) slot = ⊥
 
-abbrev pub FieldsFit : OfWritten → List Variant → (ℕ → Option Content) → List FieldShape → Type 0
-FieldsFit Written variants at [] = ⊤
-FieldsFit Written variants at (field ∷ fields) =
-    FieldFits Written variants at field.required field.kind field.slot
-    × FieldsFit Written variants at fields
+abbrev pub FieldsFit :
+    OfWritten → List ℕ → List Variant → (ℕ → Option Content) → List FieldShape → Type 0
+FieldsFit Written B variants at [] = ⊤
+FieldsFit Written B variants at (field ∷ fields) =
+    FieldFits Written B variants at field.required field.kind field.slot
+    × FieldsFit Written B variants at fields
 
 -- At the distance from the end of B stands a table with contents as the schema's table of index t has
 -- them, and with tables of that kind below it, one in the other to a depth of n.
@@ -120,7 +135,7 @@ abbrev pub IsWritten : Shapes → List ℕ → ℕ → OfWritten
 IsWritten schema B zero t distance = ⊥
 IsWritten schema B (suc n) t distance =
     (contents : List (ℕ × Option Content)) × TableStands B contents distance
-    × FieldsFit (IsWritten schema B n) schema.variants (content_at contents) (fields_of schema t)
+    × FieldsFit (IsWritten schema B n) B schema.variants (content_at contents) (fields_of schema t)
 
 -- It is verified to that depth by each reference that leads to it.
 abbrev pub WrittenIsVerified : Shapes → Type 0

@@ -32,7 +32,8 @@ pub use of_kind::OfKind;
 pub use of_union::OfUnion;
 pub use planus_verify::{
     Entered, Fault, FieldKind, FieldPlace, FieldShape, Limits, Schema, TableShape, UnionKind,
-    ValueKind, Variant, VerifiedKind, Verify, VerifyUnion, member_passes,
+    ValueKind, Variant, VariantKind, VerifiedKind, Verify, VerifyUnion, member_passes,
+    struct_member_passes, text_member_passes,
 };
 pub use root::{verify_root, verify_table};
 pub use table_vectors::Tables;

@@ -11,7 +11,9 @@ use crate::of_union::OfUnion;
 use crate::view_of::ViewOf;
 use planus::SliceWithStartOffset;
 use planus::table_reader::Table;
+use planus_read::{Plain, text_unchecked};
 use planus_verify::UnionKind;
+use planus_view::PlainRef;
 
 /// A union of a verified table: a tag, and where its reference is encoded.
 #[derive(Clone, Copy)]
@@ -24,6 +26,9 @@ pub struct Member<'a> {
 impl<'a> Member<'a> {
     ghost use Rattle.planus_views.specs.Members.{member_tag, member_bytes, member_start};
     ghost use Rattle.planus_views.specs.Members.{member_offset};
+    ghost use Rattle.planus.specs.ReadKinds.{reads_text};
+    ghost use Rattle.planus_view.specs.PlainRefs.{plain_slice, reads_plain_ref};
+    ghost use Rattle.planus_verify.specs.declared.schema.VariantKind.TheVariants as kind;
 
     /// Returns the union's tag.
     #[inline(always)]
@@ -38,7 +43,7 @@ impl<'a> Member<'a> {
     pub fn table<O: UnionKind, V: ViewOf<'a>>(&self, tag: u8) -> V
         requires same { V.Kind.schema ≡ O.schema }
         requires tag { member_tag self.now ≡ tag }
-        requires variant { variant_in O.schema.variants O.union tag ≡ Some V.Kind.index }
+        requires variant { variant_in O.schema.variants O.union tag ≡ Some (kind.Table V.Kind.index) }
         requires verified { IsMember O.schema O.union (member_tag self.now) (member_start self.now)
             (member_bytes self.now) (member_offset self.now) }
         ensures { reads_as V.table (member_bytes self.now) (member_start self.now)
@@ -46,6 +51,32 @@ impl<'a> Member<'a> {
     {
         let table = Table::from_buffer_unchecked(self.buffer, self.offset);
         V::of_verified(table)
+    }
+
+    /// Returns the string, where the tag names strings in the schema.
+    #[inline(always)]
+    pub fn text<O: UnionKind>(&self, tag: u8) -> &'a str
+        requires tag { member_tag self.now ≡ tag }
+        requires variant { variant_in O.schema.variants O.union tag ≡ Some kind.Text }
+        requires verified { IsMember O.schema O.union (member_tag self.now) (member_start self.now)
+            (member_bytes self.now) (member_offset self.now) }
+        ensures { reads_text (member_bytes self.now) (member_start self.now)
+            (member_offset self.now) (Ok result) }
+    {
+        text_unchecked(self.buffer, self.offset)
+    }
+
+    /// Returns the view of the struct, where the tag names those of its size in the schema.
+    #[inline(always)]
+    pub fn plain<O: UnionKind, T: Plain>(&self, tag: u8) -> PlainRef<'a, T>
+        requires tag { member_tag self.now ≡ tag }
+        requires variant { variant_in O.schema.variants O.union tag ≡ Some (kind.Struct T.SIZE) }
+        requires verified { IsMember O.schema O.union (member_tag self.now) (member_start self.now)
+            (member_bytes self.now) (member_offset self.now) }
+        ensures { reads_plain_ref plain_slice T.SIZE (member_bytes self.now)
+            (member_start self.now) (member_offset self.now) (Ok result) }
+    {
+        PlainRef::from_buffer_unchecked(self.buffer, self.offset)
     }
 
     /// Creates the member of this tag, whose reference is at the offset in bytes.

@@ -2,4 +2,5 @@ pub mod Gear
 pub mod Load
 pub mod Crane
 pub mod Plate
+pub mod Berth
 pub mod Verified

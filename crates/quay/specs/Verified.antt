@@ -13,11 +13,12 @@ verified_whole = refl
 
 -- the tables' names by their indices
 abbrev pub table_names : List (ℕ × List ℕ)
-table_names = (0, codes "Quay") ∷ []
+table_names = (0, codes "Boat") ∷ (1, codes "Quay") ∷ []
 
 -- the fields' names by the indices of their tables and by their slots
 abbrev pub field_names : List (ℕ × ℕ × List ℕ)
-field_names = (0, 0, codes "name") ∷ (0, 1, codes "plate") ∷ (0, 2, codes "cranes") ∷ []
+field_names = (0, 0, codes "name") ∷ (1, 0, codes "name") ∷ (1, 1, codes "plate") ∷
+    (1, 2, codes "cranes") ∷ (1, 3, codes "first") ∷ (1, 5, codes "berths") ∷ []
 
 -- the names of both
 abbrev pub verified_names : NameTexts

@@ -1,12 +1,16 @@
 //! Code of a schema.
 #![tactic(auto)]
 
+mod berth;
+mod boat;
 mod crane;
 mod gear;
 mod load;
 mod plate;
 mod quay;
 
+pub use berth::{Berth, BerthRef};
+pub use boat::{Boat, BoatFields, BoatRef};
 pub use crane::Crane;
 pub use gear::Gear;
 pub use load::Load;
@@ -23,4 +27,6 @@ pub use root::{
 
 mod verified;
 
+pub use verified::berth::BerthView;
+pub use verified::boat::BoatView;
 pub use verified::quay::QuayView;

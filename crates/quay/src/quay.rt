@@ -1,18 +1,24 @@
 //! Tables `Quay`.
 
-ghost use Rattle.std.specs.Prelude.{◌≡◌, ◌∷◌, [], codes, None};
-ghost use Rattle.planus.specs.Printed.{IsPlainVector, IsTextRequired, text_kind, IsPlainField};
-ghost use Rattle.planus.specs.Printed.{judged, optional, required, plain_if, gives_as};
+ghost use Rattle.std.specs.Prelude.{◌≡◌, ◌∷◌, [], codes, MatchOption, ⊤, None};
+ghost use Rattle.planus.specs.Printed.{IsIn, AllUnionsIn, IsPlainVector, IsTextRequired};
+ghost use Rattle.planus.specs.Printed.{text_kind, IsPlainField, IsUnionField, IsUnionVector};
+ghost use Rattle.planus.specs.Printed.{ReadsVariants, judged, optional, required, plain_if, union};
+ghost use Rattle.planus.specs.Printed.{unions, gives_as};
+ghost use Rattle.quay.specs.Berth.{berth_variants};
+ghost use Rattle.quay.specs.declared.berth.Berth.{Berth};
+ghost use Rattle.quay.specs.declared.berth.BerthRef.{BerthRef};
 ghost use Rattle.quay.specs.Crane.{crane_shape};
 ghost use Rattle.quay.specs.Plate.{plate_shape};
 
+use crate::berth::{Berth, BerthRef};
 use crate::crane::Crane;
 use crate::plate::Plate;
 use planus::table_reader::Table;
 use planus::{
-    Builder, Built, Create, List, Offset, Result, SliceWithStartOffset, Stride, TableKind,
-    TableView, TableWriter, Text, Vector, create_table, fields, plain_field, plain_vector,
-    text_required,
+    Builder, Built, Create, List, Offset, OrDefault, Result, SliceWithStartOffset, Stride,
+    TableKind, TableView, TableWriter, Text, UnionOffset, UnionVector, Vector, create_table,
+    fields, plain_field, plain_vector, text_required, union_field, union_vector,
 };
 
 /// The kind of `Quay`, and of an offset to one.
@@ -24,18 +30,23 @@ pub struct QuayFields<'a> {
     pub name: &'a str,
     pub plate: Option<Plate>,
     pub cranes: Option<&'a [Crane]>,
+    pub first: Option<UnionOffset<Berth>>,
+    pub berths: &'a [UnionOffset<Berth>],
 }
 
 impl Quay {
     /// Returns the fields with these, which are required, and the others by default.
     pub fn fields<'a>(name: &'a str) -> QuayFields<'a>
         ensures given { (result.name ≡ name.entry) }
-        ensures rest { let x = result in (x.plate ≡ None) × (x.cranes ≡ None) }
+        ensures rest { let x = result in (x.plate ≡ None) × (x.cranes ≡ None) × (x.first ≡ None) ×
+            (x.berths.now ≡ []) }
     {
         QuayFields {
             name,
             plate: None,
             cranes: None,
+            first: None,
+            berths: &[],
         }
     }
 }
@@ -44,12 +55,19 @@ impl<'a> Create<QuayFields<'a>> for Quay {
     ghost lines = { λ fields.
         required text_kind 0 fields.name ∷
         optional (judged crane_shape) 2 fields.cranes ∷
+        union berth_variants 3 fields.first ∷
+        unions BerthRef 5 fields.berths ∷
         plain_if plate_shape 1 fields.plate ∷ [] };
+
+    ghost may = { λ fields builder. MatchOption fields.first ⊤ (λ x. IsIn builder x.offset) ×
+        AllUnionsIn builder fields.berths.now };
 
     fn create(builder: &mut Builder, fields: QuayFields<'a>) -> Built<Quay> {
         let lines = fields![
             0: Offset<Text> = fields.name,
             2: Offset<List<Crane>> = fields.cranes,
+            (3, 4): union Berth = fields.first,
+            (5, 6): unions Berth = OrDefault { value: fields.berths, default: () },
             1: Plate = fields.plate,
         ];
         create_table::<Quay, _>(builder, lines)
@@ -81,6 +99,21 @@ impl<'a> QuayRef<'a> {
     {
         plain_vector(&self.0, 2, "Quay", "cranes")
     }
+
+    /// Returns `first`.
+    pub fn first(&self) -> Result<Option<BerthRef<'a>>>
+        ensures { IsUnionField (ReadsVariants berth_variants) self.now.0 3 (codes "Quay")
+            (codes "first") Berth result }
+    {
+        union_field::<Berth, BerthRef<'a>>(&self.0, 3, "Quay", "first")
+    }
+
+    /// Returns `berths`.
+    pub fn berths(&self) -> Result<Option<UnionVector<'a, BerthRef<'a>>>>
+        ensures { IsUnionVector self.now.0 5 (codes "Quay") (codes "berths") result }
+    {
+        union_vector(&self.0, 5, "Quay", "berths")
+    }
 }
 
 impl<'a> TableView<'a> for QuayRef<'a> {
@@ -110,7 +143,7 @@ impl<'a> planus::VectorReadInner<'a> for QuayRef<'a> {
 }
 
 impl TableKind for Quay {
-    type Writer = TableWriter<10>;
+    type Writer = TableWriter<18>;
 
     ghost name = { codes "[QuayRef]" };
 
@@ -125,6 +158,8 @@ impl<'a> std::fmt::Debug for QuayRef<'a> {
         shown.field("name", &self.name());
         shown.field("plate", &self.plate());
         shown.field("cranes", &self.cranes());
+        shown.field("first", &self.first());
+        shown.field("berths", &self.berths());
         shown.finish()
     }
 }

@@ -1,5 +1,7 @@
 //! Verified views, and the schema as a value, by which buffers are verified.
 
+pub(crate) mod berth;
+pub(crate) mod boat;
 pub(crate) mod quay;
 
 ghost use Rattle.std.specs.Prelude.{◌≡◌};
@@ -8,9 +10,15 @@ ghost use Rattle.quay.specs.Verified.{verified_schema, verified_names};
 
 use planus_views::{
     FieldKind, FieldName, FieldShape, Names, Schema, TableName, TableShape, ValueKind, Variant,
+    VariantKind,
 };
 
-pub const FIELDS: [FieldShape; 3] = [
+pub const FIELDS: [FieldShape; 6] = [
+    FieldShape {
+        slot: 0,
+        required: true,
+        kind: FieldKind::Value(ValueKind::Text),
+    },
     FieldShape {
         slot: 0,
         required: true,
@@ -26,11 +34,45 @@ pub const FIELDS: [FieldShape; 3] = [
         required: false,
         kind: FieldKind::Value(ValueKind::Plains(56)),
     },
+    FieldShape {
+        slot: 3,
+        required: false,
+        kind: FieldKind::Union(0),
+    },
+    FieldShape {
+        slot: 5,
+        required: false,
+        kind: FieldKind::Unions(0),
+    },
 ];
 
-pub const TABLES: [TableShape; 1] = [TableShape { first: 0, count: 3 }];
+pub const TABLES: [TableShape; 2] = [
+    TableShape { first: 0, count: 1 },
+    TableShape { first: 1, count: 5 },
+];
 
-pub const VARIANTS: [Variant; 0] = [];
+pub const VARIANTS: [Variant; 4] = [
+    Variant {
+        union: 0,
+        tag: 1,
+        kind: VariantKind::Table(0),
+    },
+    Variant {
+        union: 0,
+        tag: 2,
+        kind: VariantKind::Struct(16),
+    },
+    Variant {
+        union: 0,
+        tag: 3,
+        kind: VariantKind::Struct(5),
+    },
+    Variant {
+        union: 0,
+        tag: 4,
+        kind: VariantKind::Text,
+    },
+];
 
 /// Returns the schema.
 pub(crate) fn schema() -> Schema<'static>
@@ -43,26 +85,47 @@ pub(crate) fn schema() -> Schema<'static>
     }
 }
 
-pub const TABLE_NAMES: [TableName<'static>; 1] = [TableName {
-    index: 0,
-    table: "Quay",
-}];
+pub const TABLE_NAMES: [TableName<'static>; 2] = [
+    TableName {
+        index: 0,
+        table: "Boat",
+    },
+    TableName {
+        index: 1,
+        table: "Quay",
+    },
+];
 
-pub const FIELD_NAMES: [FieldName<'static>; 3] = [
+pub const FIELD_NAMES: [FieldName<'static>; 6] = [
     FieldName {
         table: 0,
         slot: 0,
         field: "name",
     },
     FieldName {
-        table: 0,
+        table: 1,
+        slot: 0,
+        field: "name",
+    },
+    FieldName {
+        table: 1,
         slot: 1,
         field: "plate",
     },
     FieldName {
-        table: 0,
+        table: 1,
         slot: 2,
         field: "cranes",
+    },
+    FieldName {
+        table: 1,
+        slot: 3,
+        field: "first",
+    },
+    FieldName {
+        table: 1,
+        slot: 5,
+        field: "berths",
     },
 ];
 

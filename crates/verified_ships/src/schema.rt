@@ -1,6 +1,6 @@
 //! The schema, by which buffers are verified.
 
-use planus_views::{FieldKind, FieldShape, Schema, TableShape, ValueKind, Variant};
+use planus_views::{FieldKind, FieldShape, Schema, TableShape, ValueKind, Variant, VariantKind};
 
 pub const FIELDS: [FieldShape; 26] = [
     FieldShape {
@@ -162,12 +162,12 @@ pub const VARIANTS: [Variant; 2] = [
     Variant {
         union: 0,
         tag: 1,
-        table: 1,
+        kind: VariantKind::Table(1),
     },
     Variant {
         union: 0,
         tag: 2,
-        table: 2,
+        kind: VariantKind::Table(2),
     },
 ];
 

@@ -13,8 +13,8 @@ use planus_read::located::Error;
 use planus_write::{BuildError, Builder, Offset};
 
 /// Finishes a buffer with this root, and reads the root. The read never fails: the view has all
-/// contents with which its table was written, and all tables that the builder had before are in the
-/// buffer.
+/// contents with which its table was written, and all tables that the builder had before, and all
+/// values of [`create_plain`](crate::create_plain), are in the buffer.
 ///
 /// An error is that of [`Builder::finish`]. No clause says how the builder is left: a program that
 /// writes on calls that and [`read_root`].

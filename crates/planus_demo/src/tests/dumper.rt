@@ -5,7 +5,9 @@ mod schemas;
 mod steps;
 mod structs;
 
-use planus_dump::{DumpError, FieldSchema, Item, Kind, Schema, TableSchema, VariantSchema, dump};
+use planus_dump::{
+    DumpError, FieldSchema, Item, Kind, Schema, TableSchema, VariantKind, VariantSchema, dump,
+};
 use planus_testing::{Test, check, check_eq};
 use std::alloc::{AllocError, Global};
 
@@ -61,7 +63,7 @@ fn variants_of(alloc: Global, parts: &[(u8, usize)]) -> Result<Vec<VariantSchema
         variants.push(VariantSchema {
             tag: *tag,
             name: String::new(alloc),
-            table: *table,
+            kind: VariantKind::Table(*table),
         })?;
     }
     Ok(variants)

@@ -1,6 +1,6 @@
 //! A buffer with a field of each kind, by flatc 2.0.8, and its schema.
 
-use crate::{FieldKind, FieldShape, Schema, TableShape, ValueKind, Variant};
+use crate::{FieldKind, FieldShape, Schema, TableShape, ValueKind, Variant, VariantKind};
 
 // A ship Ann with a mate, two consorts, of which one has a mate, an owner, two holders and a log, a
 // nested buffer: nine tables, at most three one in the other.
@@ -123,12 +123,12 @@ const VARIANTS: [Variant; 2] = [
     Variant {
         union: 0,
         tag: 1,
-        table: 1,
+        kind: VariantKind::Table(1),
     },
     Variant {
         union: 0,
         tag: 2,
-        table: 2,
+        kind: VariantKind::Table(2),
     },
 ];
 

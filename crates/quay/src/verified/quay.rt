@@ -4,16 +4,18 @@ ghost use Rattle.planus_views.specs.Printed.{view_table};
 ghost use Rattle.quay.specs.Verified.{verified_schema};
 ghost use Rattle.quay.specs.Verified.{verified_whole};
 
+use crate::berth::Berth;
 use crate::crane::Crane;
 use crate::plate::Plate;
 use crate::quay::{Quay, QuayRef};
+use crate::verified::berth::BerthView;
 use planus::Vector;
 use planus::table_reader::Table;
 
 impl planus_views::VerifiedKind for Quay {
     ghost schema = { verified_schema };
 
-    ghost index = { 0 };
+    ghost index = { 1 };
 
     ghost whole = { verified_whole };
 
@@ -22,7 +24,7 @@ impl planus_views::VerifiedKind for Quay {
     }
 
     fn index() -> usize {
-        0
+        1
     }
 }
 
@@ -49,6 +51,8 @@ impl planus_views::Verify for Quay {
         let left = fields.value(0, true, planus_views::ValueKind::Text, left)?;
         let left = fields.value(1, false, planus_views::ValueKind::Plain(5), left)?;
         let left = fields.value(2, false, planus_views::ValueKind::Plains(56), left)?;
+        let left = fields.union::<Berth>(3, false, left)?;
+        let left = fields.unions::<Berth>(5, false, left)?;
         Some(left)
     }
 }
@@ -56,7 +60,12 @@ impl planus_views::Verify for Quay {
 impl<'a> QuayView<'a> {
     ghost use Rattle.std.specs.Prelude.{◌≡◌};
     ghost use Rattle.planus.specs.Printed.{IsPlainVector, IsTextRequired, IsPlainField};
-    ghost use Rattle.planus_views.specs.Printed.{view_table, Returns};
+    ghost use Rattle.planus.specs.Printed.{IsUnionField, IsUnionVector, ReadsVariants};
+    ghost use Rattle.planus_views.specs.Printed.{view_table, checked_unions, Returns, ReturnsAs};
+    ghost use Rattle.planus_views.specs.Printed.{checked_option, option_map};
+    ghost use Rattle.quay.specs.Berth.{berth_view_variants};
+    ghost use Rattle.quay.specs.Berth.{berth_checked};
+    ghost use Rattle.quay.specs.declared.berth.Berth.{Berth};
     ghost use Rattle.quay.specs.Plate.{plate_shape};
 
     /// Returns `name`.
@@ -78,6 +87,23 @@ impl<'a> QuayView<'a> {
         ensures { Returns (IsPlainVector (view_table self.now.0) 2) result }
     {
         self.0.plain_vector(2)
+    }
+
+    /// Returns `first`.
+    pub fn first(&self) -> Option<BerthView<'a>>
+        ensures { ReturnsAs (λ type_ method. IsUnionField (ReadsVariants berth_view_variants)
+            (view_table self.now.0) 3 type_ method Berth) (view_table self.now.0)
+            (checked_option berth_checked result) }
+    {
+        self.0.union_field(3)
+    }
+
+    /// Returns `berths`.
+    pub fn berths(&self) -> Option<planus_views::Unions<'a, BerthView<'a>>>
+        ensures { Returns (IsUnionVector (view_table self.now.0) 5)
+            (option_map (λ all. checked_unions all) result) }
+    {
+        self.0.union_vector(5)
     }
 
     /// Returns the view that tests what it reads.
@@ -103,7 +129,7 @@ impl<'a> QuayRef<'a> {
     /// Verifies this table with all that it leads to, within limits, and returns its view, whose
     /// accessors don't fail.
     pub fn verify(&self, limits: planus_views::Limits) -> Result<QuayView<'a>, planus_views::Fault>
-        ensures { VerifiesTable (λ (view : QuayView). view_table view.0) verified_schema 0 limits
+        ensures { VerifiesTable (λ (view : QuayView). view_table view.0) verified_schema 1 limits
             self.now.0 result }
     {
         planus_views::verify_table(self.0, limits)

@@ -1,5 +1,5 @@
 use Rattle.planus_dump.proofs.AsRead.{readings_are_said}
-use Rattle.planus_dump.proofs.AsReadParts.{floats_are_said, structs_are_said, buffers_are_said}
+use Rattle.planus_dump.proofs.AsReadParts.{floats_are_said, structs_are_said, led_structs_are_said, buffers_are_said}
 use Rattle.planus_dump.proofs.laws.readings_are_said.Goals as goal
 
 pub returns-clause-values : goal.returns-clause-values
@@ -10,6 +10,9 @@ returns-clause-floats c = floats_are_said
 
 pub returns-clause-structs : goal.returns-clause-structs
 returns-clause-structs c = structs_are_said
+
+pub returns-clause-led : goal.returns-clause-led
+returns-clause-led c = led_structs_are_said
 
 pub returns-clause-buffers : goal.returns-clause-buffers
 returns-clause-buffers c = buffers_are_said

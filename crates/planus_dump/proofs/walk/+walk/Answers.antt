@@ -12,7 +12,7 @@ use Rattle.planus_dump.specs.declared.schemas.Kind.TheVariants.{Union, UnionVect
 use Rattle.planus_dump.specs.Lines.{table_line, list_line, unions_line, union_line, field_path, item_path}
 use Rattle.planus_dump.specs.Tests.{fault_text}
 use Rattle.planus_dump.specs.Answers.{table_at, vector_at}
-use Rattle.planus_dump.specs.Events.{TableEvents, place_events, events, line, shape_events, item_events, items_events, union_events, union_items_events, unions_events, list_events, kind_events, fields_events, table_events, variant_of, fault_event, stride_of, field_label}
+use Rattle.planus_dump.specs.Events.{TableEvents, place_events, events, line, shape_events, item_events, items_events, member_events, union_events, union_items_events, unions_events, list_events, kind_events, fields_events, table_events, variant_of, fault_event, stride_of, field_label}
 use Rattle.planus_dump.specs.ReadingViews.{unions_seen, table_seen}
 use Rattle.planus_dump.proofs.Fed.{fed_as, fed_none, fed_then, fed_broken, goes_begin, goes_on, goes_stopped, goes_fails, goes_broken}
 use Rattle.planus_dump.proofs.Feeds.{union_known, events-more, events-none, items-split, union_items-split, fields-split, found-at, tagged-at, union_unknown, list-read}
@@ -189,7 +189,7 @@ dump_union-returns-in-None g t c = λ es same.
     let S = place_bytes (tagged_place c.args.tagged) in let f = place_offset (tagged_place c.args.tagged) in let path = c.args.path.now in
     let none : slice_get schema.unions.items index ≡ None = slice_get_past schema.unions.items index
     (subst (λ xs. length xs ≤ index) c.deref.ensures.value (ltb-false index (length c.deref.result.now) (sym c.in-None.ensures.lookup.0))) in
-    fed_none g.L.Lines.takes g.L.Lines.breaks c.args.out.now es (same ∙ ap (λ o. union_events E o (tagged_tag c.args.tagged) S f path) none)
+    fed_none g.L.Lines.takes g.L.Lines.breaks c.args.out.now es (same ∙ ap (λ o. union_events E schema o (tagged_tag c.args.tagged) S f path) none)
 
 pub dump_union-returns-in_err-put_union-in-Some-variant_with : goal.dump_union-returns-in_err-put_union-in-Some-variant_with
 dump_union-returns-in_err-put_union-in-Some-variant_with g t c = λ es same.
@@ -201,13 +201,13 @@ dump_union-returns-in_err-put_union-in-Some-variant_with g t c = λ es same.
     let variant = c.in-Some-variant_with.variant.now in
     let is : variant_of variants.items tag ≡ Some variant
     = sym (c.in-Some-variant_with.ensures ∙ ap (λ xs. variant_of xs c.tag-tag.result) c.as_slice.ensures.value ∙ ap (variant_of variants.items) c.tag-tag.ensures) in
-    let first = line (union_line path tag (string_bytes variant.name)) ∷ [] in let rest = E variant.table S f path in
+    let first = line (union_line path tag (string_bytes variant.name)) ∷ [] in let rest = member_events E schema variant.kind S f path in
     let named : first ≡ line (union_line path c.tag-tag.result c.as_str.result.now) ∷ []
     = ap (λ name. line (union_line path tag name) ∷ []) (sym c.as_str.ensures.value) ∙ ap (λ k. line (union_line path k c.as_str.result.now) ∷ []) (sym c.tag-tag.ensures) in
     let r = c.from_residual.result in
     fed_as takes breaks c.args.out.now c.put_union.new.self (first ++ rest) es r
     (fed_broken takes breaks c.args.out.now c.put_union.new.self first rest _ r (c.in_err-put_union-in-Some-variant_with.ensures first named) c.from_residual.ensures.0)
-    (same ∙ union_known E (slice_get schema.unions.items index) variants variant tag S f path some is)
+    (same ∙ union_known E schema (slice_get schema.unions.items index) variants variant tag S f path some is)
 
 pub dump_union-returns-in_ok-put_union-in-Some-variant_with : goal.dump_union-returns-in_ok-put_union-in-Some-variant_with
 dump_union-returns-in_ok-put_union-in-Some-variant_with g t c = λ es same.
@@ -219,14 +219,14 @@ dump_union-returns-in_ok-put_union-in-Some-variant_with g t c = λ es same.
     let variant = c.in-Some-variant_with.variant.now in
     let is : variant_of variants.items tag ≡ Some variant
     = sym (c.in-Some-variant_with.ensures ∙ ap (λ xs. variant_of xs c.tag-tag.result) c.as_slice.ensures.value ∙ ap (variant_of variants.items) c.tag-tag.ensures) in
-    let first = line (union_line path tag (string_bytes variant.name)) ∷ [] in let rest = E variant.table S f path in
+    let first = line (union_line path tag (string_bytes variant.name)) ∷ [] in let rest = member_events E schema variant.kind S f path in
     let named : first ≡ line (union_line path c.tag-tag.result c.as_str.result.now) ∷ []
     = ap (λ name. line (union_line path tag name) ∷ []) (sym c.as_str.ensures.value) ∙ ap (λ k. line (union_line path k c.as_str.result.now) ∷ []) (sym c.tag-tag.ensures) in
-    let r = c.dump_table.result in
-    fed_as takes breaks c.args.out.now c.dump_table.new.out (first ++ rest) es r
-    (fed_then takes breaks c.args.out.now c.put_union.new.self c.dump_table.new.out first rest r (c.in_ok-put_union-in-Some-variant_with.ensures first named)
-    (c.dump_table.ensures rest (ap (λ place. E variant.table (place_bytes place) (place_offset place) path) (sym c.place.ensures))))
-    (same ∙ union_known E (slice_get schema.unions.items index) variants variant tag S f path some is)
+    let r = c.dump_member.result in
+    fed_as takes breaks c.args.out.now c.dump_member.new.out (first ++ rest) es r
+    (fed_then takes breaks c.args.out.now c.put_union.new.self c.dump_member.new.out first rest r (c.in_ok-put_union-in-Some-variant_with.ensures first named)
+    (c.dump_member.ensures rest (ap (λ place. member_events E schema variant.kind (place_bytes place) (place_offset place) path) (sym c.place.ensures))))
+    (same ∙ union_known E schema (slice_get schema.unions.items index) variants variant tag S f path some is)
 
 pub dump_union-returns-in-None-variant_with : goal.dump_union-returns-in-None-variant_with
 dump_union-returns-in-None-variant_with g t c = λ es same.
@@ -237,7 +237,7 @@ dump_union-returns-in-None-variant_with g t c = λ es same.
     (slice_get_read c.deref.result.now (length c.deref.result.now) index variants refl (ltb-true index (length c.deref.result.now) (sym c.in-Some.ensures.lookup.0)) c.in-Some.ensures.lookup.1) in
     let none : variant_of variants.items tag ≡ None = sym (c.in-None-variant_with.ensures ∙ ap (λ xs. variant_of xs c.tag-tag.result) c.as_slice.ensures.value ∙ ap (variant_of variants.items) c.tag-tag.ensures) in
     c.put_fault.ensures es
-    (same ∙ union_unknown E (slice_get schema.unions.items index) variants tag S f path some none ∙ ap (λ k. fault_event path (fault_text (UnknownUnionTag k)) ∷ []) (sym c.tag-tag.ensures))
+    (same ∙ union_unknown E schema (slice_get schema.unions.items index) variants tag S f path some none ∙ ap (λ k. fault_event path (fault_text (UnknownUnionTag k)) ∷ []) (sym c.tag-tag.ensures))
 
 pub dump_unions-returns-in_err-put_unions : goal.dump_unions-returns-in_err-put_unions
 dump_unions-returns-in_err-put_unions g t c = λ es same.
@@ -286,12 +286,12 @@ dump_unions-returns-in_err-dump_union g t c = λ es same.
     let o = slice_get schema.unions.items index in let n = c.len-count.result in let i = c.loop-i.i-counter in
     let all = unions_events E schema false index path (Ok (Some seen)) in
     let rest = union_items_events E schema index seen path (n - i) i in
-    let next = union_events E o (slice_index seen.tags i) seen.references (i * 4) (item_path path i) in
+    let next = union_events E schema o (slice_index seen.tags i) seen.references (i * 4) (item_path path i) in
     let after = union_items_events E schema index seen path (n - (i + 1)) (i + 1) in
     let r = c.from_residual-in_err-dump_union.result in
     fed_as takes breaks c.args.out.now c.dump_union.new.out all es r
     (goes_broken takes breaks c.args.out.now c.loop-i.out c.dump_union.new.out all rest next after _ r c.loop-i.invariant (union_items-split E schema index seen path n i (omega arith))
-    (c.in_err-dump_union.ensures next (tagged-at E o seen i path c.as_str.result.now c.in-Some.tagged c.in-Some.ensures.1 (c.as_str.ensures.value ∙ c.in_ok-path.ensures.ok)))
+    (c.in_err-dump_union.ensures next (tagged-at E schema o seen i path c.as_str.result.now c.in-Some.tagged c.in-Some.ensures.1 (c.as_str.ensures.value ∙ c.in_ok-path.ensures.ok)))
     c.from_residual-in_err-dump_union.ensures.0) same
 
 pub dump_unions-loop-i-preserved : goal.dump_unions-loop-i-preserved
@@ -301,7 +301,7 @@ dump_unions-loop-i-preserved g t c =
     let o = slice_get schema.unions.items index in let n = c.len-count.result in let i = c.loop-i.i-counter in
     let all = unions_events E schema false index path (Ok (Some seen)) in
     let rest = union_items_events E schema index seen path (n - i) i in
-    let next = union_events E o (slice_index seen.tags i) seen.references (i * 4) (item_path path i) in
+    let next = union_events E schema o (slice_index seen.tags i) seen.references (i * 4) (item_path path i) in
     let after = union_items_events E schema index seen path (n - (i + 1)) (i + 1) in
     goes_on takes breaks c.args.out.now c.loop-i.out c.dump_union.new.out all rest next after c.loop-i.invariant (union_items-split E schema index seen path n i (omega arith))
-    (c.in_ok-dump_union.ensures next (tagged-at E o seen i path c.as_str.result.now c.in-Some.tagged c.in-Some.ensures.1 (c.as_str.ensures.value ∙ c.in_ok-path.ensures.ok)))
+    (c.in_ok-dump_union.ensures next (tagged-at E schema o seen i path c.as_str.result.now c.in-Some.tagged c.in-Some.ensures.1 (c.as_str.ensures.value ∙ c.in_ok-path.ensures.ok)))

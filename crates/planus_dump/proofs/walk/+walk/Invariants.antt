@@ -15,13 +15,16 @@ abbrev pub decreases-dump_found : goal.decreases-dump_found
 decreases-dump_found g l = 8 * l.left + 1
 
 abbrev pub decreases-dump_union : goal.decreases-dump_union
-decreases-dump_union g l = 8 * l.left + 1
+decreases-dump_union g l = 8 * l.left + 3
+
+abbrev pub decreases-dump_member : goal.decreases-dump_member
+decreases-dump_member g l = 8 * l.left + 2
 
 abbrev pub decreases-dump_items : goal.decreases-dump_items
 decreases-dump_items g l = 8 * l.left + 3
 
 abbrev pub decreases-dump_unions : goal.decreases-dump_unions
-decreases-dump_unions g l = 8 * l.left + 3
+decreases-dump_unions g l = 8 * l.left + 4
 
 abbrev pub decreases-dump_nested : goal.decreases-dump_nested
 decreases-dump_nested g l = 8 * l.left + 1

@@ -15,6 +15,7 @@ use Rattle.planus_verify.specs.Steps.{items_from}
 use Rattle.planus_verify.specs.declared.fault.Fault.TheVariants as fault
 use Rattle.planus_verify.specs.declared.schema.ValueKind.TheVariants as value
 use Rattle.planus_verify.specs.declared.schema.FieldKind.TheVariants as kind
+use Rattle.planus_verify.specs.declared.schema.VariantKind.TheVariants as variant
 use Rattle.planus_verify.proofs.Fields.{place_of}
 use Rattle.planus_verify.proofs.FieldReadings.{of_kind, value_read, value_absent, item_read}
 use Rattle.planus_verify.proofs.FieldSearches.{absent_passed, plain_passed, text_passed}
@@ -204,7 +205,7 @@ pub search_tables-loop-i-init : goal.search_tables-loop-i-init
 search_tables-loop-i-init t c =
     let items = view_of c.in-Ok.items in
     items_begin (shapes c.args.search.now.schema) (ends_of (shapes c.args.search.now.schema) c.args.search.now.sought) c.args.depth items.count
-    (λ i. place_faults c.args.place (Some i)) (λ i. Some c.args.index) items.bytes items.start
+    (λ i. place_faults c.args.place (Some i)) (λ i. Some (variant.Table c.args.index)) items.bytes items.start
     c.args.before
 
 pub search_tables-returns-in_err-left : goal.search_tables-returns-in_err-left
@@ -217,7 +218,8 @@ search_tables-returns-in_err-left t c =
     let items = view_of c.in-Ok.items in
     let here = item_read
     (λ steps. SearchesSteps schema to c.args.depth steps c.loop-i.left (Err end)) c.args.place
-    c.at.result c.loop-i.i _ items.bytes _ items.start _ (c.loop-i.i * 4) (Some c.args.index)
+    c.at.result c.loop-i.i _ items.bytes _ items.start _ (c.loop-i.i * 4)
+    (Some (variant.Table c.args.index))
     c.at.ensures c.get_unchecked-at.ensures.bytes c.get_unchecked-at.ensures.begin
     c.get_unchecked-at.ensures.offset c.in_err-left.ensures in
     vector_searched schema to c.args.depth c.args.before c.args.place c.args.index
@@ -225,10 +227,10 @@ search_tables-returns-in_err-left t c =
     c.in-Ok.ensures
     (subst
     (SearchesSteps schema to c.args.depth (items_from 0 items.count
-    (item_steps (λ i. place_faults c.args.place (Some i)) (λ i. Some c.args.index) items.bytes
+    (item_steps (λ i. place_faults c.args.place (Some i)) (λ i. Some (variant.Table c.args.index)) items.bytes
     items.start)) c.args.before) (sym same)
     (item_stops schema to c.args.depth items.count (λ i. place_faults c.args.place (Some i))
-    (λ i. Some c.args.index) items.bytes items.start c.loop-i.i c.args.before c.loop-i.left end
+    (λ i. Some (variant.Table c.args.index)) items.bytes items.start c.loop-i.i c.args.before c.loop-i.left end
     (search rules) c.loop-i.invariant here))
 
 pub search_tables-loop-i-preserved : goal.search_tables-loop-i-preserved
@@ -238,11 +240,12 @@ search_tables-loop-i-preserved t c =
     let items = view_of c.in-Ok.items in
     let next = c.in_ok-left.left in
     item_passes schema to c.args.depth items.count (λ i. place_faults c.args.place (Some i))
-    (λ i. Some c.args.index) items.bytes items.start c.loop-i.i c.args.before c.loop-i.left next
+    (λ i. Some (variant.Table c.args.index)) items.bytes items.start c.loop-i.i c.args.before c.loop-i.left next
     (search rules) c.loop-i.invariant
     (item_read
     (λ steps. SearchesSteps schema to c.args.depth steps c.loop-i.left (Ok next)) c.args.place
-    c.at.result c.loop-i.i _ items.bytes _ items.start _ (c.loop-i.i * 4) (Some c.args.index)
+    c.at.result c.loop-i.i _ items.bytes _ items.start _ (c.loop-i.i * 4)
+    (Some (variant.Table c.args.index))
     c.at.ensures c.get_unchecked-at.ensures.bytes c.get_unchecked-at.ensures.begin
     c.get_unchecked-at.ensures.offset c.in_ok-left.ensures)
 
@@ -255,7 +258,7 @@ search_tables-returns t c =
     (slice_bytes c.args.buffer) (slice_start c.args.buffer) c.args.offset items
     (Ok c.loop-i.left) c.in-Ok.ensures
     (items_end schema to c.args.depth items.count (λ i. place_faults c.args.place (Some i))
-    (λ i. Some c.args.index) items.bytes items.start c.loop-i.i c.args.before c.loop-i.left
+    (λ i. Some (variant.Table c.args.index)) items.bytes items.start c.loop-i.i c.args.before c.loop-i.left
     (search rules) c.loop-i.invariant)
 
 pub search_union-returns-in-Ok-Some : goal.search_union-returns-in-Ok-Some
@@ -470,18 +473,19 @@ search_value-returns-in-Nested t c =
     c.args.left c.search_nested.result) _ _ _ _ _ _ at.bytes at.begin at.offset
     c.search_nested.ensures)
 
-pub search_variant-returns-in-Some : goal.search_variant-returns-in-Some
-search_variant-returns-in-Some t c =
+pub search_variant-returns-in-Some-Table : goal.search_variant-returns-in-Some-Table
+search_variant-returns-in-Some-Table t c =
     let schema = shapes c.args.search.now.schema in
     let to = (ends_of (shapes c.args.search.now.schema) c.args.search.now.sought) in
     let tagged = c.args.tagged in
-    let known = sym c.in-Some.is ∙ (c.variant_table.ensures
+    let known = sym c.in-Some-Table.is ∙ (c.variant_kind.ensures
     ∙ ap (variant_in schema.variants c.args.union) c.tag.ensures) in
     subst
     (λ o. SearchesSteps schema to c.args.depth (variant_steps (fault.Field c.args.place) o
     (place_bytes (tagged_place tagged)) (place_start (tagged_place tagged))
-    (place_offset (tagged_place tagged))) c.args.left c.search_reference.result) known
+    (place_offset (tagged_place tagged))) c.args.left c.search_reference.result)
+    (ap (λ k. Some k) (sym c.in-Some-Table.field-0-is) ∙ known)
     (subst
     (λ p. SearchesSteps schema to c.args.depth (reference_steps (fault.Field c.args.place)
-    c.in-Some.index (place_bytes p) (place_start p) (place_offset p)) c.args.left
+    c.in-Some-Table.index (place_bytes p) (place_start p) (place_offset p)) c.args.left
     c.search_reference.result) c.place.ensures c.search_reference.ensures)

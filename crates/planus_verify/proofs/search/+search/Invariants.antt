@@ -5,6 +5,7 @@ use Rattle.planus_view.specs.UnionVectorView.{view_of as unions_of}
 use Rattle.planus_verify.specs.Schemas.{shapes, variant_in}
 use Rattle.planus_verify.specs.Soughts.{ends_of}
 use Rattle.planus_verify.specs.Steps.{place_faults}
+use Rattle.planus_verify.specs.declared.schema.VariantKind.TheVariants as variant
 use Rattle.planus_verify.proofs.Searches.{FieldsSoFar, ItemsSoFar}
 use Rattle.planus_verify.proofs.search.+search.Given as goal
 
@@ -16,7 +17,7 @@ invariant-search_fields-loop-field l =
 abbrev pub invariant-search_tables-loop-i : goal.invariant-search_tables-loop-i
 invariant-search_tables-loop-i l =
     ItemsSoFar (shapes l.search.schema) (ends_of (shapes l.search.schema) l.search.sought) l.depth (count_of l.items)
-    (λ i. place_faults l.place (Some i)) (λ i. Some l.index) (view_of l.items).bytes
+    (λ i. place_faults l.place (Some i)) (λ i. Some (variant.Table l.index)) (view_of l.items).bytes
     (view_of l.items).start l.i l.before l.left
 
 abbrev pub invariant-search_unions-loop-i : goal.invariant-search_unions-loop-i

@@ -9,7 +9,7 @@ use Rattle.planus_view.specs.UnionVectorView.{view_of as unions_of}
 use Rattle.planus_verify.specs.Schemas.{shapes, variant_in}
 use Rattle.planus_verify.specs.Steps.{reference_steps, variant_steps, value_steps, text_steps}
 use Rattle.planus_verify.specs.Steps.{place_faults, fields_steps}
-use Rattle.planus_verify.specs.Walks.{Walks, InOrder}
+use Rattle.planus_verify.specs.Walks.{NoTable, Walks, InOrder}
 use Rattle.planus_verify.specs.declared.fault.Fault.TheVariants as fault
 use Rattle.planus_verify.specs.declared.schema.ValueKind.TheVariants as value
 use Rattle.planus_verify.proofs.Fields.{value_field, union_field, unions_field}
@@ -314,17 +314,33 @@ verify_value-returns-in-Nested t c =
     (value.Nested c.in-Nested.index) S start f) c.args.left c.verify_nested.result) _ _ _ _ _ _
     at.bytes at.begin at.offset c.verify_nested.ensures)
 
-pub verify_variant-returns-in-Some : goal.verify_variant-returns-in-Some
-verify_variant-returns-in-Some t c =
+pub verify_variant-returns-in-Some-Table : goal.verify_variant-returns-in-Some-Table
+verify_variant-returns-in-Some-Table t c =
     let W = Walks (shapes c.args.schema.now) c.args.depth in
     let tagged = c.args.tagged in
     let variants = c.args.schema.now.variants.now in
-    let known = sym c.in-Some.is ∙ (c.variant_table.ensures
+    let known = sym c.in-Some-Table.is ∙ (c.variant_kind.ensures
     ∙ ap (variant_in variants c.args.union) c.tag.ensures) in
     subst (λ o. InOrder W (variant_steps (fault.Field c.args.place) o
     (place_bytes (tagged_place tagged)) (place_start (tagged_place tagged))
     (place_offset (tagged_place tagged))) c.args.left c.verify_reference.result)
-    known
-    (subst (λ p. InOrder W (reference_steps (fault.Field c.args.place) c.in-Some.index
+    (ap (λ k. Some k) (sym c.in-Some-Table.field-0-is) ∙ known)
+    (subst (λ p. InOrder W (reference_steps (fault.Field c.args.place) c.in-Some-Table.index
     (place_bytes p) (place_start p) (place_offset p)) c.args.left c.verify_reference.result)
-    c.place.ensures c.verify_reference.ensures)
+    c.place-at.ensures c.verify_reference.ensures)
+
+pub verify_variant-returns-in-Some-Text : goal.verify_variant-returns-in-Some-Text
+verify_variant-returns-in-Some-Text t c =
+    let W = Walks (shapes c.args.schema.now) c.args.depth in
+    let tagged = c.args.tagged in
+    let variants = c.args.schema.now.variants.now in
+    let known = sym c.in-Some-Text.is ∙ (c.variant_kind.ensures
+    ∙ ap (variant_in variants c.args.union) c.tag.ensures) in
+    subst (λ o. InOrder W (variant_steps (fault.Field c.args.place) o
+    (place_bytes (tagged_place tagged)) (place_start (tagged_place tagged))
+    (place_offset (tagged_place tagged))) c.args.left c.verify_text.result)
+    (ap (λ k. Some k) (sym c.in-Some-Text.field-0-is) ∙ known)
+    (no_tables W (text_steps (fault.Field c.args.place) (place_bytes (tagged_place tagged))
+    (place_offset (tagged_place tagged))) c.args.left c.verify_text.result
+    (subst (λ p. InOrder NoTable (text_steps (fault.Field c.args.place) (place_bytes p)
+    (place_offset p)) c.args.left c.verify_text.result) c.place-at.ensures c.verify_text.ensures))

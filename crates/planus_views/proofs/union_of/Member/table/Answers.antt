@@ -4,17 +4,18 @@ use Rattle.planus.specs.Views.{reads_as}
 use Rattle.planus.proofs.Accessors.{the_table}
 use Rattle.planus_verify.specs.Schemas.{Shapes}
 use Rattle.planus_verify.specs.Verified.{IsVerified}
+use Rattle.planus_verify.specs.declared.schema.VariantKind.TheVariants as variant
 use Rattle.planus_views.proofs.Fields.{table_reached}
 use Rattle.planus_views.proofs.Merely.{table_had}
-use Rattle.planus_views.proofs.UnionFacts.{member_table}
+use Rattle.planus_views.proofs.UnionFacts.{member_holds}
 use Rattle.planus_views.specs.Members.{member_tag, member_bytes, member_start, member_offset}
 use Rattle.planus_views.proofs.union_of.Member.table.Goals as goal
 
 pub from_buffer_unchecked-table-requires : goal.from_buffer_unchecked-table-requires
 from_buffer_unchecked-table-requires g c =
     table_had _ _ (∥∥₁_map
-    (member_table g.O.UnionKind.schema g.O.UnionKind.union (member_tag c.args.self.now) c.args.tag
-    g.V.Kind.VerifiedKind.index (member_start c.args.self.now) (member_bytes c.args.self.now)
+    (member_holds g.O.UnionKind.schema g.O.UnionKind.union (member_tag c.args.self.now) c.args.tag
+    (variant.Table g.V.Kind.VerifiedKind.index) (member_start c.args.self.now) (member_bytes c.args.self.now)
     (member_offset c.args.self.now)
     c.requires.tag c.requires.variant c.requires.verified) (λ h. h.1.0))
 
@@ -23,8 +24,8 @@ of_verified-requires g c = λ k. (
   (refl, tt),
   subst (λ (s : Shapes). IsVerified s g.V.Kind.VerifiedKind.index c.from_buffer_unchecked-table.result) (sym c.requires.same)
       (∥∥₁_map
-      (member_table g.O.UnionKind.schema g.O.UnionKind.union (member_tag c.args.self.now) c.args.tag
-      g.V.Kind.VerifiedKind.index (member_start c.args.self.now) (member_bytes c.args.self.now)
+      (member_holds g.O.UnionKind.schema g.O.UnionKind.union (member_tag c.args.self.now) c.args.tag
+      (variant.Table g.V.Kind.VerifiedKind.index) (member_start c.args.self.now) (member_bytes c.args.self.now)
       (member_offset c.args.self.now)
       c.requires.tag c.requires.variant c.requires.verified)
       (λ h. (

@@ -6,7 +6,7 @@ use Rattle.planus_read.specs.Reading.{items_at, count_at, union_vector_clauses}
 use Rattle.planus_read.specs.Slices.{slice_bytes, slice_start}
 use Rattle.planus_read.proofs.Reading.{union_vector_there}
 use Rattle.planus_verify.specs.Schemas.{Shapes, variant_in}
-use Rattle.planus_views.specs.Fields.{IsMember, TableHolds, UnionsHold}
+use Rattle.planus_views.specs.Fields.{IsMember, VariantHolds, UnionsHold}
 use Rattle.planus_views.proofs.Merely.{unions_had}
 use Rattle.planus_views.proofs.unions.Unions.from_buffer_unchecked.Goals as goal
 
@@ -35,11 +35,11 @@ member_held schema u start f g begin n i S T R tags references begins count hold
     ∥∥₁_map hold
     (λ h. (
       h.0,
-      subst (λ l. IfSome (variant_in schema.variants u (slice_index l i)) (λ t. TableHolds schema h.0 t begin R (i * 4)))
+      subst (λ l. IfSome (variant_in schema.variants u (slice_index l i)) (VariantHolds schema h.0 begin R (i * 4)))
           (sym tags)
-          (subst (λ l. IfSome (variant_in schema.variants u (slice_index (drop (items_at S f) S) i)) (λ t. TableHolds schema h.0 t begin l (i * 4)))
+          (subst (λ l. IfSome (variant_in schema.variants u (slice_index (drop (items_at S f) S) i)) (VariantHolds schema h.0 begin l (i * 4)))
           (sym references)
-          (subst (λ k. IfSome (variant_in schema.variants u (slice_index (drop (items_at S f) S) i)) (λ t. TableHolds schema h.0 t k (drop (items_at S g) S) (i * 4)))
+          (subst (λ k. IfSome (variant_in schema.variants u (slice_index (drop (items_at S f) S) i)) (VariantHolds schema h.0 k (drop (items_at S g) S) (i * 4)))
           (sym begins) (h.1.1 i (subst (λ m. i < m) count below)))),
     ))
 
