@@ -60,6 +60,9 @@ class Record:
         simple = {"f32": ("1.5", "1.5"), "f64": ("1.5", "1.5"), "bool": ("true", "true"), "&'a str": ('"first"', '"first"')}
         if type_ in simple:
             return simple[type_]
+        if found := re.fullmatch(r"\[(.+); (\d+)\]", type_):
+            one, shown = self.value(found[1])
+            return f"[{one}; {found[2]}]", f"[{', '.join([shown] * int(found[2]))}]"
         if found := re.fullmatch(r"Offset<(\w+)>", type_):
             return self.table(found[1]), None
         if found := re.fullmatch(r"UnionOffset<(\w+)>", type_):
@@ -99,12 +102,28 @@ class Record:
         self.before.append("\n".join([f"    let {offset} = {table}Fields {{", *lines, "    };", f"    let {offset} = {table}::create(builder, {offset})?;"]))
         return offset
 
+    def part(self, call):
+        """Writes a value before, and returns the name of its offset."""
+        self.parts += 1
+        self.before.append(f"    let part_{self.parts} = {call}?;")
+        return f"part_{self.parts}"
+
+    def member(self, kind, type_):
+        """Writes a member of a union before, and returns the name of its offset."""
+        if kind == "table":
+            return self.table(type_)
+        if kind == "text":
+            return self.part('builder.create_string("first")')
+        value = self.plain(type_)[0]
+        self.lists.add("create_plain")
+        return self.part(f"create_plain(builder, &{value})")
+
     def union(self, union):
-        """Returns the first variant of a union, whose table is written before."""
+        """Returns the first variant of a union, whose value is written before."""
         for text in files.values():
-            if found := re.search(rf"pub fn (from_\w+)\(table: Offset<(\w+)>\) -> UnionOffset<{union}>", text):
+            if found := re.search(rf"pub fn (from_\w+)\(\s*(\w+): Offset<(\w+)>,?\s*\) -> UnionOffset<{union}>", text):
                 self.used.add(union)
-                return f"{union}::{found[1]}({self.table(found[2])})"
+                return f"{union}::{found[1]}({self.member(found[2], found[3])})"
         raise Missing(union)
 
 
