@@ -12,7 +12,7 @@
 # Needs `rt`, python3 (which rt needs too), and `planus`, which it builds by install.sh, or takes from PLANUS.
 set -eu
 
-RUNTIME="planus_back planus_read planus_view planus_unions planus_verify planus_write planus_fields planus planus_views"
+RUNTIME="planus_back planus_read planus_view planus_unions planus_verify planus_write planus_fields planus planus_views planus_keys"
 fail() {
     echo "new.sh: $1" >&2
     exit 2

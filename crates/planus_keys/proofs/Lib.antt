@@ -1,0 +1,2 @@
+pub mod Searched
+pub mod Rising

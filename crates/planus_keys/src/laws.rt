@@ -1,0 +1,9 @@
+//! Laws of look-up by key. Each function is a theorem.
+
+ghost use Rattle.planus_keys.specs.Finds.{RisingKeysPartition};
+
+/// Where keys rise, those below a key come first, and those above it last: numbers, and strings by
+/// their bytes.
+pub fn rising_keys_partition<K: Ord>()
+    ensures { RisingKeysPartition K.cmp }
+{}
