@@ -220,6 +220,11 @@ static vector<Table> tables(const vector<Lib> &libs) {
   vector<Row> verified;
   for (auto &k : kinds) r(verified, k.name, k.key, double(k.count), k.buffers, k.buffers->size() / k.count);
 
+  vector<Row> structs;
+  auto rows = keep(noise(64 * COUNT));
+  r(structs, "s1 reading: 27 values in 64 bytes", "read", COUNT, rows, 64);
+  structs.push_back(writing("s2 reading and writing by itself, 1000", "write", 1000, 0, keep(noise(64 * 1000)), 64));
+
   auto sides = all_of(libs);
   string first = libs[0].name;
   return {
@@ -227,6 +232,10 @@ static vector<Table> tables(const vector<Lib> &libs) {
       {{"Writing, caches on", "operation", sides}, on},
       {{"Reading untrusted bytes (Google: without tests)", "buffer", sides}, reads},
       {{"Vectors of untrusted bytes (Google: without tests)", "item", sides}, vectors},
+      {{"Structs with arrays",
+        "struct",
+        {{"arrays", first, "bench_arrays_"}, {"single fields", first, "bench_singles_"}}},
+       structs},
       {{"Verified reading",
         "buffer",
         {{"verified", first, "bench_verified_"}, {"checked", first, "bench_checked_"}, {"google, no tests", "google", "bench_read_"}}},
