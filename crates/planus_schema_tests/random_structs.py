@@ -4,8 +4,9 @@
     random_structs.py PROGRAM [COUNT [SEED]]
 
 Of COUNT structs (2000, if none is given) some fields are arrays, of scalars, enums and the structs
-before. Each stands in a table and twice in a vector, so that places and sizes have to be flatc's,
-version 2.0.8 of which has to be on the path. Prints the first difference.
+before. Each stands in a table, twice in a vector, and by itself in a vector of unions, among strings
+and tables, so that places and sizes have to be flatc's, version 2.0.8 of which has to be on the path.
+Prints the first difference.
 """
 
 import json
@@ -56,7 +57,26 @@ class Structs:
                      for field, kind, count in fields]
             lines.append(f"struct {name} {{ {' '.join(types)} }}")
         own = " ".join(f"one_{name.lower()}: {name}; two_{name.lower()}: [{name}];" for name in self.structs)
-        return "\n".join([*lines, f"table T {{ {own} }}", "root_type T;", ""])
+        lines += ["table A { n: int = 1; }", f"union Each {{ A, word: string, {', '.join(self.structs)} }}"]
+        return "\n".join([*lines, f"table T {{ {own} each: [Each]; }}", "root_type T;", ""])
+
+    def members(self):
+        """Members of the union in any order, each with its tag and its value."""
+        all_of = [("A", 1, {"n": 2}), ("word", 2, "word"), ("word", 2, "")]
+        all_of += [(name, 3 + i, self.value(name)) for i, name in enumerate(self.structs)]
+        self.chance.shuffle(all_of)
+        return all_of
+
+    def member_lines(self, path, name, tag, value):
+        """The lines of a view of a member."""
+        yield f"{path}: union {tag} ({name})"
+        if name == "A":
+            yield f"{path}: table A"
+            yield f"{path}.n = {value['n']}"
+        elif name == "word":
+            yield f'{path} = "{value}"'
+        else:
+            yield from self.lines(path, name, value)
 
     def value(self, kind):
         if kind in ENUMS:
@@ -107,6 +127,12 @@ def differs(program, folder, chance):
         wanted.append(f"root.{two}: list 2")
         for i, item in enumerate(value[two]):
             wanted += structs.lines(f"root.{two}[{i}]", name, item)
+    members = structs.members()
+    value["each_type"] = [name for name, _, _ in members]
+    value["each"] = [held for _, _, held in members]
+    wanted.append(f"root.each: unions {len(members)}")
+    for i, (name, tag, held) in enumerate(members):
+        wanted += structs.member_lines(f"root.each[{i}]", name, tag, held)
     said = view(program, folder, structs, value)
     lines = said.stdout.splitlines()
     if said.returncode == 0 and lines == wanted:
