@@ -18,7 +18,7 @@ use Rattle.planus.specs.ReadPlain.{IsPlainFieldOr}
 use Rattle.planus.specs.ReadBack.{SlotHolds, TableHolds, content_at, is_other, are_apart}
 use Rattle.planus.specs.FieldLines.{FieldLine, holds_first, holds_last, all_first, all_last}
 use Rattle.planus.specs.FieldLines.{contents_of, Returns, ReturnsGiven, AllReturnGiven}
-use Rattle.planus.specs.KeptPlains.{KeptPlainsStandIn}
+use Rattle.planus.specs.KeptValues.{ValuesStandIn}
 use Rattle.planus.specs.FieldLines.{KeptTablesStandIn, RootIsRead, ReadsBack}
 use Rattle.planus.specs.FieldLines.FieldLine.{optional, required, plain_if, plain_or, number_or, signed_or, union, union_required, unions, unions_required}
 
@@ -122,14 +122,14 @@ module _ (B : List ℕ) (table : Table) where
 
 -- Where the table holds what the lines say, each method returns what was given.
 pub reads_back : (builder : State) (lines : List FieldLine) (B : List ℕ) (table : Table)
-    → KeptTablesStandIn B builder → KeptPlainsStandIn B builder → TableHolds B (contents_of lines) table
+    → KeptTablesStandIn B builder → ValuesStandIn B builder → TableHolds B (contents_of lines) table
     → are_apart (contents_of lines) ≡ true → ReadsBack builder lines table
-reads_back builder lines B table keeps keeps_plains holds apart =
+reads_back builder lines B table keeps keeps_values holds apart =
     let hold = all_hold B table (content_at (contents_of lines)) (contents_of lines) holds
     (agree (contents_of lines) apart) in record {
       bytes = B;
       keeps = keeps;
-      keeps_plains = keeps_plains;
+      keeps_values = keeps_values;
       holds = holds;
       returns = all_given_back B table lines (first_hold B table (all_first lines) (all_last lines) hold)
           (last_hold B table (all_first lines) (all_last lines) hold);

@@ -13,8 +13,8 @@ pub mod RefusedTables
 pub mod Accessors
 pub mod ItemAccessors
 pub mod Roots
-pub mod KeptPlains
-pub mod FinishedPlains
+pub mod FinishedValues
+pub mod KeptStructs
 pub mod SizedRoots
 pub mod Unions
 pub mod UnionAccessors

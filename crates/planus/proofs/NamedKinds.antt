@@ -9,13 +9,14 @@ use Rattle.planus_read.specs.Values as value
 use Rattle.planus_read.specs.Values.{Value}
 use Rattle.planus_write.specs.Parts.{Named, named_by}
 use Rattle.planus_write.specs.Kept.{TagsReached}
-use Rattle.planus.specs.Steps.{Step, text, bytes, numbers, refs, unions, table, finish, clear}
+use Rattle.planus.specs.Steps.{Step, text, bytes, numbers, refs, unions, struct, table, finish, clear}
 use Rattle.planus.specs.Slots.{greatest_field}
 use Rattle.planus.specs.Kinds.{Kind, a_value, a_union_vector, kind_of, kind_by_tags, kind_named}
 use Rattle.planus.specs.inner.Names.{IsReached}
 use Rattle.planus.specs.Runs.{Listed, named_at, value_distance, tags_distance, references_distance}
 use Rattle.planus.specs.Runs.{distance_at, value_at, union_of, all_of, width_of, fits_width}
 use Rattle.planus.specs.Runs.{numbers_value, fields_of, value_of}
+use Rattle.planus.specs.Runs.{struct_width, fits_alignment, struct_value}
 use Rattle.planus.specs.declared.faults.Why.{Why}
 use Rattle.planus.proofs.Lists.{made_after, made_of}
 
@@ -131,6 +132,16 @@ numbers_kind (Some width) items v got e = by_test (list_all (fits_width width) i
         subst (λ w. kind_named (named_by w got) ≡ a_value) same refl
     by_test false e = (cc)
 
+struct_kind : (width : Option Width) (content : List ℕ) (v : Value) (got : List ℕ) → struct_value width content ≡ Some v → kind_named (named_by v got) ≡ a_value
+struct_kind None content v got e = (cc)
+struct_kind (Some width) content v got e = by_test (fits_alignment (byte_len width) content) e
+  where
+    by_test : (fit : Bool) → (if fit then Some (value.apart (record { bytes = content; alignment = byte_len width })) else None) ≡ Some v → kind_named (named_by v got) ≡ a_value
+    by_test true e =
+        let same : value.apart (record { bytes = content; alignment = byte_len width }) ≡ v = cc in
+        subst (λ w. kind_named (named_by w got) ≡ a_value) same refl
+    by_test false e = (cc)
+
 pub kind_written : (listed : List Listed) (step : Step) (v : Value) (got : List ℕ) → value_of listed step ≡ Some v → kind_of step ≡ Some (kind_named (named_by v got))
 kind_written listed (text content) v got e =
     let same : value.text content ≡ v = cc in
@@ -145,6 +156,8 @@ kind_written listed (refs steps) v got e =
 kind_written listed (unions items) v got e =
     let made = made_of value.union_vector (all_of (union_of listed) items) v e in
     subst (λ w. Some a_union_vector ≡ Some (kind_named (named_by w got))) made.2 refl
+kind_written listed (struct alignment content) v got e =
+    ap (λ (k : Kind). Some k) (sym (struct_kind (struct_width alignment) content v got e))
 kind_written listed (table fields) v got e =
     let made = made_of value.table (fields_of listed [] greatest_field fields) v e in
     subst (λ w. Some a_value ≡ Some (kind_named (named_by w got))) made.2 refl

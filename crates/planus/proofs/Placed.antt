@@ -148,6 +148,8 @@ values_are_fit before (value.union_vector items) written =
         ),
       ),
     )
+values_are_fit before (value.apart item) written =
+    ((λ got history h. record { sized = λ place. refl; power = (written.power.0, written.power.2) }), tt)
 values_are_fit before (value.table entries) written = (
   (λ got history h. record { sized = λ place. refl; power = (1, refl) }),
   (

@@ -1,5 +1,5 @@
 -- A value of a fixed layout is read back.
-use Rattle.std.proofs.Common.{◌≡◌, ℕ, ◌+◌, ◌<◌, ◌≤◌, List, [], ◌∷◌, length, drop, subst, ◌∙◌, Result, Ok, Err, inl, inr, arith, length-drop}
+use Rattle.std.proofs.Common.{◌≡◌, ℕ, ◌+◌, ◌<◌, ◌≤◌, List, length, drop, subst, ◌∙◌, Result, Ok, Err, inl, inr, arith, length-drop}
 use Rattle.std.specs.Prelude.{IsOkAnd, IsSomeAnd, IsTrue, MatchOption, ⊤}
 use Rattle.std.specs.Option.{unwrap_or}
 use Rattle.std.proofs.Common.{Bool, true, false, Option, Some, None, ap, refl, sym, inr, ◌*◌, slice_get}
@@ -17,11 +17,12 @@ use Rattle.planus_read.specs.declared.located.Error.{Error}
 use Rattle.planus_read.specs.declared.table_reader.Table.{Table}
 use Rattle.planus_read.specs.Located.{Located, OrDefault}
 use Rattle.planus_read.specs.Tables.{FieldAnswer, table_start}
-use Rattle.planus_read.specs.Clauses.{Clause, AllHold, FirstBroken}
+use Rattle.planus_read.specs.Clauses.{AllHold}
 use Rattle.planus_read.specs.Plain.{Shape, plain_reading}
 use Rattle.planus_read.specs.Bytes.{BytesStand}
 use Rattle.planus_read.specs.Stands.{FieldStands}
 use Rattle.planus_read.specs.Values.{Field}
+use Rattle.planus_read.proofs.ReadingLaws.{broken}
 use Rattle.planus_read.proofs.SliceLaws.{bytes_in_slice}
 use Rattle.planus_read.proofs.Reading.{stood_inside}
 use Rattle.planus_fields.specs.Contents.{holds_if, unless}
@@ -31,11 +32,6 @@ use Rattle.planus.specs.ReadPlain.{reads_plain, plain_content, PlainReadBack}
 use Rattle.planus.specs.ReadPlain.{IsPlainField, IsPlainFieldOr, ArePlain}
 use Rattle.planus.specs.ReadPlain.{IsPlainResult, PlainResultsReadBack}
 use Rattle.planus.proofs.ReadBack.{contents_read_back, absent_fields_read_back}
-
-none_broken : (clauses : List Clause) (e : ErrorKind) → FirstBroken clauses e → AllHold clauses → ⊥
-none_broken [] e broken hold = broken
-none_broken (one ∷ others) e (inl it) hold = it.0 hold.0
-none_broken (one ∷ others) e (inr it) hold = none_broken others e it.1 hold.1
 
 abbrev pub default_of : {T E : Type 0} → T → Result (Option T) E → Result T E
 default_of default (Ok found) = Ok (unwrap_or found default)
@@ -70,11 +66,11 @@ module _ {T : Type 0} {size alignment : ℕ} (shape : Shape T size alignment) wh
           let here = bytes_in_slice B start f (shape.encoded x)
           (subst (λ (field : Field). FieldStands B (start + f) field) holds stands) in
           shape.again (drop start B) f x found fits here there
-      answered B x field fits holds start f stands (Err e) broken =
+      answered B x field fits holds start f stands (Err e) it =
           let here = bytes_in_slice B start f (shape.encoded x)
           (subst (λ (field : Field). FieldStands B (start + f) field) holds stands) in
           absurd
-          (none_broken (plain_reading shape (drop start B) f).clauses e broken
+          (broken (plain_reading shape (drop start B) f).clauses e it
           (all_hold (drop start B) f x fits here))
 
   pub field_read : (table : Table) (slot : ℕ) (type_ method : List ℕ) (r : Result (Option T) Error)
@@ -166,7 +162,7 @@ module _ {T : Type 0} {kind : PlainGhosts T} where
       (item_stands B xs x vector i are there) gets.1)
   result_read B xs x vector i (Some (Err e)) are there fits gets =
       absurd
-      (none_broken (plain_reading kind.shape (view_of vector).bytes (i * kind.SIZE)).clauses
+      (broken (plain_reading kind.shape (view_of vector).bytes (i * kind.SIZE)).clauses
       gets.1.0.error_kind gets.1.1.0
       (all_hold kind.shape (view_of vector).bytes (i * kind.SIZE) x fits
       (item_stands B xs x vector i are there)))

@@ -15,7 +15,7 @@ use Rattle.planus_write.specs.Shared.{CacheSettings}
 use Rattle.planus_write.specs.History.{History, Adds, PutsAll}
 use Rattle.planus_write.specs.Parts.{Named, named_by, entries_of, finish_part, sized_finish_part}
 use Rattle.planus_write.specs.lemmas.StandingLaws.{finishes_lead, sized_finishes_stand}
-use Rattle.planus.specs.Steps.{Step, text, bytes, numbers, refs, unions, table, finish, clear}
+use Rattle.planus.specs.Steps.{Step, text, bytes, numbers, refs, unions, struct, table, finish, clear}
 use Rattle.planus.specs.Steps.{Front, root_first, size_first}
 use Rattle.planus.specs.FinishHolds.{root_at}
 use Rattle.planus.specs.Steps.{FieldStep, number_field, ref_field, tags_field, values_field}
@@ -24,6 +24,7 @@ use Rattle.planus.specs.Runs.{Listed, State, cleared, Writes, Advances, LeadsTo,
 use Rattle.planus.specs.Runs.{value_at, distance_at, value_distance, tags_distance, references_distance}
 use Rattle.planus.specs.Runs.{union_of, all_of, width_of, fits_width, numbers_value, field_width, plain_field}
 use Rattle.planus.specs.Runs.{field_of, fields_of, values_added, finishes_added, finish_of}
+use Rattle.planus.specs.Runs.{struct_width, fits_alignment, struct_value}
 use Rattle.planus.specs.SameTrees.{AllPairs, LeadToOneStep, SameField, SameEntry, SameUnion, SameValue}
 use Rattle.planus.specs.SameTrees.{SamePlace, SameTrees, TreesAreTheSame}
 use Rattle.planus.proofs.Kept.{Kept, ValueKept, root_behind, step_kept, nothing_kept}
@@ -67,6 +68,20 @@ module _ (ones others : List Listed) where
           let one : list ≡ v = cc in
           let other : list ≡ w = cc in
           subst (λ w. SameValue ones others v w) other (subst (λ v. SameValue ones others v list) one (refl, refl, refl))
+      by_test false e f = (cc)
+
+  struct_same : (width : Option Width) (content : List ℕ) (v w : Value) → struct_value width content ≡ Some v → struct_value width content ≡ Some w → SameValue ones others v w
+  struct_same None content v w e f = (cc)
+  struct_same (Some width) content v w e f = by_test (fits_alignment (byte_len width) content) e f
+    where
+      alone : Value
+      alone = value.apart (record { bytes = content; alignment = byte_len width })
+
+      by_test : (fit : Bool) → (if fit then Some alone else None) ≡ Some v → (if fit then Some alone else None) ≡ Some w → SameValue ones others v w
+      by_test true e f =
+          let one : alone ≡ v = cc in
+          let other : alone ≡ w = cc in
+          subst (λ w. SameValue ones others v w) other (subst (λ v. SameValue ones others v alone) one refl)
       by_test false e f = (cc)
 
   union_same : (item union other : ℕ × ℕ) → union_of ones item ≡ Some union → union_of others item ≡ Some other → SameUnion ones others union other
@@ -135,6 +150,7 @@ module _ (ones others : List Listed) where
       let other = made_of value.union_vector (all_of (union_of others) items) w f in
       subst (λ w. SameValue ones others v w) other.2 (subst (λ v. SameValue ones others v (value.union_vector other.0)) one.2
       (all_pairs (union_of ones) (union_of others) (SameUnion ones others) union_same items one.0 other.0 one.1 other.1))
+  value_same (struct alignment content) v w e f = struct_same (struct_width alignment) content v w e f
   value_same (table fields) v w e f =
       let one = made_of value.table (fields_of ones [] greatest_field fields) v e in
       let other = made_of value.table (fields_of others [] greatest_field fields) w f in
@@ -247,6 +263,7 @@ module _ (settings others : CacheSettings) (all done : List Step) (a b : State) 
   step_alike (numbers width items) c d there x y = value_alike (numbers width items) c d x y (λ s history. refl) x.are y.are
   step_alike (refs steps) c d there x y = value_alike (refs steps) c d x y (λ s history. refl) x.are y.are
   step_alike (unions items) c d there x y = value_alike (unions items) c d x y (λ s history. refl) x.are y.are
+  step_alike (struct alignment content) c d there x y = value_alike (struct alignment content) c d x y (λ s history. refl) x.are y.are
   step_alike (table fields) c d there x y = value_alike (table fields) c d x y (λ s history. refl) x.are y.are
   step_alike (finish front root identifier) c d there x y = finish_alike front root identifier c d there x y
   step_alike clear c d there x y =

@@ -7,7 +7,7 @@ use Rattle.std.specs.Borrow.{Bor}
 use Rattle.std.specs.Option.{option_map}
 use Rattle.std.proofs.lemmas.List.{map_push, length-map}
 use Rattle.planus_read.specs.Values as value
-use Rattle.planus_read.specs.Values.{Value}
+use Rattle.planus_read.specs.Values.{Value, Plain}
 use Rattle.planus_back.specs.Parts.{Part}
 use Rattle.planus_back.specs.Promises.{Promise}
 use Rattle.planus_write.specs.Limits.{IsWithinLimit}
@@ -18,18 +18,20 @@ use Rattle.planus_write.specs.State.{IsHistoryOf}
 use Rattle.planus_write.specs.Placing.{Outcome, PlacesEntry, Refuses, RefusedMemory, MayLackMemory, then_does}
 use Rattle.planus_write.specs.Finishing.{PutsInFront, WritesFront, LendsAll}
 use Rattle.planus_write.specs.Preparing.{IsPrepared, Answers, WritesText, WritesByteList, WritesList, WritesEntries}
+use Rattle.planus_write.specs.Preparing.{WritesApart}
 use Rattle.planus_write.specs.lemmas.ListLaws.{entries_grow, ready_list_is_put}
 use Rattle.planus_write.specs.lemmas.ListLaws.{ready_list_is_refused, plain_items_are}
 use Rattle.planus_write.specs.lemmas.ListLaws.{reference_items_are}
 use Rattle.planus_write.specs.Items.{Item, plain_item, reference_item}
 use Rattle.planus_write.specs.lemmas.PutEntries.{entries_put as puts_entries, entries_too_large}
 use Rattle.planus_write.specs.Parts.{text_entry, byte_list_entry, list_entries, entries_of, Named, named_by, last_of}
+use Rattle.planus_write.specs.Parts.{apart_entry}
 use Rattle.planus_write.specs.declared.errors.BuildError.{BuildError}
 use Rattle.planus_write.specs.declared.errors.BuildError.TheVariants.{OutOfMemory, TooLarge}
 use Rattle.planus_write.specs.declared.offset.Offset.{Offset}
 use Rattle.planus_write.specs.declared.offset.Text.{Text}
 use Rattle.planus_write.specs.declared.offset.List.{List as ListOf}
-use Rattle.planus.specs.Steps.{Step, Front, text, bytes, numbers, refs, unions, finish, clear}
+use Rattle.planus.specs.Steps.{Step, Front, text, bytes, numbers, refs, unions, struct, finish, clear}
 use Rattle.planus_write.specs.Unions.{item_of, union_reach, WritesUnionVector}
 use Rattle.planus_write.specs.lemmas.UnionLaws.{ready_union_vector_is_put}
 use Rattle.planus_write.specs.lemmas.UnionLaws.{ready_union_vector_is_refused}
@@ -39,6 +41,7 @@ use Rattle.std.specs.Int.{Width, byte_len, to_le_bytes}
 use Rattle.std.specs.List.{list_all, AllByRecursion}
 use Rattle.planus.specs.Kinds.{a_value, kind_named}
 use Rattle.planus.specs.Runs.{width_of, fits_width, numbers_value, value_at, union_of, all_of}
+use Rattle.planus.specs.Runs.{struct_width, struct_value, fits_alignment}
 use Rattle.planus.specs.Runs.{AsksForMemory, ComesToRefusedEntry, StepRefused}
 use Rattle.planus.specs.Runs.{Listed, Finish, StepTooLarge, Writes, value_of, values_added, finishes_added, entries_put, finish_of}
 use Rattle.planus.specs.declared.faults.ReplayError.{ReplayError}
@@ -175,6 +178,30 @@ bytes_advanced content old (Err ReplayOutOfMemory) new h =
 bytes_advanced content old (Err ReplayTooLarge) new h =
     stops {A = Offset (ListOf ℕ)} offset_named (WritesByteList content) (bytes content) (value.byte_list content) old refl refl (λ offset after put. by_entry (byte_list_entry content) old.builder offset after put) h.0 (inl h.1)
 bytes_advanced content old (Err (BadStep number why)) new h = absurd h
+
+module _ (alignment : ℕ) (w : Width) (content : List ℕ) (known : struct_width alignment ≡ Some w)
+    (fit : fits_alignment (byte_len w) content ≡ true) (old : ReplayState) where
+  abbrev item : Plain
+  item = record { bytes = content; alignment = byte_len w }
+
+  struct_value_is : value_of (values_listed old) (struct alignment content) ≡ Some (value.apart item)
+  struct_value_is = ap (λ k. struct_value k content) known ∙ ap (λ (fits : Bool). if fits then Some (value.apart item) else None) fit
+
+  struct_are : entries_put (values_listed old) (struct alignment content) ≡ Some (entries_of (value.apart item))
+  struct_are = ap (option_map entries_of) struct_value_is
+
+  pub struct_advanced : (T : Type 0) (answer : Result (Unit {0}) ReplayError) (new : ReplayState)
+      → WritesValue {A = Offset T} offset_named (WritesApart item) old answer new → Advanced old (struct alignment content) answer new
+  struct_advanced T (Ok done) new noted = record {
+    taken = took_one old new (struct alignment content) (Some noted.noted) (noted_kind noted.noted noted.answer noted.same) noted.first noted.pushed;
+    advances = runs_on offset_named (WritesApart item) (struct alignment content) (value.apart item) old struct_value_is struct_are (λ offset after put. by_entry (apart_entry item) old.builder offset after put) new noted (λ history after. refl);
+    settings = noted.done.settings;
+  }
+  struct_advanced T (Err ReplayOutOfMemory) new h =
+      lacks {A = Offset T} offset_named (WritesApart item) (struct alignment content) (value.apart item) old struct_value_is struct_are (λ offset after put. by_entry (apart_entry item) old.builder offset after put) (λ after refused. inl refused) new h
+  struct_advanced T (Err ReplayTooLarge) new h =
+      stops {A = Offset T} offset_named (WritesApart item) (struct alignment content) (value.apart item) old struct_value_is struct_are (λ offset after put. by_entry (apart_entry item) old.builder offset after put) h.0 (inl h.1)
+  struct_advanced T (Err (BadStep number why)) new h = absurd h
 
 module _ {A : Type 0} (encoding : A → Item) (size alignment : ℕ) (xs : List A) (value : Value) (old : ReplayState)
     (entries : list_entries size alignment (map encoding xs) ≡ entries_of value) (one : (got : List ℕ) → named_by value got ≡ record { distance = last_of got; tags = None }) where

@@ -9,16 +9,14 @@ use Rattle.planus_read.specs.declared.slice_helpers.SliceWithStartOffset.{SliceW
 use Rattle.planus_read.specs.declared.table_reader.Table.{Table}
 use Rattle.planus_read.specs.Bytes.{BytesStand, position_of}
 use Rattle.planus_read.specs.Slices.{slice_bytes, ShowsBytes}
-use Rattle.planus_read.specs.Reading.{Leads, target, text_reading}
-use Rattle.planus_read.specs.Stands.{Stands, at}
+use Rattle.planus_read.specs.Reading.{Leads, target, text_reading, plain_ref_clauses}
+use Rattle.planus_read.specs.Stands.{Stands, ApartStands, at}
 use Rattle.planus_read.specs.Tables.{ReadsBoth}
-use Rattle.planus_read.specs.Values.{Value, Field, reference, text}
+use Rattle.planus_read.specs.Values.{Value, Field, reference, text, apart}
 use Rattle.planus_read.proofs.Reading.{leads_inside, leads_to, stood_inside}
 use Rattle.planus_read.proofs.SliceLaws.{bytes_in_slice, leads_in_slices, references_lead}
-use Rattle.planus_read.proofs.ReadingLaws.{is_shown, lawful_text}
+use Rattle.planus_read.proofs.ReadingLaws.{broken, is_shown, lawful_text}
 use Rattle.planus_read.proofs.ReadsBack.{what_stands_reads_back}
-use Rattle.planus_view.specs.PlainRefs.{ApartStands, plain_ref_clauses}
-use Rattle.planus_view.proofs.PlainRefs.{none_broken}
 use Rattle.planus_write.specs.Contents.{Content, item, value, values, written, union_tags}
 use Rattle.planus_write.specs.Contents.{union_values, written_tags, written_values}
 use Rattle.planus.specs.ReadBack.{FieldHolds, TableStands}
@@ -41,8 +39,8 @@ text_led B bytes distance utf8 stands start f leads r h =
     is_shown (text_reading (drop start B) f) ShowsBytes (lawful_text (drop start B) f) bytes read.there
     r h
 
-struct_led : (B bytes : List ℕ) (distance : ℕ) → ApartStands B distance bytes → (start f : ℕ)
-    → Leads B (start + f) (position_of B distance) → (r : Result SliceWithStartOffset ErrorKind)
+struct_led : (B bytes : List ℕ) (distance : ℕ) → ApartStands B (position_of B distance) bytes
+    → (start f : ℕ) → Leads B (start + f) (position_of B distance) → (r : Result SliceWithStartOffset ErrorKind)
     → reads_struct (length bytes) (drop start B) start f r
     → IsOkAnd r (λ slice. BytesStand (slice_bytes slice) 0 bytes)
 struct_led B bytes distance stands start f leads r h = answered r h
@@ -61,16 +59,14 @@ struct_led B bytes distance stands start f leads r h = answered r h
     stood =
         let to : position_of B distance ≡ start + f + leads.0 = leads.2 in
         let at : position_of B distance ≡ start + position = omega (arith, to) in
-        bytes_in_slice B start position bytes (subst (λ p. BytesStand B p bytes) at stands)
+        bytes_in_slice B start position bytes (subst (λ p. BytesStand B p bytes) at stands.1)
 
     inside : target S f + length bytes ≤ length S
     inside =
         let to : position_of B distance ≡ start + f + leads.0 = leads.2 in
-        let within : position_of B distance ≤ length B = omega arith in
+        let within : position_of B distance + length bytes ≤ length B = stands.0 in
         let at = leads_to S f position here in
-        let long : length bytes ≤ length (drop position S) =
-        stood_inside (drop position S) bytes stood in
-        omega (arith, to, within, at, long, length-drop position S, length-drop start B)
+        omega (arith, to, within, at, length-drop start B)
 
     answered : (r : Result SliceWithStartOffset ErrorKind)
         → reads_struct (length bytes) (drop start B) start f r
@@ -80,7 +76,7 @@ struct_led B bytes distance stands start f leads r h = answered r h
         subst (λ (l : List ℕ). take (length bytes) l ≡ bytes) (sym h.2.bytes)
         (subst (λ p. BytesStand S p bytes) at stood)
     answered (Err e) h = absurd
-        (none_broken (plain_ref_clauses (length bytes) S f) e h
+        (broken (plain_ref_clauses (length bytes) S f) e h
         (leads_inside S f position here, (inside, tt)))
 
 abbrev distance_of : Field → ℕ
@@ -118,10 +114,13 @@ text_stands B (written_values _) bytes distance is holds = elim is [ ]
 
 struct_stands : (B : List ℕ) (content : Content) (bytes : List ℕ) (distance : ℕ)
     → IsApart B content bytes → FieldHolds B content (reference distance)
-    → ApartStands B distance bytes
+    → ApartStands B (position_of B distance) bytes
 struct_stands B (written d) bytes distance is holds =
-    subst (λ d. ApartStands B d bytes) (sym (ap distance_of holds)) is
-struct_stands B (value _) bytes distance is holds = elim is [ ]
+    subst (λ (d : ℕ). ApartStands B (position_of B d) bytes) (sym (ap distance_of holds)) is
+struct_stands B (value content) bytes distance is holds =
+    let there : Stands B (at (position_of B distance)) content =
+    subst (λ (d : ℕ). Stands B (at (position_of B d)) content) (sym (ap distance_of holds.1)) holds.2 in
+    subst (λ (content : Value). Stands B (at (position_of B distance)) content) is.1 there
 struct_stands B (item _) bytes distance is holds = elim is [ ]
 struct_stands B (values _) bytes distance is holds = elim is [ ]
 struct_stands B (union_tags _) bytes distance is holds = elim is [ ]

@@ -1,13 +1,15 @@
 -- The values of vectors can be written.
-use Rattle.std.proofs.Common.{◌≡◌, ℕ, ◌≤◌, List, [], ◌∷◌, length}
+use Rattle.std.proofs.Common.{◌≡◌, ℕ, zero, suc, ◌%◌, ◌==◌, not, ◌≤◌, List, [], ◌∷◌, length, arith, lit≤}
 use Rattle.std.proofs.Common.{refl, subst, Option, Some, None}
 use Rattle.std.proofs.Common.{false}
 use Rattle.std.specs.Prelude.{Bool, true, if◌then◌else◌, ◌<◌, map}
-use Rattle.std.specs.Int.{Width, w8, w16, w32, w64, w128, byte_len, to_le_bytes}
+use Rattle.std.specs.Int.{Width, w8, w16, w32, w64, w128, byte_len, to_le_bytes, ◌∣◌}
 use Rattle.std.proofs.Common.{lit<}
-use Rattle.std.proofs.lemmas.Nat.Gcd.{dvd_refl}
+use Rattle.std.proofs.lemmas.Nat.Gcd.{dvd_refl, dvd_of_mod-eq-zero}
+use Rattle.std.proofs.lemmas.Bool.{and_parts, eqb-true}
 use Rattle.std.specs.List.{AllByRecursion, list_all}
 use Rattle.planus_back.specs.Promises.{IsPowerOfTwo}
+use Rattle.planus_read.specs.Plain.{IsLayout}
 use Rattle.planus_read.specs.Values as value
 use Rattle.planus_read.specs.Values.{Value}
 use Rattle.planus_read.specs.ReadsBack.{WellFormed}
@@ -15,7 +17,7 @@ use Rattle.planus_write.specs.Parts.{IsWritten, IsPlainList}
 use Rattle.planus_write.specs.Parts.{Named}
 use Rattle.planus.specs.inner.Names.{IsReached}
 use Rattle.planus.specs.Runs.{Listed, named_at, value_distance, distance_at, value_at, union_of}
-use Rattle.planus.specs.Runs.{all_of, numbers_value, fits_width}
+use Rattle.planus.specs.Runs.{all_of, numbers_value, fits_width, struct_value, fits_alignment}
 use Rattle.planus.proofs.NamedKinds.{value_reached}
 use Rattle.planus.proofs.Lists.{all_named, all_there, made_after, union_made}
 
@@ -60,6 +62,44 @@ numbers_are_written before (Some width) items v e = by_test (list_all (fits_widt
         let same : value.plain_list (byte_len width) (byte_len width) (map (to_le_bytes width) items) ≡ v = cc in
         subst (λ v. IsWritten before v × WellFormed v) same (list, tt)
     by_test false e = (cc)
+
+pub width_layout : (width : Width) (size : ℕ) → 0 < size → byte_len width ∣ size → IsLayout size (byte_len width)
+unfolding width_power
+width_layout width size positive multiple = record {
+  power = let power = width_power width in (power.0, small width, power.1);
+  positive = positive;
+  multiple = multiple;
+}
+  where
+    small : (width : Width) → (width_power width).0 ≤ 30
+    small w8 = lit≤ tt
+    small w16 = lit≤ tt
+    small w32 = lit≤ tt
+    small w64 = lit≤ tt
+    small w128 = lit≤ tt
+
+some : (n : ℕ) → not (n == 0) ≡ true → 0 < n
+some zero h = (cc)
+some (suc n) h = omega arith
+
+pub fits_layout : (width : Width) (content : List ℕ) → fits_alignment (byte_len width) content ≡ true → IsLayout (length content) (byte_len width)
+fits_layout width content fits =
+    let parts = and_parts (not (length content == 0)) (length content % byte_len width == 0) fits in
+    width_layout width (length content) (some (length content) parts.0)
+    (dvd_of_mod-eq-zero (byte_len width) (eqb-true (length content % byte_len width) 0 parts.1))
+
+pub structs_are_written : (before : ℕ) (width : Option Width) (content : List ℕ) (v : Value)
+    → struct_value width content ≡ Some v → IsWritten before v × WellFormed v
+structs_are_written before None content v e = (cc)
+structs_are_written before (Some width) content v e = by_test (fits_alignment (byte_len width) content) refl e
+  where
+    by_test : (fit : Bool) → fits_alignment (byte_len width) content ≡ fit
+        → (if fit then Some (value.apart (record { bytes = content; alignment = byte_len width })) else None) ≡ Some v
+        → IsWritten before v × WellFormed v
+    by_test true fits e =
+        let same : value.apart (record { bytes = content; alignment = byte_len width }) ≡ v = cc in
+        subst (λ v. IsWritten before v × WellFormed v) same (fits_layout width content fits, tt)
+    by_test false fits e = (cc)
 
 module _ (P : Listed → Type 0) (before : ℕ) (reached : (one : Listed) → P one → IsReached before one.named) (listed : List Listed) (all : AllByRecursion P listed) where
   pub distance_behind : (which : Named → Option ℕ) → ((named : Named) (distance : ℕ) → IsReached before named → which named ≡ Some distance → distance ≤ before)

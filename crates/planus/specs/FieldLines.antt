@@ -27,7 +27,7 @@ use Rattle.planus.specs.Holds.{holds_plain, holds_union_tag, holds_union_value}
 use Rattle.planus.specs.Holds.{holds_any_union_tags, holds_any_union_values, holds_union_tags}
 use Rattle.planus.specs.Holds.{holds_union_values, as_signed}
 use Rattle.planus.specs.Contents.{TableIsKept, WritesContents}
-use Rattle.planus.specs.KeptPlains.{KeptPlainsStandIn}
+use Rattle.planus.specs.KeptValues.{ValuesStandIn}
 use Rattle.planus.specs.ReadBack.{TableStands, TableHolds, are_apart}
 use Rattle.planus.specs.ReadPlain.{IsPlainField, IsPlainFieldOr}
 use Rattle.planus.specs.UnionAccessors.{IsUnionField, IsUnionRequired, IsUnionVector}
@@ -176,8 +176,8 @@ KeptTablesStandIn B builder =
     → TableStands B contents distance
 
 -- What is read of a root that a builder finishes: a view with all contents with which its table was
--- written. The buffer has all tables that the builder had before, and all values that were written
--- by themselves.
+-- written. The buffer has all tables that the builder had before, with all that they refer to, and
+-- each value.
 abbrev pub RootIsRead :
     {V K : Type 0} → (V → Table) → Offset K → Option (List ℕ) → State → Result V Error → Type 0
 RootIsRead table_of root identifier builder read =
@@ -186,7 +186,7 @@ RootIsRead table_of root identifier builder read =
     → WritesContents contents before root.distance builder → IsTrue (are_apart contents)
     → IsOkAnd read
     (λ view. (B : List ℕ) × FinishGives (IsPrepared root) identifier builder B
-    × KeptTablesStandIn B before × KeptPlainsStandIn B before
+    × KeptTablesStandIn B before × ValuesStandIn B before
     × TableHolds B contents (table_of view))
 
 -- A table was written with these fields over what a builder had, and is read: each method returns
@@ -194,6 +194,6 @@ RootIsRead table_of root identifier builder read =
 pub record ReadsBack (builder : State) (lines : List FieldLine) (table : Table) : Type 0 where
   pub bytes : List ℕ
   pub keeps : KeptTablesStandIn bytes builder
-  pub keeps_plains : KeptPlainsStandIn bytes builder
+  pub keeps_values : ValuesStandIn bytes builder
   pub holds : TableHolds bytes (contents_of lines) table
   pub returns : AllReturnGiven bytes table lines

@@ -4,7 +4,7 @@ pub mod TableRules
 pub mod Preparing
 pub mod Holds
 pub mod Views
-pub mod KeptPlains
+pub mod KeptValues
 pub mod ReadBack
 pub mod ReadKinds
 pub mod ReadVectors

@@ -2,10 +2,10 @@
 use Rattle.std.specs.Prelude.{◌≡◌, ℕ, ◌+◌, ◌==◌, ◌||◌, List, [], ◌∷◌, ◌++◌, take, slice_get, Option}
 use Rattle.std.specs.Prelude.{Some}
 use Rattle.std.specs.Prelude.{None, if◌then◌else◌, Bool, true, false, nat_lt, ◌^◌, map, length, ⊤}
-use Rattle.std.specs.Prelude.{◌⊎◌}
+use Rattle.std.specs.Prelude.{◌⊎◌, ◌%◌, ◌&&◌, not}
 use Rattle.std.specs.Option.{option_map, option_and_then, is_none}
 use Rattle.std.specs.List.{list_all}
-use Rattle.std.specs.Int.{Width, w8, w16, w32, w64, byte_len, to_le_bytes}
+use Rattle.std.specs.Int.{Width, w8, w16, w32, w64, w128, byte_len, to_le_bytes}
 use Rattle.planus_read.specs.Values as value
 use Rattle.planus_read.specs.Values.{Value, Field}
 use Rattle.planus_write.specs.Shared.{CacheSettings}
@@ -16,7 +16,7 @@ use Rattle.planus_write.specs.History.{part_after, found_before}
 use Rattle.planus_write.specs.History.{ComesToTooLarge as ComesToTooLargeEntry}
 use Rattle.planus_write.specs.Parts.{Named, named_by, entries_of, finish_entry}
 use Rattle.planus_write.specs.Parts.{sized_finish_entry}
-use Rattle.planus.specs.Steps.{Step, text, bytes, numbers, refs, unions, table, finish}
+use Rattle.planus.specs.Steps.{Step, text, bytes, numbers, refs, unions, struct, table, finish}
 use Rattle.planus.specs.Steps.{clear, FieldStep, number_field, ref_field, tags_field, values_field}
 use Rattle.planus.specs.Steps.{Front, root_first, size_first}
 use Rattle.planus.specs.Slots.{place_fault, alignment_of, greatest_field}
@@ -104,6 +104,24 @@ field_of listed (tags_field step) =
 field_of listed (values_field step) =
     option_map value.values (distance_at references_distance listed step)
 
+-- the width of n bytes, to which a struct may be aligned
+-- The format: a struct is aligned as its greatest field, or as its schema says.
+abbrev pub struct_width : ℕ → Option Width
+struct_width alignment = if alignment == 16 then Some w128 else field_width alignment
+
+-- some bytes, as many as a multiple of the alignment
+abbrev pub fits_alignment : ℕ → List ℕ → Bool
+fits_alignment alignment content =
+    not (length content == 0) && length content % alignment == 0
+
+-- a struct of these bytes, aligned to a known width
+abbrev pub struct_value : Option Width → List ℕ → Option Value
+struct_value None content = None
+struct_value (Some width) content =
+    if fits_alignment (byte_len width) content
+    then Some (value.apart (record { bytes = content; alignment = byte_len width }))
+    else None
+
 abbrev pub with_field : ℕ → Option Why → Option Field → Option (List (ℕ × Field))
     → Option (List (ℕ × Field))
 with_field slot None (Some field) rest = option_map (λ fields. (slot, field) ∷ fields) rest
@@ -125,6 +143,7 @@ value_of listed (bytes content) = Some (value.byte_list content)
 value_of listed (numbers width items) = numbers_value (width_of width) items
 value_of listed (refs steps) = option_map value.reference_list (all_of (value_at listed) steps)
 value_of listed (unions items) = option_map value.union_vector (all_of (union_of listed) items)
+value_of listed (struct alignment content) = struct_value (struct_width alignment) content
 value_of listed (table fields) =
     option_map value.table (fields_of listed [] greatest_field fields)
 value_of listed (finish front root identifier) = None

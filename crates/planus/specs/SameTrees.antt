@@ -1,7 +1,7 @@
 -- What two runs of the same steps have in common.
 use Rattle.std.specs.Prelude.{◌≡◌, ℕ, List, [], ◌∷◌, Option, Some, ⊤, slice_get}
 use Rattle.planus_read.specs.Values.{Value, Field, text, byte_list, plain_list, reference_list}
-use Rattle.planus_read.specs.Values.{union_vector, table, plain, reference, tags, values}
+use Rattle.planus_read.specs.Values.{union_vector, table, apart, plain, reference, tags, values}
 use Rattle.planus_read.specs.Stands.{ReferenceStands}
 use Rattle.planus_write.specs.Shared.{CacheSettings}
 use Rattle.planus_write.specs.Parts.{Named}
@@ -50,6 +50,7 @@ SameValue ones others (union_vector items) (union_vector other) =
     AllPairs (SameUnion ones others) items other
 SameValue ones others (table entries) (table other) =
     AllPairs (SameEntry ones others) entries other
+SameValue ones others (apart item) (apart other) = item ≡ other
 SameValue ones others _ _ = ⊥
 
 pub record SamePlace (steps : List Step) (ones others : List Listed) (one other : Listed)

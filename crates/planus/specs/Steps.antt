@@ -3,7 +3,7 @@ use Rattle.std.specs.Prelude.{ℕ, Bool, true, false, List, Option, map}
 use Rattle.std.specs.String.{string_bytes}
 use Rattle.planus.specs.declared.steps.Step as code
 use Rattle.planus.specs.declared.steps.Step.TheVariants.{Text, Bytes, Numbers, Refs, Unions}
-use Rattle.planus.specs.declared.steps.Step.TheVariants.{Table, Finish, FinishSized, Clear}
+use Rattle.planus.specs.declared.steps.Step.TheVariants.{Struct, Table, Finish, FinishSized, Clear}
 use Rattle.planus.specs.declared.steps.Field.{Field}
 use Rattle.planus.specs.declared.steps.FieldValue.{FieldValue}
 use Rattle.planus.specs.declared.steps.FieldValue.TheVariants.{Number, Ref, Tags, Values}
@@ -32,6 +32,7 @@ pub data Step : Type 0 where
   numbers : (width : ℕ) → List ℕ → Step
   refs : List ℕ → Step
   unions : List (ℕ × ℕ) → Step
+  struct : (alignment : ℕ) → List ℕ → Step
   table : List (ℕ × FieldStep) → Step
   finish : Front → ℕ → Option (List ℕ) → Step
   clear : Step
@@ -54,6 +55,7 @@ bare_step (Bytes content) = bytes content.items
 bare_step (Numbers width items) = numbers width items.items
 bare_step (Refs steps) = refs steps.items
 bare_step (Unions items) = unions items.items
+bare_step (Struct alignment content) = struct alignment content.items
 bare_step (Table fields) = table (map bare_field fields.items)
 bare_step (Finish root id) = finish root_first root id
 bare_step (FinishSized root id) = finish size_first root id

@@ -5,12 +5,15 @@ use Rattle.planus.specs.declared.faults.ReplayError.{ReplayError}
 use Rattle.planus.specs.declared.faults.ReplayError.TheVariants.{OutOfMemory, TooLarge, BadStep}
 use Rattle.planus.specs.declared.faults.Why.{Why}
 use Rattle.planus.specs.declared.faults.Why.TheVariants.{WidthUnknown, ValueTooBig}
+use Rattle.planus.specs.declared.faults.Why.TheVariants.{AlignmentUnknown, WrongSize}
 use Rattle.planus.specs.declared.faults.Why.TheVariants.{NoSuchStep, WrongKind, ZeroTag}
 use Rattle.planus.specs.declared.faults.Why.TheVariants.{SlotTooBig, SlotTwice, RisingAlignment}
 
 -- a step's error
 abbrev pub why_text : Why → List ℕ
 why_text WidthUnknown = codes "width unknown"
+why_text AlignmentUnknown = codes "alignment unknown"
+why_text WrongSize = codes "wrong size"
 why_text ValueTooBig = codes "value too big"
 why_text NoSuchStep = codes "no such step"
 why_text WrongKind = codes "wrong kind"

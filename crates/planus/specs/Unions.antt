@@ -9,10 +9,10 @@ use Rattle.planus_read.specs.declared.slice_helpers.SliceWithStartOffset.{SliceW
 use Rattle.planus_read.specs.declared.table_reader.Table.{Table}
 use Rattle.planus_read.specs.Bytes.{BytesStand, position_of}
 use Rattle.planus_read.specs.Slices.{slice_bytes}
-use Rattle.planus_read.specs.Stands.{Stands, at}
+use Rattle.planus_read.specs.Stands.{Stands, ApartStands, at}
 use Rattle.planus_read.specs.Tables.{Reads, ReadsBoth}
-use Rattle.planus_read.specs.Values.{text}
-use Rattle.planus_view.specs.PlainRefs.{ApartStands, reads_plain_ref}
+use Rattle.planus_read.specs.Values.{text, apart}
+use Rattle.planus_view.specs.PlainRefs.{reads_plain_ref}
 use Rattle.planus_write.specs.Contents.{Content, value, written}
 use Rattle.planus.specs.ReadBack.{TableStands, TableHolds}
 use Rattle.planus.specs.ReadKinds.{reads_text}
@@ -30,7 +30,7 @@ tag_of (table_variant tag table_of) = tag
 tag_of (text_variant tag text_of) = tag
 tag_of (struct_variant tag size slice_of) = tag
 
--- the value is this table, written before, this string, or the struct of these bytes, written before
+-- the value is this table, written before, this string, or the struct of these bytes
 abbrev pub IsTable : List ℕ → Content → List (ℕ × Option Content) → Type 0
 IsTable B (written distance) contents = TableStands B contents distance
 IsTable B _ contents = ⊥
@@ -41,7 +41,9 @@ IsText B (written distance) bytes = Stands B (at (position_of B distance)) (text
 IsText B _ bytes = ⊥
 
 abbrev pub IsApart : List ℕ → Content → List ℕ → Type 0
-IsApart B (written distance) bytes = ApartStands B distance bytes
+IsApart B (value content) bytes =
+    (alignment : ℕ) × (content ≡ apart (record { bytes = bytes; alignment = alignment }))
+IsApart B (written distance) bytes = ApartStands B (position_of B distance) bytes
 IsApart B _ bytes = ⊥
 
 abbrev pub reads_struct : ℕ → Reads SliceWithStartOffset

@@ -10,6 +10,10 @@ use std::fmt;
 pub enum Why {
     /// Numbers can't have this width.
     WidthUnknown,
+    /// Structs can't have this alignment.
+    AlignmentUnknown,
+    /// A struct's size isn't a positive multiple of its alignment.
+    WrongSize,
     /// A number doesn't fit its bytes.
     ValueTooBig,
     /// No earlier step since the last clear has the number.
@@ -35,6 +39,8 @@ impl fmt::Display for Why {
     fn fmt<W: fmt::Write>(&self, f: &mut fmt::Formatter<W>) -> fmt::Result {
         let text = match self {
             Why::WidthUnknown => "width unknown",
+            Why::AlignmentUnknown => "alignment unknown",
+            Why::WrongSize => "wrong size",
             Why::ValueTooBig => "value too big",
             Why::NoSuchStep => "no such step",
             Why::WrongKind => "wrong kind",

@@ -4,14 +4,15 @@ ghost use Rattle.planus.specs.ReadBack.{KeptTablesStand, KeptTablesStay};
 ghost use Rattle.planus.specs.ReadBack.{FinishesKeepTables, SizedFinishesKeepTables};
 ghost use Rattle.planus.specs.ReadBack.{FinishedTablesStand, SizedFinishedTablesStand};
 ghost use Rattle.planus.specs.ReadBack.{RootsReadBack};
-ghost use Rattle.planus.specs.KeptPlains.{KeptPlainsStay, PlainsStandOn, PlainsStandFinished};
-ghost use Rattle.planus.specs.KeptPlains.{FinishesKeepPlains, SizedFinishesKeepPlains};
+ghost use Rattle.planus.specs.KeptValues.{ValuesStandOn, ValuesStandFinished};
+ghost use Rattle.planus.specs.KeptValues.{FinishesKeepValues, SizedFinishesKeepValues};
 ghost use Rattle.planus.specs.ReadBack.{ItemsReadBack, ReferencesReadBack};
 ghost use Rattle.planus.specs.ItemAccessors.{TableViewsReadBack};
 ghost use Rattle.planus.specs.ReadPlain.{PlainResultsReadBack};
 ghost use Rattle.planus.specs.Once.{EqualContentsHaveOneDistance, EqualEntriesGetOneDistance};
 ghost use Rattle.planus.specs.Replays.{AnAnswerIsThere, AnswersAreOne};
 ghost use Rattle.planus.specs.SameTrees.{TreesAreTheSame};
+ghost use Rattle.planus_write.specs.Standing.{KeptStays};
 ghost use Rattle.planus.specs.Streams.{SizedFinishesAreRead, SizedStreamsAreRead};
 
 use crate::tables::TableView;
@@ -38,17 +39,17 @@ pub fn finishes_keep_tables<T, X: WriteAsOffset<T>>()
     ensures size_first { SizedFinishesKeepTables X.may X.outcome }
 {}
 
-/// A value of a fixed layout that was written by itself stays so until a clear.
-pub fn kept_plains_stay()
-    ensures history { KeptPlainsStay }
-    ensures builder { PlainsStandOn }
+/// A stored value stays so until a clear.
+pub fn kept_values_stay()
+    ensures history { KeptStays }
+    ensures builder { ValuesStandOn }
 {}
 
 /// It is encoded in what any finish gives, aligned, also after its size if it has one.
-pub fn finishes_keep_plains<T, X: WriteAsOffset<T>>()
-    ensures root_first { FinishesKeepPlains X.may X.outcome }
-    ensures size_first { SizedFinishesKeepPlains X.may X.outcome }
-    ensures builder { PlainsStandFinished X.may X.outcome }
+pub fn finishes_keep_values<T, X: WriteAsOffset<T>>()
+    ensures root_first { FinishesKeepValues X.may X.outcome }
+    ensures size_first { SizedFinishesKeepValues X.may X.outcome }
+    ensures builder { ValuesStandFinished X.may X.outcome }
 {}
 
 /// The first reference of a finish leads to the table that is its root.

@@ -16,14 +16,14 @@ ghost use Rattle.planus.specs.inner.Names.{FindsNamed};
 ghost use Rattle.planus.specs.inner.Replaying.{names, state_with, FindsValues, FindsUnions};
 ghost use Rattle.planus.specs.inner.Replaying.{HasTaken};
 ghost use Rattle.planus.specs.inner.Replaying.{Advanced, AreReached, IsNarrowed, Narrowed};
-ghost use Rattle.planus.specs.inner.Replaying.{WritesValue};
+ghost use Rattle.planus.specs.inner.Replaying.{WritesValue, KnowsAlignment};
 ghost use Rattle.planus.specs.inner.Prepared.{PreparesUnion};
 ghost use Rattle.planus.specs.inner.Declaring.{DeclaresTable};
 ghost use Rattle.planus.specs.declared.faults.ReplayError.TheVariants.{BadStep};
 ghost use Rattle.std.specs.Int.{Width, w16, w32, w64};
 ghost use Rattle.std.specs.List.{list_all};
 ghost use Rattle.std.specs.Prelude.{ℕ, true};
-ghost use Rattle.planus.specs.Runs.{fits_width};
+ghost use Rattle.planus.specs.Runs.{fits_width, fits_alignment as fits_alignment_lem};
 ghost use Rattle.planus.specs.Steps as step;
 
 use crate::faults::{ReplayError, Why};
@@ -32,6 +32,7 @@ use crate::named_steps::NamedSteps;
 use crate::prepared_field::VTABLE_SIZE;
 use crate::slots::check_slot;
 use crate::steps::{Field, Step};
+use crate::struct_bytes::StructBytes;
 use crate::table_body::TableBody;
 use crate::written::Written;
 use planus_write::{
@@ -114,6 +115,26 @@ fn narrowed<T: Narrow>(alloc: Global, items: &[u64]) -> Result<Option<Vec<T>>, A
         }
     }
     Ok(Some(numbers))
+}
+
+fn known_alignment(alignment: u8) -> Option<usize>
+    ensures { KnowsAlignment alignment result }
+{
+    match alignment {
+        1 => Some(1),
+        2 => Some(2),
+        4 => Some(4),
+        8 => Some(8),
+        16 => Some(16),
+        _ => None,
+    }
+}
+
+fn fits_alignment(alignment: usize, bytes: &[u8]) -> bool
+    requires { 0 < alignment }
+    ensures { result ≡ fits_alignment_lem alignment bytes.now }
+{
+    !bytes.is_empty() && bytes.len() % alignment == 0
 }
 
 impl ReplayState {
@@ -228,6 +249,19 @@ impl ReplayState {
         self.write(&items)
     }
 
+    fn structure(&mut self, alignment: u8, bytes: &[u8]) -> Result<(), ReplayError>
+        requires { self.old.first + vec_len self.old.offsets < 2 ^ 64 }
+        ensures { Advanced self.old (step.struct alignment bytes.now) result self.new }
+    {
+        let Some(alignment) = known_alignment(alignment) else {
+            return Err(self.bad_step(Why::AlignmentUnknown));
+        };
+        if !fits_alignment(alignment, bytes) {
+            return Err(self.bad_step(Why::WrongSize));
+        }
+        self.write(&StructBytes { alignment, bytes })
+    }
+
     fn refs(&mut self, alloc: Global, steps: &[usize]) -> Result<(), ReplayError>
         requires reached { AreReached self.old }
         requires number { self.old.first + vec_len self.old.offsets < 2 ^ 64 }
@@ -305,6 +339,7 @@ impl ReplayState {
             Step::Numbers { width, items } => self.numbers(alloc, *width, items.as_slice()),
             Step::Refs(steps) => self.refs(alloc, steps.as_slice()),
             Step::Unions(items) => self.unions(alloc, items.as_slice()),
+            Step::Struct { alignment, bytes } => self.structure(*alignment, bytes.as_slice()),
             Step::Table(fields) => self.table(fields.as_slice()),
             Step::Finish { root, id } => self.finish(alloc, *root, *id, false),
             Step::FinishSized { root, id } => self.finish(alloc, *root, *id, true),

@@ -14,6 +14,9 @@ pub enum Step {
     /// A union vector: for each union a tag above 0, and the number from 0 of the earlier step that
     /// is its value. Only [`FieldValue::Tags`] and [`FieldValue::Values`] name it.
     Unions(Vec<(u8, usize)>),
+    /// A struct by itself, to which a union refers: its bytes, whose number is a positive multiple
+    /// of its alignment of 1, 2, 4, 8 or 16 bytes.
+    Struct { alignment: u8, bytes: Vec<u8> },
     /// A table of fields, in the order in which they are written. Alignments must not rise.
     Table(Vec<Field>),
     /// A finish whose root is the value of an earlier step, by number from 0; `id` is the file

@@ -26,7 +26,7 @@ use Rattle.planus_read.specs.Reading.{number, number_clause, byte_list_reading, 
 use Rattle.planus_read.proofs.Reading.{num_inside, num_value, num_there, byte_list_holds}
 use Rattle.planus_dump.specs.Lines.{truth_text, field_path, item_path, struct_line, names_text}
 use Rattle.planus_dump.specs.Tests.{Test, answered, number_test, byte_list_tests, content_at, fault_text}
-use Rattle.planus_view.specs.PlainRefs.{plain_ref_clauses}
+use Rattle.planus_read.specs.Reading.{plain_ref_clauses}
 use Rattle.planus_dump.specs.Answers.{bits_at, unsigned_at, signed_at, leaf_at, table_at, Seen}
 use Rattle.planus_dump.specs.Events.{line, TableEvents, fault_event, answer_event, float_event, fixed_events, fixed_size, values_events, counted_events, struct_fields_events, struct_events, structs, value_events, led_events, enum_events, enum_at, named, names_in, number_leaf, number_width, place_events, nested_events, buffer_events}
 use Rattle.planus_dump.specs.AsRead.{SaysAsRead, layout_in, as_float, FloatsAreSaid, StructsAreSaid, LedStructsAreSaid, fields_at, BuffersAreSaid, IsUnsigned, IsSigned, EnumIsSaid, EnumsAreSaid}

@@ -23,7 +23,7 @@ use Rattle.planus_read.specs.Enums.{variant_in, Numbered, unsigned_enum, signed_
 use Rattle.planus_read.specs.lemmas.NumberLaws.{AreBytes}
 use Rattle.planus_read.specs.Tables.{table_object, table_slots, slot_of, tag_of, BothSlots, HalfVector}
 use Rattle.planus_read.specs.Tables.{UnionAbsent, UnionThere, UnionBroken, UnionVectorSlots}
-use Rattle.planus_view.specs.PlainRefs.{plain_ref_reading}
+use Rattle.planus_read.specs.Reading.{plain_ref_reading}
 use Rattle.planus_dump.specs.Lines.{quoted, bytes_text, truth_text, names_text, field_path}
 use Rattle.planus_dump.specs.Lines.{struct_line, value_line}
 use Rattle.planus_dump.specs.Tests.{fault_text}

@@ -80,7 +80,7 @@ module _ (steps : List Step) (IsTable : ℕ → ℕ → Type 0) where
   IsField required kind (Some (tags_field n)) = ⊥
   IsField required kind (Some (values_field n)) = ⊥
 
-  -- scripts write no structs
+  -- of structs nothing is said
   abbrev pub IsMember : VariantKind → ℕ → Type 0
   IsMember (member.Table index) n = IsTable index n
   IsMember (member.Struct index) n = ⊥

@@ -1,5 +1,6 @@
 //! The types that can be written as fields.
 
+mod apart;
 mod array;
 mod box_;
 mod by_ref;

@@ -9,8 +9,10 @@ use Rattle.std.specs.Int.{Width, w16, w32, byte_len, from_le_bytes, cast_signed}
 use Rattle.std.specs.Option.{option_map}
 use Rattle.planus_read.specs.Bytes.{Num, Int, BytesStand}
 use Rattle.planus_read.specs.Values.{text, byte_list, plain_list, reference_list, union_vector, table}
+use Rattle.planus_read.specs.Values.{apart}
 use Rattle.planus_read.specs.Values.{Field, plain, reference, tags, values, field_at, vtable_size}
 use Rattle.planus_read.specs.Stands.{ReferenceStands, PlainStands, ItemsStand, FieldStands}
+use Rattle.planus_read.specs.Stands.{ApartStands}
 use Rattle.planus_read.specs.Stands.{SlotStands, TableStands, at, at_both}
 use Rattle.planus_read.specs.Moves.{KeepsStanding, KeepsLeading, StandsAlone, LeadsAlone}
 
@@ -110,6 +112,14 @@ table_moves front B k entries h =
           (h.slots i within);
     }
 
+apart_moves :
+    (front B : List ℕ) (k : ℕ) (bytes : List ℕ) → ApartStands B k bytes
+    → ApartStands (front ++ B) (length front + k) bytes
+apart_moves front B k bytes h = (
+  rw (length-append front B) (let inside : k + length bytes ≤ length B = h.0 in omega arith),
+  bytes_move front B k (length front + k) bytes refl h.1,
+)
+
 pub keeps_leading : KeepsLeading
 keeps_leading front B f distance h = reference_moves front B f (length front + f) distance refl h
 
@@ -136,6 +146,8 @@ keeps_standing front B (at k) (reference_list distances) h = (
       (reference_moves front B) (k + 4) (length front + k + 4) 4 distances (omega arith) h.1,
 )
 keeps_standing front B (at k) (table entries) h = table_moves front B k entries h
+keeps_standing front B (at k) (apart item) h =
+    apart_moves front B k item.bytes h
 keeps_standing front B (at k) (union_vector items) h = h
 keeps_standing front B (at_both kt kv) (union_vector items) h = (
   (
@@ -155,6 +167,7 @@ keeps_standing front B (at_both kt kv) (byte_list bytes) h = h
 keeps_standing front B (at_both kt kv) (plain_list size alignment items) h = h
 keeps_standing front B (at_both kt kv) (reference_list distances) h = h
 keeps_standing front B (at_both kt kv) (table entries) h = h
+keeps_standing front B (at_both kt kv) (apart item) h = h
 
 reference_back :
     (front B : List ℕ) (k j distance : ℕ) → j ≡ length front + k
@@ -227,6 +240,15 @@ table_back front B k entries h =
           (field_at entries i) (omega arith) (h.slots i within);
     }
 
+apart_back :
+    (front B : List ℕ) (k : ℕ) (bytes : List ℕ) → ApartStands (front ++ B) (length front + k) bytes
+    → ApartStands B k bytes
+apart_back front B k bytes h = (
+  let inside : length front + k + length bytes ≤ length (front ++ B) = h.0 in
+      omega (arith, length-append front B),
+  bytes_back front B k (length front + k) bytes refl h.1,
+)
+
 pub leads_alone : LeadsAlone
 leads_alone front B f distance h = reference_back front B f (length front + f) distance refl h
 
@@ -255,6 +277,8 @@ stands_alone front B (at k) (reference_list distances) h = (
       (reference_back front B) (k + 4) (length front + k + 4) 4 distances (omega arith) h.1,
 )
 stands_alone front B (at k) (table entries) h = table_back front B k entries h
+stands_alone front B (at k) (apart item) h =
+    apart_back front B k item.bytes h
 stands_alone front B (at k) (union_vector items) h = h
 stands_alone front B (at_both kt kv) (union_vector items) h = (
   (
@@ -274,3 +298,4 @@ stands_alone front B (at_both kt kv) (byte_list bytes) h = h
 stands_alone front B (at_both kt kv) (plain_list size alignment items) h = h
 stands_alone front B (at_both kt kv) (reference_list distances) h = h
 stands_alone front B (at_both kt kv) (table entries) h = h
+stands_alone front B (at_both kt kv) (apart item) h = h

@@ -1,5 +1,6 @@
 -- The laws of `ReadingLaws`, for each kind of reading.
-use Rattle.std.proofs.Common.{subst, ◌≡◌, ℕ, ◌==◌, not, List, [], ◌∷◌, take, drop, refl, sym, ap}
+use Rattle.std.proofs.Common.{subst, ◌≡◌, ℕ, ◌+◌, ◌≤◌, ◌==◌, not, List, [], ◌∷◌, length, take, drop}
+use Rattle.std.proofs.Common.{refl, sym, ap}
 use Rattle.std.proofs.Common.{◌∙◌, Option, Some, None, Result, Ok, Err, inl, inr}
 use Rattle.std.specs.Int.{Width, w8, cast_signed}
 use Rattle.std.specs.Option.{option_map}
@@ -23,14 +24,16 @@ use Rattle.planus_read.specs.Reading.{text_reading, byte_list_reading, vector_re
 use Rattle.planus_read.specs.Reading.{union_vector_reading, table_reading, vector_clauses}
 use Rattle.planus_read.specs.Reading.{table_clauses, head_clauses, text_clauses}
 use Rattle.planus_read.specs.Reading.{byte_list_clauses, union_vector_clauses, HeadThere}
-use Rattle.planus_read.specs.Reading.{TableThere}
+use Rattle.planus_read.specs.Reading.{TableThere, plain_ref_clauses, plain_ref_reading}
 use Rattle.planus_read.specs.ReadingLaws.{Decides, IsOne, IsAnswered, IsLawful, IsShown}
 use Rattle.planus_read.proofs.Reading.{num_inside, num_there, HeadFacts, head_facts, head_there}
+use Rattle.planus_read.proofs.Reading.{leads_there, leads_inside, leads_to}
 use Rattle.planus_read.proofs.Reading.{text_there, text_holds, byte_list_there, byte_list_holds}
 use Rattle.planus_read.proofs.Reading.{vector_there, vector_holds, union_vector_there}
 use Rattle.planus_read.proofs.Reading.{union_vector_holds, table_there, table_holds}
 
-broken : (clauses : List Clause) (e : ErrorKind) → FirstBroken clauses e → AllHold clauses → ⊥
+pub broken :
+    (clauses : List Clause) (e : ErrorKind) → FirstBroken clauses e → AllHold clauses → ⊥
 broken [] e h all = h
 broken (first ∷ rest) e (inl h) all = h.0 all.0
 broken (first ∷ rest) e (inr h) all = broken rest e h.1 all.1
@@ -142,6 +145,10 @@ table_errors S f =
     let offset = this_error InvalidOffset in
     let size = this_error (InvalidVtableLength (vtable_size_at S (target S f))) in
     (offset, (offset, (offset, (offset, (offset, (size, (this_error InvalidLength, tt)))))))
+
+plain_ref_errors : (size : ℕ) (S : List ℕ) (f : ℕ) → OneError (plain_ref_clauses size S f)
+plain_ref_errors size S f =
+    let offset = this_error InvalidOffset in (offset, (offset, tt))
 
 same_some : {A : Type 0} (m : Option A) (x y : A) → m ≡ Some x → m ≡ Some y → x ≡ y
 same_some m x y h k = let e : Some x ≡ Some y = sym h ∙ k in cc
@@ -331,3 +338,20 @@ lawful_table S f = lawful (table_reading S f) (table_errors S f) decides one
 
     one : IsOne (table_reading S f)
     one x y h k = is_read x h ∙ sym (is_read y k)
+
+pub lawful_plain_ref :
+    (size : ℕ) (S : List ℕ) (f : ℕ) → IsLawful (plain_ref_reading size S f)
+lawful_plain_ref size S f =
+    lawful (plain_ref_reading size S f) (plain_ref_errors size S f) decides one
+  where
+    decides : Decides (plain_ref_reading size S f)
+    decides = (
+      (λ h. (target S f, (leads_there S f h.0, h.1.0))),
+      λ x. (
+        leads_inside S f x.0 x.1.0,
+        (subst (λ n. n + size ≤ length S) (leads_to S f x.0 x.1.0) x.1.1, tt),
+      ),
+    )
+
+    one : IsOne (plain_ref_reading size S f)
+    one x y h k = leads_to S f x h.0 ∙ sym (leads_to S f y k.0)

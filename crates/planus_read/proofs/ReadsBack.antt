@@ -1,6 +1,7 @@
 -- An encoded value reads back.
 use Rattle.std.proofs.Common.{◌≡◌, ℕ, ◌+◌, ◌-◌, ◌*◌, ◌≤◌, ◌-ℤ◌, ◌==◌, not, pos, List, [], ◌∷◌}
 use Rattle.std.proofs.Common.{length, map, take, drop, refl, sym, ap, ◌∙◌, subst, arith, Some}
+use Rattle.std.proofs.Common.{length-drop}
 use Rattle.std.proofs.Common.{Result, Ok, Err}
 use Rattle.std.proofs.lemmas.List.{drop-drop}
 use Rattle.std.specs.Option.{option_map}
@@ -14,8 +15,8 @@ use Rattle.planus_read.specs.Bytes.{Num, BytesStand, position_of}
 use Rattle.planus_read.specs.Clauses.{Answer, shown}
 use Rattle.planus_read.specs.Values.{Value, text, byte_list, plain_list, reference_list, union_vector}
 use Rattle.planus_read.specs.Values.{table, Field, plain, reference, tags, values, field_at}
-use Rattle.planus_read.specs.Values.{vtable_size}
-use Rattle.planus_read.specs.Stands.{at, at_both, Stands, ReferenceStands, TableStands}
+use Rattle.planus_read.specs.Values.{vtable_size, apart}
+use Rattle.planus_read.specs.Stands.{at, at_both, Stands, ReferenceStands, TableStands, ApartStands}
 use Rattle.planus_read.specs.Places.{IsPlace, LeadsOn, place_offset, tagged_place}
 use Rattle.planus_read.specs.Reading.{Leads, Items, UnionItems, TableLayout, text_reading}
 use Rattle.planus_read.specs.Reading.{byte_list_reading, table_reading}
@@ -23,10 +24,10 @@ use Rattle.planus_read.specs.ReadingLaws.{IsAnswered}
 use Rattle.planus_read.specs.Tables.{Slot, ShowsTable}
 use Rattle.planus_read.specs.TableReading.{SlotReads, HasFields}
 use Rattle.planus_read.specs.ReadsBack.{PlainReads, ReferenceReads, FieldsReadBack, ListReads}
-use Rattle.planus_read.specs.ReadsBack.{UnionVectorReads, TableReads, WhatStandsReadsBack}
+use Rattle.planus_read.specs.ReadsBack.{UnionVectorReads, TableReads, ApartReads, WhatStandsReadsBack}
 use Rattle.planus_read.proofs.ReadingLaws.{lawful_number, lawful_signed, lawful_truth, lawful_text}
 use Rattle.planus_read.proofs.ReadingLaws.{lawful_byte_list, lawful_vector, lawful_union_vector}
-use Rattle.planus_read.proofs.ReadingLaws.{lawful_table}
+use Rattle.planus_read.proofs.ReadingLaws.{lawful_table, lawful_plain_ref}
 use Rattle.planus_read.proofs.Reading.{num_inside, number_of_signed}
 use Rattle.planus_read.proofs.SliceLaws.{references_lead, num_in_slice, leads_in_slices}
 use Rattle.planus_read.proofs.SliceLaws.{bytes_in_slice, stands_in_slices}
@@ -245,6 +246,21 @@ table_reads B k entries h start f to = record {
         (answered.alone it.0 it.1) it.2)
     fields (Err e) it = absurd ((lawful_table (drop start B) f).nothing e it layout answered.there)
 
+apart_reads :
+    (B : List ℕ) (k : ℕ) (bytes : List ℕ) → ApartStands B k bytes → (start f : ℕ)
+    → Leads B (start + f) k → ApartReads B k start f bytes
+apart_reads B k bytes h start f to =
+    let here : InSlice B start f k = in_slice B start f k to in
+    record {
+      position = k - start;
+      first = sym here.whole;
+      answered = (lawful_plain_ref (length bytes) (drop start B) f).answered (k - start)
+          (here.leads, let inside = h.0 in omega (arith, inside, here.whole, here.inside, length-drop start B));
+      reads = plain_reads (drop start B) (k - start) bytes
+          (bytes_in_slice B start (k - start) bytes
+          (subst (λ n. BytesStand B n bytes) here.whole h.1));
+    }
+
 pub what_stands_reads_back : WhatStandsReadsBack
 what_stands_reads_back B (at k) (text bytes) well h = text_reads B k bytes well h
 what_stands_reads_back B (at k) (byte_list bytes) well h = byte_list_reads B k bytes h
@@ -253,6 +269,7 @@ what_stands_reads_back B (at k) (plain_list size alignment items) well h = plain
 what_stands_reads_back B (at k) (reference_list distances) well h = reference_list_reads B k
     distances h
 what_stands_reads_back B (at k) (table entries) well h = table_reads B k entries h
+what_stands_reads_back B (at k) (apart item) well h = apart_reads B k item.bytes h
 what_stands_reads_back B (at k) (union_vector items) well h = h
 what_stands_reads_back B (at_both kt kv) (union_vector items) well h = union_vector_reads B kt kv items
     h
@@ -261,3 +278,4 @@ what_stands_reads_back B (at_both kt kv) (byte_list bytes) well h = h
 what_stands_reads_back B (at_both kt kv) (plain_list size alignment items) well h = h
 what_stands_reads_back B (at_both kt kv) (reference_list distances) well h = h
 what_stands_reads_back B (at_both kt kv) (table entries) well h = h
+what_stands_reads_back B (at_both kt kv) (apart item) well h = h

@@ -4,7 +4,7 @@ use Rattle.std.specs.Prelude.{◌≡◌, ℕ, ◌+◌, ◌*◌, ◌≤◌, List,
 use Rattle.std.specs.Int.{w16, ◌∣◌}
 use Rattle.planus_read.specs.Bytes.{Num, Int}
 use Rattle.planus_read.specs.Values.{Value, text, byte_list, plain_list, reference_list}
-use Rattle.planus_read.specs.Values.{union_vector}
+use Rattle.planus_read.specs.Values.{union_vector, apart}
 use Rattle.planus_read.specs.Values.{table, Field, plain, reference, tags, values}
 use Rattle.planus_read.specs.Values.{field_at, vtable_size}
 use Rattle.planus_read.specs.Stands.{Position, at, at_both, ItemsStand}
@@ -43,5 +43,6 @@ AlignedAt B (at k) (plain_list size alignment items) = ListAligned k size alignm
 AlignedAt B (at k) (reference_list distances) = ListAligned k 4 4 distances
 AlignedAt B (at_both kt kv) (union_vector items) = (4 ∣ kt) × ListAligned kv 4 4 items
 AlignedAt B (at k) (table entries) = TableAligned B k entries
+AlignedAt B (at k) (apart item) = item.alignment ∣ k
 AlignedAt B (at k) (union_vector items) = ⊥
 AlignedAt B (at_both kt kv) _ = ⊥

@@ -202,6 +202,20 @@ table_clauses S f =
     number_clause S f w32 ∷ clause (target S f ≤ length S) InvalidOffset
     ∷ object_clauses S (target S f)
 
+-- the reference and all bytes of the value are in S
+abbrev pub plain_ref_clauses : ℕ → List ℕ → ℕ → List Clause
+plain_ref_clauses size S f =
+    number_clause S f w32 ∷ clause (target S f + size ≤ length S) InvalidOffset ∷ []
+
+-- the reading of a struct of this size that stands by itself
+-- The format: a union's reference leads to the first byte of a struct, as to a table.
+abbrev pub plain_ref_reading : ℕ → List ℕ → ℕ → Reading ℕ
+plain_ref_reading size S f =
+    record {
+      There = λ position. Leads S f position × (position + size ≤ length S);
+      clauses = plain_ref_clauses size S f;
+    }
+
 pub record TableLayout : Type 0 where
   pub object : ℕ
   pub vtable : ℕ

@@ -10,14 +10,14 @@ use Rattle.planus_read.specs.declared.table_reader.Table.{Table}
 use Rattle.planus_read.specs.Bytes.{BytesStand, position_of}
 use Rattle.planus_read.specs.Clauses.{Answer, shown}
 use Rattle.planus_read.specs.Values.{Value, text, byte_list, plain_list, reference_list}
-use Rattle.planus_read.specs.Values.{union_vector}
+use Rattle.planus_read.specs.Values.{union_vector, apart}
 use Rattle.planus_read.specs.Values.{table, Field, plain, reference, tags, values}
 use Rattle.planus_read.specs.Stands.{Position, at, at_both, Stands, FieldStands}
 use Rattle.planus_read.specs.Places.{IsPlace, IsTaggedPlace, LeadsOn, TaggedLeadsOn}
 use Rattle.planus_read.specs.Reading.{Leads, TableLayout, number_reading, signed_reading}
 use Rattle.planus_read.specs.Reading.{truth_reading}
 use Rattle.planus_read.specs.Reading.{text_reading, byte_list_reading, vector_reading}
-use Rattle.planus_read.specs.Reading.{union_vector_reading, table_reading}
+use Rattle.planus_read.specs.Reading.{union_vector_reading, table_reading, plain_ref_reading}
 use Rattle.planus_read.specs.ReadingLaws.{IsAnswered}
 use Rattle.planus_read.specs.TableReading.{HasFields}
 use Rattle.planus_read.specs.Tables.{ShowsTable}
@@ -92,6 +92,13 @@ pub record TableReads (B : List ℕ) (k start f : ℕ) (entries : List (ℕ × F
       → Answer (shown (ShowsTable (drop start B) start) (table_reading (drop start B) f)) r
       → IsOkAnd r (HasFields B k entries)
 
+-- the reference leads to these bytes
+pub record ApartReads (B : List ℕ) (k start f : ℕ) (bytes : List ℕ) : Type 0 where
+  pub position : ℕ
+  pub first : start + position ≡ k
+  pub answered : IsAnswered (plain_ref_reading (length bytes) (drop start B) f) position
+  pub reads : PlainReads (drop start B) position bytes
+
 abbrev pub ByReferences : List ℕ → ℕ → (ℕ → ℕ → Type 0) → Type 0
 ByReferences B k Answered = (start f : ℕ) → Leads B (start + f) k → Answered start f
 
@@ -107,6 +114,7 @@ ReadsBack B (at k) (plain_list size alignment items) =
 ReadsBack B (at k) (reference_list distances) =
     ByReferences B k (λ start f. ListReads (ReferenceReads B) B k start f 4 distances)
 ReadsBack B (at k) (table entries) = ByReferences B k (λ start f. TableReads B k start f entries)
+ReadsBack B (at k) (apart item) = ByReferences B k (λ start f. ApartReads B k start f item.bytes)
 ReadsBack B (at_both kt kv) (union_vector items) =
     (start f g : ℕ) → Leads B (start + f) kt → Leads B (start + g) kv
     → UnionVectorReads B kt kv start f g items

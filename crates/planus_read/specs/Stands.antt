@@ -4,7 +4,7 @@ use Rattle.std.specs.Prelude.{Option, Some, None, ⊤, pos, ◌-ℤ◌}
 use Rattle.std.specs.Int.{w16, w32}
 use Rattle.planus_read.specs.Bytes.{Num, Int, BytesStand}
 use Rattle.planus_read.specs.Values.{Value, text, byte_list, plain_list, reference_list}
-use Rattle.planus_read.specs.Values.{union_vector}
+use Rattle.planus_read.specs.Values.{union_vector, apart}
 use Rattle.planus_read.specs.Values.{table, Field, plain, reference, tags, values}
 use Rattle.planus_read.specs.Values.{field_at, vtable_size}
 
@@ -28,6 +28,9 @@ PlainStands size B position item = (length item ≡ size) × BytesStand B positi
 
 abbrev pub ByteListStands : List ℕ → ℕ → List ℕ → Type 0
 ByteListStands B k bytes = (Num B k w32 ≡ Some (length bytes)) × BytesStand B (k + 4) bytes
+
+abbrev pub ApartStands : List ℕ → ℕ → List ℕ → Type 0
+ApartStands B k bytes = (k + length bytes ≤ length B) × BytesStand B k bytes
 
 abbrev pub FieldStands : List ℕ → ℕ → Field → Type 0
 FieldStands B f (plain item) = BytesStand B f item.bytes
@@ -58,8 +61,8 @@ pub data Position : Type 0 where
   at_both : ℕ → ℕ → Position
 
 -- The format: a string is a vector of UTF-8 bytes followed by a zero byte outside the count; a byte
--- vector has no such byte; a union vector is two vectors, of tags and of references. UTF-8 is left
--- to `WellFormed` and to the readers.
+-- vector has no such byte; a union vector is two vectors, of tags and of references; a struct is
+-- its bytes, without a count. UTF-8 is left to `WellFormed` and to the readers.
 abbrev pub Stands : List ℕ → Position → Value → Type 0
 Stands B (at k) (text bytes) =
     (Num B k w32 ≡ Some (length bytes)) × BytesStand B (k + 4) (bytes ++ 0 ∷ [])
@@ -70,5 +73,6 @@ Stands B (at_both kt kv) (union_vector items) =
     ByteListStands B kt (map (λ item. item.0) items)
     × ListStands ReferenceStands B kv 4 (map (λ item. item.1) items)
 Stands B (at k) (table entries) = TableStands B k entries
+Stands B (at k) (apart item) = ApartStands B k item.bytes
 Stands B (at k) (union_vector items) = ⊥
 Stands B (at_both kt kv) _ = ⊥

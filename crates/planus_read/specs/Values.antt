@@ -26,6 +26,8 @@ pub data Value : Type 0 where
   union_vector : List (ℕ × ℕ) → Value
   -- fields by slots
   table : List (ℕ × Field) → Value
+  -- a struct by itself, to which a union refers
+  apart : Plain → Value
 
 abbrev pub field_at : List (ℕ × Field) → ℕ → Option Field
 field_at [] slot = None

@@ -7,6 +7,7 @@ ghost use Rattle.planus_read.specs.ListItems.{UnionItemsStand};
 ghost use Rattle.planus_read.specs.Reading.{number_reading, signed_reading, truth_reading};
 ghost use Rattle.planus_read.specs.Reading.{head_reading, text_reading, byte_list_reading};
 ghost use Rattle.planus_read.specs.Reading.{vector_reading, union_vector_reading, table_reading};
+ghost use Rattle.planus_read.specs.Reading.{plain_ref_reading};
 ghost use Rattle.planus_read.specs.ReadingLaws.{IsLawful, IsShown};
 ghost use Rattle.planus_read.specs.Heads.{ShowsItems};
 ghost use Rattle.planus_read.specs.Slices.{ShowsBytes};
@@ -63,6 +64,7 @@ pub fn readings_are_lawful()
     ensures vector { (S : List ℕ) (f stride : ℕ) → IsLawful (vector_reading S f stride) }
     ensures union_vector { (S : List ℕ) (f g : ℕ) → IsLawful (union_vector_reading S f g) }
     ensures table { (S : List ℕ) (f : ℕ) → IsLawful (table_reading S f) }
+    ensures plain_ref { (size : ℕ) (S : List ℕ) (f : ℕ) → IsLawful (plain_ref_reading size S f) }
     ensures size_prefixed { (B : List ℕ) → IsLawful (prefixed_reading B) }
 {}
 

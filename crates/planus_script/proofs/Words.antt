@@ -8,7 +8,7 @@ use Rattle.std.specs.Str.{is_utf8, IsUtf8}
 use Rattle.std.proofs.lemmas.Str.{IsUtf8-from_is_utf8, is_utf8-from_IsUtf8}
 use Rattle.planus_script.specs.Words.{words_of}
 use Rattle.planus.specs.Steps.{Front}
-use Rattle.planus_script.specs.Script.{bytes_of, finish_of, command_of, command_of_words, clear_of}
+use Rattle.planus_script.specs.Script.{bytes_of, finish_of, struct_of, command_of, command_of_words, clear_of}
 use Rattle.planus_script.specs.declared.script.ReadFault.TheVariants.{NotUtf8, UnknownCommand, BadHex}
 
 pub not_utf8 : (line : List ℕ) → ¬ (IsUtf8 line) → command_of line ≡ Err NotUtf8
@@ -50,3 +50,10 @@ bytes_two word (w ∷ ws) h = refl
 
 pub bytes_followed : (word rest : List ℕ) → bytes_of (word ∷ words_of rest) ≡ Err BadHex
 bytes_followed word rest = bytes_two word (words_of rest) (some_words rest)
+
+struct_three : (alignment digits : List ℕ) (words : List (List ℕ)) → 1 ≤ length words → struct_of (alignment ∷ digits ∷ words) ≡ Err UnknownCommand
+struct_three alignment digits [] h = absurd (omega arith)
+struct_three alignment digits (w ∷ ws) h = refl
+
+pub struct_followed : (alignment digits rest : List ℕ) → struct_of (alignment ∷ digits ∷ words_of rest) ≡ Err UnknownCommand
+struct_followed alignment digits rest = struct_three alignment digits (words_of rest) (some_words rest)

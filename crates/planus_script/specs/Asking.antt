@@ -22,12 +22,18 @@ abbrev pub AsksForBytes : List (List ℕ) → Type 0
 AsksForBytes (word ∷ []) = 2 ≤ length word
 AsksForBytes _ = ⊥
 
+-- if there is an alignment, and one word with the digits of a byte
+abbrev pub AsksForStruct : List (List ℕ) → Type 0
+AsksForStruct (alignment ∷ digits ∷ []) = IsOk (number_of alignment) × (2 ≤ length digits)
+AsksForStruct _ = ⊥
+
 abbrev pub AsksForStep : Command → List (List ℕ) → Type 0
 AsksForStep named.Text words = ⊤
 AsksForStep named.Bytes words = AsksForBytes words
 AsksForStep (named.Numbers width) words = AsksForItems number_of words
 AsksForStep named.Refs words = AsksForItems number_of words
 AsksForStep named.Unions words = AsksForItems union_of words
+AsksForStep named.Struct words = AsksForStruct words
 AsksForStep named.Table words = AsksForItems field_of words
 AsksForStep (named.Finish sized) words = ⊥
 AsksForStep named.Clear words = ⊥

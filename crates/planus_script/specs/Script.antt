@@ -1,12 +1,13 @@
 -- The steps of an input, line by line.
 use Rattle.std.specs.Prelude.{ℕ, ◌+◌, ◌*◌, ◌==◌, ◌&&◌, Bool, true, false, List, [], ◌∷◌, map}
-use Rattle.std.specs.Prelude.{length, Option, Some, None, Result, Ok, Err, if◌then◌else◌, codes}
+use Rattle.std.specs.Prelude.{length, min, Option, Some, None, Result, Ok, Err, if◌then◌else◌, codes}
 use Rattle.std.specs.List.{slice_split, after_first, list_all}
 use Rattle.std.specs.Char.{is_digit, digit_value}
 use Rattle.std.specs.Option.{option_map, option_or}
 use Rattle.std.specs.Int.{is_in_range}
 use Rattle.std.specs.Str.{is_utf8, bytes_eq}
-use Rattle.planus.specs.Steps.{Step, text, bytes, numbers, refs, unions, table, finish, clear}
+use Rattle.planus.specs.Steps.{Step, text, bytes, numbers, refs, unions, struct, table, finish}
+use Rattle.planus.specs.Steps.{clear}
 use Rattle.planus.specs.Steps.{Front, front_of, bare_field}
 use Rattle.planus.specs.declared.steps.Field.{Field}
 use Rattle.planus_script.specs.Words.{words_of, number_of, numbers_of}
@@ -90,6 +91,21 @@ bytes_of [] = Ok (bytes [])
 bytes_of (word ∷ []) = bytes_step (bytes_in word)
 bytes_of (word ∷ more ∷ words) = Err BadHex
 
+-- above 255 it is 255, which is unknown as well
+abbrev pub alignment_of : ℕ → ℕ
+alignment_of number = min number 255
+
+-- the number's error comes before the other
+abbrev pub struct_with : Result ℕ ReadFault → Option (List ℕ) → Result Step ReadFault
+struct_with (Err fault) content = Err fault
+struct_with (Ok alignment) None = Err BadHex
+struct_with (Ok alignment) (Some content) = Ok (struct (alignment_of alignment) content)
+
+-- `struct A HEX`
+abbrev pub struct_of : List (List ℕ) → Result Step ReadFault
+struct_of (alignment ∷ digits ∷ []) = struct_with (number_of alignment) (bytes_in digits)
+struct_of _ = Err UnknownCommand
+
 abbrev pub list_step : {A : Type 0} → (List A → Step) → Result (List A) ReadFault
     → Result Step ReadFault
 list_step step (Ok items) = Ok (step items)
@@ -110,6 +126,7 @@ abbrev pub steps_named : List ℕ → Option Command
 steps_named word =
     if bytes_eq word (codes "refs") then Some named.Refs
     else if bytes_eq word (codes "unions") then Some named.Unions
+    else if bytes_eq word (codes "struct") then Some named.Struct
     else if bytes_eq word (codes "table") then Some named.Table
     else if bytes_eq word (codes "finish") then Some (named.Finish false)
     else if bytes_eq word (codes "sized") then Some (named.Finish true)
@@ -124,6 +141,7 @@ step_by named.Bytes behind words = bytes_of words
 step_by (named.Numbers width) behind words = list_step (numbers width) (numbers_of words)
 step_by named.Refs behind words = list_step refs (numbers_of words)
 step_by named.Unions behind words = list_step unions (unions_of words)
+step_by named.Struct behind words = struct_of words
 step_by named.Table behind words = list_step table_step (fields_of words)
 step_by (named.Finish sized) behind words = finish_of (front_of sized) words
 step_by named.Clear behind words = clear_of words

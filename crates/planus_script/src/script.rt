@@ -2,7 +2,7 @@
 
 ghost use Rattle.std.specs.Prelude.{◌≡◌, ℕ, ◌+◌, ◌-◌, ◌<◌, ◌≤◌, ◌==◌, List, [], ◌∷◌, length};
 ghost use Rattle.std.specs.Prelude.{IsTrue, ◌↔◌, Result, Ok, Err, MatchOption, MatchResult};
-ghost use Rattle.std.specs.Prelude.{unwrap_or, OnOk, OnErr, ◌++◌, map, IfOk, IfSome};
+ghost use Rattle.std.specs.Prelude.{unwrap_or, OnOk, OnErr, ◌++◌, map, IfOk, IfSome, IsOk};
 ghost use Rattle.std.specs.List.{slice_split, position, list_all, after_first};
 ghost use Rattle.std.specs.Option.{option_copied, option_map};
 ghost use Rattle.std.specs.Char.{is_ascii_digit};
@@ -12,12 +12,13 @@ ghost use Rattle.planus_script.specs.Words.{items_of};
 ghost use Rattle.planus_script.specs.Script.{identifier_of, finish_of, finish_at, identified_at};
 ghost use Rattle.planus_script.specs.Script.{byte_of as byte_of_lem, hex_bytes as hex_bytes_lem};
 ghost use Rattle.planus_script.specs.Script.{bytes_of, bytes_step, bytes_in as bytes_in_lem};
-ghost use Rattle.planus_script.specs.Script.{lines_of, list_step};
+ghost use Rattle.planus_script.specs.Script.{lines_of, list_step, struct_of, struct_with};
 ghost use Rattle.planus_script.specs.Script.{clear_of, command_of, command_of_words, script_of};
 ghost use Rattle.planus_script.specs.Script.{contents_named, steps_named, command_named};
 ghost use Rattle.planus_script.specs.Script.{step_by as step_by_lem};
 ghost use Rattle.planus_script.specs.Script.{is_skipped as is_skipped_lem};
-ghost use Rattle.planus_script.specs.Asking.{AsksForItems, AsksForBytes, AsksForStep};
+ghost use Rattle.planus_script.specs.Asking.{AsksForItems, AsksForBytes, AsksForStruct};
+ghost use Rattle.planus_script.specs.Asking.{AsksForStep};
 ghost use Rattle.planus_script.specs.Asking.{AsksForWords, AsksForLine, AsksForLines};
 ghost use Rattle.planus_script.specs.inner.Steps.{AnswersCommand, AnswersLine, AnswersScript};
 ghost use Rattle.planus_script.specs.inner.Steps.{read_of};
@@ -334,6 +335,36 @@ fn bytes_in(alloc: Global, digits: &str) -> std::result::Result<Step, LineError>
     Ok(Step::Bytes(hex_bytes(alloc, digits.as_bytes())?))
 }
 
+fn structure(alloc: Global, words: Option<&str>) -> std::result::Result<Step, LineError>
+    ensures { let words = words_behind (option_copied words.entry) in
+        AnswersLine result (struct_of words) (AsksForStruct words) }
+{
+    let Some(words) = words else {
+        return Err(LineError::Fault(ReadFault::UnknownCommand));
+    };
+    let (alignment, words) = first_word(words);
+    let Some(words) = words else {
+        return Err(LineError::Fault(ReadFault::UnknownCommand));
+    };
+    let (digits, words) = first_word(words);
+    match words {
+        None => struct_in(alloc, alignment, digits),
+        Some(_) => Err(LineError::Fault(ReadFault::UnknownCommand)),
+    }
+}
+
+fn struct_in(alloc: Global, alignment: &str, digits: &str) -> std::result::Result<Step, LineError>
+    ensures { AnswersLine result (struct_with (number_of alignment.now) (bytes_in_lem digits.now))
+        (IsOk (number_of alignment.now) × (2 ≤ length digits.now)) }
+{
+    let alignment = number(alignment)?.min(255) as u8;
+    if digits.is_empty() {
+        return Err(LineError::Fault(ReadFault::BadHex));
+    }
+    let bytes = hex_bytes(alloc, digits.as_bytes())?;
+    Ok(Step::Struct { alignment, bytes })
+}
+
 pub(crate) trait FromWord: Sized + Drop {
     ghost use Rattle.planus_script.specs.declared.script.ReadFault.{ReadFault};
 
@@ -422,6 +453,7 @@ enum Command {
     Numbers { width: u8 },
     Refs,
     Unions,
+    Struct,
     Table,
     Finish { sized: bool },
     Clear,
@@ -452,6 +484,8 @@ fn of_steps(word: &str) -> Option<Command>
         Some(Command::Refs)
     } else if word == "unions" {
         Some(Command::Unions)
+    } else if word == "struct" {
+        Some(Command::Struct)
     } else if word == "table" {
         Some(Command::Table)
     } else if word == "finish" {
@@ -489,6 +523,7 @@ fn step_by(
         Command::Numbers { width } => list(alloc, width, rest),
         Command::Refs => refs(alloc, rest),
         Command::Unions => unions(alloc, rest),
+        Command::Struct => structure(alloc, rest),
         Command::Table => table(alloc, rest),
         Command::Finish { sized } => Ok(finish(rest, sized)?),
         Command::Clear => Ok(clear(rest)?),

@@ -4,7 +4,7 @@ use Rattle.std.specs.Int.{w32, byte_len}
 use Rattle.planus_read.specs.Clauses.{FirstBroken}
 use Rattle.planus_read.specs.Reading.{target}
 use Rattle.planus_read.specs.declared.errors.ErrorKind.{ErrorKind}
-use Rattle.planus_view.specs.PlainRefs.{plain_ref_clauses}
+use Rattle.planus_read.specs.Reading.{plain_ref_clauses}
 use Rattle.planus_verify.specs.declared.struct_room.StructRoom.{StructRoom}
 
 -- The reference at f leads to so many bytes, or to none of any size.

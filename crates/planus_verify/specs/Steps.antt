@@ -12,7 +12,7 @@ use Rattle.planus_read.specs.declared.errors.ErrorKind.{ErrorKind}
 use Rattle.planus_read.specs.declared.errors.ErrorKind.TheVariants.{InvalidOffset}
 use Rattle.planus_read.specs.declared.errors.ErrorKind.TheVariants.{InvalidVtableLength}
 use Rattle.planus_read.specs.declared.errors.ErrorKind.TheVariants.{MissingRequired}
-use Rattle.planus_view.specs.PlainRefs.{plain_ref_clauses}
+use Rattle.planus_read.specs.Reading.{plain_ref_clauses}
 use Rattle.planus_verify.specs.Schemas.{Shapes, fields_of, variant_in}
 use Rattle.planus_verify.specs.declared.schema.FieldShape.{FieldShape}
 use Rattle.planus_verify.specs.declared.schema.Variant.{Variant}

@@ -3,7 +3,7 @@
 ghost use Rattle.planus_read.specs.Places.{place_bytes, place_offset};
 ghost use Rattle.planus_read.specs.Reading.{vector_clauses, byte_list_clauses, text_clauses};
 ghost use Rattle.planus_read.specs.Slices.{slice_bytes};
-ghost use Rattle.planus_view.specs.PlainRefs.{plain_ref_clauses};
+ghost use Rattle.planus_read.specs.Reading.{plain_ref_clauses};
 ghost use Rattle.planus_verify.specs.Steps.{plain_clauses};
 ghost use Rattle.planus_verify.specs.Walks.{IsTested};
 

@@ -38,7 +38,8 @@ impl<'a, T: Plain> PlainRef<'a, T> {
     ghost use Rattle.planus_read.specs.Clauses.{AllHold, Answer};
     ghost use Rattle.planus_read.specs.Plain.{own_reading};
     ghost use Rattle.planus_read.specs.Slices.{slice_start};
-    ghost use Rattle.planus_view.specs.PlainRefs.{plain_ref_clauses, plain_slice, reads_plain_ref};
+    ghost use Rattle.planus_read.specs.Reading.{plain_ref_clauses};
+    ghost use Rattle.planus_view.specs.PlainRefs.{plain_slice, reads_plain_ref};
 
     #[inline(always)]
     pub(crate) fn new(bytes: SliceWithStartOffset<'a>) -> PlainRef<'a, T>

@@ -11,9 +11,9 @@ use Rattle.planus_read.specs.Clauses.{AllHold}
 use Rattle.planus_read.specs.Reading.{Leads, count_at, items_at, text_clauses, byte_list_clauses}
 use Rattle.planus_read.specs.Reading.{vector_clauses, target}
 use Rattle.planus_read.specs.ReadsBack.{ListReads, ReferenceReads}
-use Rattle.planus_read.specs.Stands.{at, Stands, FieldStands}
+use Rattle.planus_read.specs.Stands.{ApartStands, at, Stands, FieldStands}
 use Rattle.planus_read.specs.Values.{Field, Value, reference, text, byte_list}
-use Rattle.planus_read.specs.Values.{plain_list, reference_list, union_vector, table}
+use Rattle.planus_read.specs.Values.{plain_list, reference_list, union_vector, table, apart}
 use Rattle.planus_read.proofs.Reading.{leads_inside, leads_to, stood_inside, vector_holds}
 use Rattle.planus_read.proofs.ReadingLaws.{lawful_text, lawful_byte_list, lawful_vector}
 use Rattle.planus_read.proofs.ReadsBack.{what_stands_reads_back}
@@ -21,7 +21,7 @@ use Rattle.planus_read.proofs.SliceLaws.{references_lead, bytes_in_slice, leads_
 use Rattle.planus_write.specs.Contents.{Content, item, value, values, written}
 use Rattle.planus.specs.ReadBack.{FieldHolds, AllStand}
 use Rattle.planus.specs.Unions.{IsApart, IsText as IsTextIn}
-use Rattle.planus_view.specs.PlainRefs.{ApartStands, plain_ref_clauses}
+use Rattle.planus_read.specs.Reading.{plain_ref_clauses}
 use Rattle.planus_verify.specs.Steps.{Step, Faults, items_from, value_steps, text_steps}
 use Rattle.planus_verify.specs.Steps.{plain_clauses, reference_steps, vector_steps}
 use Rattle.planus_verify.specs.Steps.{struct_steps, variant_steps}
@@ -62,8 +62,8 @@ module _ (B : List ℕ) (k q : ℕ) where
       let read = what_stands_reads_back B (at (position_of B d)) (text bytes) utf8 stands k q leads in
       (lawful_text (drop k B) q).decides.1 (bytes, read.there)
 
-  struct_there : (d : ℕ) (bytes : List ℕ) (size : ℕ) → length bytes ≡ size → ApartStands B d bytes
-      → Leads B (k + q) (position_of B d) → AllHold (plain_ref_clauses size (drop k B) q)
+  struct_there : (d : ℕ) (bytes : List ℕ) (size : ℕ) → length bytes ≡ size
+      → ApartStands B (position_of B d) bytes → Leads B (k + q) (position_of B d) → AllHold (plain_ref_clauses size (drop k B) q)
   struct_there d bytes size long stands leads =
       let p : ℕ = q + leads.0 in
       let whole : position_of B d ≡ k + q + leads.0 = leads.2 in
@@ -71,11 +71,10 @@ module _ (B : List ℕ) (k q : ℕ) where
       let here : Leads (drop k B) q p =
       leads_in_slices B k q p (subst (Leads B (k + q)) same leads) in
       let to : p ≡ target (drop k B) q = leads_to (drop k B) q p here in
-      let inside : length bytes ≤ length (drop (position_of B d) B) =
-      stood_inside (drop (position_of B d) B) bytes stands in (
+      let inside : position_of B d + length bytes ≤ length B = stands.0 in (
         leads_inside (drop k B) q p here,
         (
-          omega (arith, to, same, inside, long, length-drop (position_of B d) B, length-drop k B),
+          omega (arith, to, same, inside, long, length-drop k B),
           tt,
         ),
       )
@@ -143,6 +142,7 @@ text_of B (text bytes ∷ texts) (d ∷ ds) fit stand zero one e =
     (bytes, fit.0, subst (λ (n : ℕ). Stands B (at (position_of B n)) (text bytes)) is stand.0)
 text_of B (byte_list bytes ∷ texts) (d ∷ ds) fit stand zero one e = absurd fit.0
 text_of B (plain_list size alignment items ∷ texts) (d ∷ ds) fit stand zero one e = absurd fit.0
+text_of B (apart _ ∷ texts) (d ∷ ds) fit stand zero one e = absurd fit.0
 text_of B (reference_list distances ∷ texts) (d ∷ ds) fit stand zero one e = absurd fit.0
 text_of B (union_vector items ∷ texts) (d ∷ ds) fit stand zero one e = absurd fit.0
 text_of B (table fields ∷ texts) (d ∷ ds) fit stand zero one e = absurd fit.0
@@ -252,6 +252,12 @@ module _ (H : OfTable) (Written : OfWritten) (B : List ℕ) (tables_hold : Table
       → StepsHold H (struct_steps (at_ None) size (drop k B) q)
   held_struct size (written d) bytes long stands holds =
       (struct_there B k q d bytes size long stands (led d holds), tt)
+  held_struct size (value one) bytes long is holds = (
+    struct_there B k q holds.0 bytes size long
+        (subst (λ (v : Value). Stands B (at (position_of B holds.0)) v) is.1 holds.2)
+        (led holds.0 holds.1),
+    tt,
+  )
   held_struct size _ bytes long stands holds = absurd stands
 
   pub held_variant : (one : Option VariantKind) (content : Content)

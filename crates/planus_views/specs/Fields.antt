@@ -7,7 +7,7 @@ use Rattle.planus_read.specs.Reading.{target, items_at, count_at, slots_of, text
 use Rattle.planus_read.specs.Reading.{vector_clauses, table_clauses, union_vector_clauses}
 use Rattle.planus_read.specs.Tables.{BothSlots, table_object, table_slots, table_start, slot_of}
 use Rattle.planus_read.specs.declared.table_reader.Table.{Table}
-use Rattle.planus_view.specs.PlainRefs.{plain_ref_clauses}
+use Rattle.planus_read.specs.Reading.{plain_ref_clauses}
 use Rattle.planus_verify.specs.Schemas.{Shapes, fields_of, variant_in}
 use Rattle.planus_verify.specs.Verified.{Verified}
 use Rattle.planus_verify.specs.declared.schema.FieldShape.{FieldShape}

@@ -89,7 +89,7 @@ FitsIf Written required kind (Some content) = FitsKind Written kind content
 abbrev pub HoldsText : List ℕ → Content → Type 0
 HoldsText B content = (bytes : List ℕ) × IsUtf8 bytes × IsTextIn B content bytes
 
--- a struct of this size, written before
+-- a struct of this size, written before or with the table
 abbrev pub HoldsStruct : List ℕ → ℕ → Content → Type 0
 HoldsStruct B size content = (bytes : List ℕ) × (length bytes ≡ size) × IsApart B content bytes
 

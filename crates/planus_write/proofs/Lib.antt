@@ -7,6 +7,7 @@ pub mod PlannedRoom
 pub mod PreparedItems
 pub mod WrittenLists
 pub mod WrittenUnions
+pub mod WrittenStructs
 pub mod ToldTables
 pub mod WholeTables
 pub mod WrittenTables

@@ -8,8 +8,9 @@ use Rattle.planus_back.specs.Promises.{Promise, greatest_alignment}
 use Rattle.planus_back.specs.Parts.{Part}
 use Rattle.planus_read.specs.Values.{Value, text, byte_list, plain_list, reference_list}
 use Rattle.planus_read.specs.Values.{union_vector}
-use Rattle.planus_read.specs.Values.{table}
+use Rattle.planus_read.specs.Values.{Plain, table, apart}
 use Rattle.planus_read.specs.Bytes.{position_of}
+use Rattle.planus_read.specs.Plain.{IsLayout}
 use Rattle.planus_read.specs.Stands.{Position, at, at_both}
 use Rattle.planus_write.specs.Shared.{texts, byte_lists}
 use Rattle.planus_write.specs.History.{Entry, unshared_entry}
@@ -93,6 +94,18 @@ abbrev pub union_entries : List (ℕ × ℕ) → List Entry
 union_entries items =
     list_entries 4 4 (map reference_item (distances_in items)) ++ tags_entries (tags_in items)
 
+-- A struct's bytes as one part, with its alignment. The format: a struct is stored in place, with
+-- no count before it.
+abbrev pub apart_part : Plain → Part
+apart_part item = record {
+  size = length item.bytes;
+  alignment = item.alignment;
+  bytes_at = λ place. item.bytes;
+}
+
+abbrev pub apart_entry : Plain → Entry
+apart_entry item = unshared_entry (apart_part item)
+
 abbrev pub identifier_bytes : Option (List ℕ) → List ℕ
 identifier_bytes None = []
 identifier_bytes (Some bytes) = bytes
@@ -156,6 +169,7 @@ IsWritten before (reference_list distances) =
     AllByRecursion (λ distance. distance ≤ before) distances
 IsWritten before (union_vector items) = AllByRecursion (λ item. item.1 ≤ before) items
 IsWritten before (table entries) = IsTable before entries
+IsWritten before (apart item) = IsLayout (length item.bytes) item.alignment
 
 abbrev pub entries_of : Value → List Entry
 entries_of (text bytes) = text_entry bytes ∷ []
@@ -165,6 +179,7 @@ entries_of (plain_list size alignment items) =
 entries_of (reference_list distances) = list_entries 4 4 (map reference_item distances)
 entries_of (union_vector items) = union_entries items
 entries_of (table entries) = table_entries entries
+entries_of (apart item) = apart_entry item ∷ []
 
 -- For a union vector, the distance of its references and that of its tags.
 pub record Named : Type 0 where

@@ -3,7 +3,9 @@ use Rattle.std.specs.Prelude.{slice_get, Some, Result, Ok, Err, Vec}
 use Rattle.std.specs.declared.alloc.Global.{Global}
 use Rattle.std.specs.List.{AllByRecursion}
 use Rattle.planus_write.specs.History.{Entry}
+use Rattle.planus_read.specs.Values.{Plain}
 use Rattle.planus_write.specs.Parts.{text_entry, byte_list_entry, list_entries, last_of}
+use Rattle.planus_write.specs.Parts.{apart_entry}
 use Rattle.planus_write.specs.Items.{Item}
 use Rattle.planus_write.specs.State.{State, Grows}
 use Rattle.planus_write.specs.Placing.{Outcome, then_does, WritesEntry}
@@ -42,6 +44,10 @@ WritesText text old answer new = AsOffset (WritesEntry (text_entry text) []) old
 abbrev pub WritesByteList : {T : Type 0} → List ℕ → Outcome (Offset T)
 WritesByteList bytes old answer new =
     AsOffset (WritesEntry (byte_list_entry bytes) []) old answer new
+
+-- a struct was written by itself, or the call failed
+abbrev pub WritesApart : {T : Type 0} → Plain → Outcome (Offset T)
+WritesApart item old answer new = AsOffset (WritesEntry (apart_entry item) []) old answer new
 
 -- Memory was reserved, or the allocation failed. The builder is as it was.
 abbrev pub TakesMemory : Outcome (Unit {0})

@@ -1,5 +1,6 @@
 //! The types that can be written.
 
+mod apart;
 mod array;
 mod box_;
 mod by_ref;

@@ -1,6 +1,7 @@
 //! The builder of flatbuffers. Start at [`Builder`].
 #![tactic(auto)]
 
+mod apart;
 mod backing;
 pub mod builder;
 mod by_ref;
@@ -24,6 +25,7 @@ pub mod union_vector_offset;
 mod unions;
 mod written;
 
+pub use apart::Apart;
 pub use builder::Builder;
 pub use by_ref::ByRef;
 pub use byte_lists::{ByteList, SignedList};

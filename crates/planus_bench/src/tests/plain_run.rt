@@ -16,7 +16,7 @@ struct Shared {
 struct Written {
     // The last byte first.
     reversed: Vec<u8>,
-    // Distance from the end, and alignment: 2, 4 or 8.
+    // Distance from the end, and alignment: up to 16.
     parts: Vec<(usize, usize)>,
     values: Vec<StepPlace>,
     shared: Vec<Shared>,
@@ -104,7 +104,7 @@ impl Written {
     }
 
     fn can_stand(&self, distance: usize, alignment: usize) -> bool {
-        for length in 0..8usize {
+        for length in 0..16usize {
             if length.wrapping_sub(distance).checked_rem(alignment) == Some(0)
                 && self.keeps(length)
             {
@@ -115,7 +115,7 @@ impl Written {
     }
 
     fn pad(&mut self, size: usize, alignment: usize) -> Result<usize, AllocError> {
-        for _ in 0..7 {
+        for _ in 0..15 {
             if self.can_stand(self.reversed.len().wrapping_add(size), alignment) {
                 break;
             }
@@ -127,12 +127,11 @@ impl Written {
     }
 
     fn greatest(&self) -> usize {
+        let mut greatest = 4;
         for (_, alignment) in &self.parts {
-            if *alignment == 8 {
-                return 8;
-            }
+            greatest = greatest.max(*alignment);
         }
-        4
+        greatest
     }
 
     fn put(&mut self, bytes: &[u8]) -> Result<(), AllocError> {
@@ -202,6 +201,12 @@ impl Written {
     fn bytes(&mut self, step: usize, bytes: &[u8]) -> Result<(), Fail> {
         let distance = self.counted(Kind::Bytes, bytes, &[])?;
         self.add_at(step, distance)
+    }
+
+    fn structure(&mut self, step: usize, alignment: u8, bytes: &[u8]) -> Result<(), Fail> {
+        self.pad(bytes.len(), alignment as usize)?;
+        self.put(bytes)?;
+        self.add(step)
     }
 
     fn numbers(&mut self, step: usize, width: u8, items: &[u64]) -> Result<(), Fail> {
@@ -378,6 +383,9 @@ impl Written {
             Step::Numbers { width, items } => self.numbers(number, *width, items.as_slice()),
             Step::Refs(steps) => self.refs(number, steps.as_slice()),
             Step::Unions(items) => self.unions(number, items.as_slice()),
+            Step::Struct { alignment, bytes } => {
+                self.structure(number, *alignment, bytes.as_slice())
+            }
             Step::Table(fields) => self.table(number, fields.as_slice()),
             Step::Finish { .. } | Step::FinishSized { .. } | Step::Clear => Ok(()),
         }

@@ -78,6 +78,14 @@ impl<'a> Reading<'a> {
         Ok(self.finished.bytes.len().wrapping_sub(target))
     }
 
+    // The bytes of a struct, which stand by themselves.
+    fn has_struct(&self, place: Place<'a>, bytes: &[u8]) -> Result<bool, Fail> {
+        let distance = self.distance(place)?;
+        let begin = self.finished.bytes.len().wrapping_sub(distance);
+        let end = begin.wrapping_add(bytes.len());
+        Ok(self.finished.bytes.as_slice().get(begin..end) == Some(bytes))
+    }
+
     fn unions(&self, step: usize) -> &'a [(u8, usize)] {
         match self.steps.get(step) {
             Some(Step::Unions(unions)) => unions.as_slice(),
@@ -142,6 +150,7 @@ impl<'a> Reading<'a> {
             Some(Step::Bytes(bytes)) => has_bytes(place, bytes.as_slice()),
             Some(Step::Numbers { width, items }) => has_numbers(place, *width, items.as_slice()),
             Some(Step::Refs(steps)) => self.has_references(place, steps.as_slice()),
+            Some(Step::Struct { bytes, .. }) => self.has_struct(place, bytes.as_slice()),
             Some(Step::Table(fields)) => self.has_fields(place, fields.as_slice()),
             _ => Ok(false),
         }

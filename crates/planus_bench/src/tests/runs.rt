@@ -120,6 +120,17 @@ pub fn bytes(alloc: Global, count: usize) -> Result<Step, AllocError> {
     Ok(Step::Bytes(bytes))
 }
 
+// One to four alignments of 1, 2, 4, 8 or 16 bytes.
+fn structure(alloc: Global, shape: usize) -> Result<Step, AllocError> {
+    let alignment = 1 << (shape % 5);
+    let size = shape / 5 % 4 + 1;
+    let mut bytes = Vec::new(alloc);
+    for index in 0..size.wrapping_mul(alignment as usize) {
+        bytes.push((index % 256) as u8)?;
+    }
+    Ok(Step::Struct { alignment, bytes })
+}
+
 fn one_of(numbers: &[usize], draw: usize) -> Option<usize> {
     let index = draw.checked_rem(numbers.len())?;
     numbers.get(index).copied()
@@ -159,6 +170,7 @@ impl Mixed {
             }
             (13, _) => text(alloc, self.numbers.draw() % 20000),
             (14 | 15, _) => bytes(alloc, self.numbers.draw() % 50),
+            (16, _) => structure(alloc, self.numbers.draw()),
             (17 | 18, _) => list(alloc, 2, self.numbers.draw() % 20),
             (19 | 20, _) => list(alloc, 4, self.numbers.draw() % 20),
             (21 | 22, _) => list(alloc, 8, self.numbers.draw() % 20),

@@ -35,6 +35,12 @@ const CLEAN: &str = "\
     text A\ntext B\nunions 1:0 2:1\ntable 0=tags:2 1=values:2\nfinish 3\n|\
         04 00 00 00 f4 ff ff ff 10 00 00 00 14 00 00 00 08 00 0c 00 04 00 08 00 02 00 00 00 01 02 \
         00 00 02 00 00 00 10 00 00 00 04 00 00 00 01 00 00 00 42 00 00 00 01 00 00 00 41 00\n;\
+    struct 4 01000000\nfinish 0\n|04 00 00 00 01 00 00 00\n;\
+    struct 8 0102030405060708\ntext A\nunions 2:1 1:0\ntable 0=tags:2 1=values:2\nfinish 3\n|\
+        08 00 00 00 00 00 00 00 f4 ff ff ff 10 00 00 00 14 00 00 00 08 00 0c 00 04 00 08 00 02 00 \
+        00 00 02 01 00 00 02 00 00 00 08 00 00 00 0c 00 00 00 01 00 00 00 41 00 00 00 01 02 03 04 \
+        05 06 07 08\n;\
+    struct 1 ff\ntext\nfinish 1\n|04 00 00 00 00 00 00 00 00 ff\n;\
     bytes 4a4B\nfinish 0\n|04 00 00 00 02 00 00 00 4a 4b\n;\
     u16 007\nfinish 0\n|04 00 00 00 01 00 00 00 07 00\n;\
     u16 00000000000000000007\nfinish 0\n|04 00 00 00 01 00 00 00 07 00\n;\
@@ -75,6 +81,17 @@ const FAULTY: &str = "\
     u32 4294967296\n|line 1: value too big\n;\
     u16 1  2\n|line 1: bad number\n;\
     u16 1 \n|line 1: bad number\n;\
+    struct 3 000000\n|line 1: alignment unknown\n;\
+    struct 0 00\n|line 1: alignment unknown\n;\
+    struct 272 00\n|line 1: alignment unknown\n;\
+    struct 4 000000\n|line 1: wrong size\n;\
+    struct\n|line 1: unknown command\n;\
+    struct 4\n|line 1: unknown command\n;\
+    struct 4 00000000 00\n|line 1: unknown command\n;\
+    struct x 00\n|line 1: bad number\n;\
+    struct 4 \n|line 1: bad hex\n;\
+    struct 4 0\n|line 1: bad hex\n;\
+    struct 1 00\ntable 0=tags:0\n|line 2: wrong kind\n;\
     bytes 0\n|line 1: bad hex\n;\
     bytes 0g\n|line 1: bad hex\n;\
     bytes 00 \n|line 1: bad hex\n;\

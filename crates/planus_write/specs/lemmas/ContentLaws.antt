@@ -1,13 +1,16 @@
 -- The laws of what values hold once they are prepared.
 use Rattle.std.specs.Prelude.{◌≡◌, ℕ, List, [], ◌∷◌, length, None, Ok}
 use Rattle.std.proofs.Common.{refl, subst, sym}
-use Rattle.planus_read.specs.Values.{Value, Field, reference, text, byte_list, union_vector}
+use Rattle.planus_read.specs.Plain.{IsLayout, Shape}
+use Rattle.planus_read.specs.Values.{Value, Field, Plain, reference, text, byte_list, union_vector}
+use Rattle.planus_read.specs.Values.{apart}
 use Rattle.planus_write.specs.Kept.{IsKept}
 use Rattle.planus_write.specs.lemmas.Laws.{extends_itself}
 use Rattle.planus_write.specs.Parts.{IsWritten, entries_of, last_of, Named, named_by}
 use Rattle.planus_write.specs.History.{History}
 use Rattle.planus_write.specs.Placing.{Outcome}
 use Rattle.planus_write.specs.Preparing.{Answers, WritesEntries, WritesByteList, WritesText}
+use Rattle.planus_write.specs.Preparing.{WritesApart}
 use Rattle.planus_write.specs.State.{State, IsHistoryOf, Extends}
 use Rattle.planus_write.specs.declared.offset.Offset.{Offset}
 use Rattle.planus_write.specs.lemmas.PutEntries.{entries_put}
@@ -142,3 +145,27 @@ byte_list_prepared bytes = record {
       (offset.distance, new, done, (refl, refl)) is_history tt refl in
       (added.0, added.1, added.2, (offset.distance, refl, added.3)));
 }
+
+pub apart_prepared : {T X : Type 0} {may : X → State → Type 0} (item_of : X → Plain)
+    → ((x : X) → IsLayout (length (item_of x).bytes) (item_of x).alignment)
+    → PreparesContent {A = Offset T} may
+    (λ x old answer new. WritesApart (item_of x) old answer new)
+    (λ x. value (apart (item_of x))) (λ offset. reference offset.distance)
+apart_prepared item_of is_layout = record {
+  comes = λ x old offset new history may done is_history.
+      (let added = value_added (apart (item_of x)) old (offset.distance ∷ []) new history
+      (offset.distance, new, done, (refl, refl)) is_history (is_layout x) refl in
+      (added.0, added.1, added.2, (offset.distance, refl, added.3)));
+}
+
+pub plain_prepared : {T X A : Type 0} {may : X → State → Type 0} {size alignment : ℕ}
+    (shape : Shape A size alignment) (plain_of : X → A)
+    → PreparesContent {A = Offset T} may
+    (λ x old answer new. WritesApart
+    (record { bytes = shape.encoded (plain_of x); alignment = alignment }) old answer new)
+    (λ x. value (apart (record { bytes = shape.encoded (plain_of x); alignment = alignment })))
+    (λ offset. reference offset.distance)
+plain_prepared {alignment = alignment} shape plain_of =
+    apart_prepared
+    (λ x. record { bytes = shape.encoded (plain_of x); alignment = alignment })
+    (λ x. subst (λ size. IsLayout size alignment) (sym (shape.sized (plain_of x))) shape.layout)

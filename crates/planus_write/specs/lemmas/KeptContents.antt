@@ -10,7 +10,7 @@ use Rattle.std.proofs.Math.Seq.{take-append_seam}
 use Rattle.planus_back.specs.Promises.{Keep, Keeps}
 use Rattle.planus_back.specs.Padding.{promise_of}
 use Rattle.planus_back.specs.Parts.{Part}
-use Rattle.planus_read.specs.Values.{Value}
+use Rattle.planus_read.specs.Values.{Value, Plain}
 use Rattle.planus_read.specs.Stands.{Stands, at}
 use Rattle.planus_read.specs.Aligned.{AlignedAt}
 use Rattle.planus_write.specs.Shared.{Kind, texts, byte_lists, vtables, same_kind, Contents}
@@ -19,7 +19,7 @@ use Rattle.planus_write.specs.Shared.{distance_cached, earlier_distance, and_cac
 use Rattle.planus_write.specs.History.{History, Adds, PutsAfter, Puts, PutsAll}
 use Rattle.planus_write.specs.State.{Extends}
 use Rattle.planus_write.specs.lemmas.Laws.{added_extends, extends_itself}
-use Rattle.planus_write.specs.Parts.{text_part, last_of, byte_list_part}
+use Rattle.planus_write.specs.Parts.{text_part, last_of, byte_list_part, apart_part, apart_entry}
 use Rattle.planus_write.specs.Kept.{IsKept, KindIsKept, CachedIsKept, AllCachedKept}
 use Rattle.planus_write.specs.lemmas.PartBytes.{length_after, text_size, byte_list_size}
 use Rattle.planus_write.specs.lemmas.PartBytes.{front_number, kept_at_front}
@@ -178,6 +178,35 @@ alone_kept part before distance after all adds =
     subst (AllByRecursion (CachedIsKept after)) (sym adds.cached)
     (cached_stays before after
     (added_extends part None before distance after adds) before.cached all)
+
+pub apart_is_kept : (item : Plain) (shared : Option Contents) (before : History) (distance : ℕ)
+    (after : History) → Adds (apart_part item) shared before distance after
+    → IsKept after (value.apart item) (record { distance = distance; tags = None })
+apart_is_kept item shared before distance after adds =
+    let rest = replicate adds.placed.padding 0 ++ before.written.bytes in
+    let same : after.written.bytes ≡ item.bytes ++ rest =
+    adds.placed.bytes
+    ∙ append_assoc item.bytes (replicate adds.placed.padding 0) before.written.bytes in
+    new_value (apart_part item) (value.apart item) shared before distance after adds refl
+    (subst (λ B. Stands B (at 0) (value.apart item)) (sym same) (
+      rw (length-append item.bytes rest) (omega arith),
+      take-append_seam item.bytes rest,
+    ))
+    (λ B k h. h)
+
+pub apart_kept : (item : Plain) (settings : CacheSettings) (before : History) (got : List ℕ)
+    (after : History) → AllCachedKept before
+    → PutsAll settings (apart_entry item ∷ []) [] before got after
+    → IsKept after (value.apart item) (record { distance = last_of got; tags = None })
+    × AllCachedKept after × Extends before after
+apart_kept item settings before got after all puts =
+    let adds : Adds (apart_part item) None before puts.0 after =
+    subst (λ history. Adds (apart_part item) None before puts.0 history) (sym puts.3.1) puts.2 in (
+      subst (λ n. IsKept after (value.apart item) (record { distance = n; tags = None }))
+          (sym (ap last_of puts.3.0)) (apart_is_kept item None before puts.0 after adds),
+      alone_kept (apart_part item) before puts.0 after all adds,
+      added_extends (apart_part item) None before puts.0 after adds,
+    )
 
 abbrev pub ContentsKept : Kind → List ℕ → History → ℕ → History → Type 0
 ContentsKept kind content before distance after = KindIsKept after kind content distance

@@ -15,6 +15,7 @@ use Rattle.planus_write.specs.Standing.{SizedFinishesStand}
 use Rattle.planus_write.specs.lemmas.PartBytes.{length_after, finish_size, sized_finish_size}
 use Rattle.planus_write.specs.lemmas.PartBytes.{front_number, second_number}
 use Rattle.planus_write.specs.lemmas.KeptContents.{contents_kept, new_texts, new_byte_lists}
+use Rattle.planus_write.specs.lemmas.KeptContents.{apart_kept}
 use Rattle.planus_write.specs.lemmas.KeptLists.{list_kept, plain_items, reference_items}
 use Rattle.planus_write.specs.lemmas.KeptTables.{table_kept}
 use Rattle.planus_write.specs.lemmas.KeptUnions.{union_vector_kept}
@@ -37,6 +38,8 @@ values_are_kept settings (value.union_vector items) before got after written all
     union_vector_kept settings items before got after written all puts
 values_are_kept settings (value.table entries) before got after written all puts =
     table_kept entries settings before got after written all puts
+values_are_kept settings (value.apart item) before got after written all puts =
+    apart_kept item settings before got after all puts
 
 pub finishes_lead : FinishesLead
 finishes_lead root identifier before after inside placed =

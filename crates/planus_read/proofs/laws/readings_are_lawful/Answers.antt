@@ -29,5 +29,8 @@ returns-clause-union_vector c = readings.lawful_union_vector
 pub returns-clause-table : goal.returns-clause-table
 returns-clause-table c = readings.lawful_table
 
+pub returns-clause-plain_ref : goal.returns-clause-plain_ref
+returns-clause-plain_ref c = readings.lawful_plain_ref
+
 pub returns-clause-size_prefixed : goal.returns-clause-size_prefixed
 returns-clause-size_prefixed c = lawful_prefixed

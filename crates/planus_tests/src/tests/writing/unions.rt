@@ -2,6 +2,8 @@ ghost use Rattle.std.specs.Prelude.{◌≤◌, length, IsTrue, IfOk};
 ghost use Rattle.planus_write.specs.Preparing.{AllMay};
 ghost use Rattle.planus_write.specs.Unions.{union_reach};
 
+use by_hand::{Fleet, Pos};
+use planus::{Apart, create_table, fields, variant};
 use planus_testing::{Test, check_bytes, check_distance, check_done, check_eq, in_builder};
 use planus_write::{
     BuildError, Builder, ByRef, Caches, UnionOffset, WriteAsUnion, WriteAsUnionVector,
@@ -137,6 +139,28 @@ fn check_union_by_reference(test: &Test<'_>, builder: &mut Builder) -> Done {
     Ok(())
 }
 
+// The object with its tag last, the vtable, and the struct behind all.
+const STRUCT_OF_UNION: &[u8] = b"\xf4\xff\xff\xff\x10\0\0\0\x02\0\0\0\x08\0\x09\0\x08\0\x04\0\
+    \x01\0\0\0\x02\0\0\0\x03\0\0\0";
+
+fn check_struct_of_union(test: &Test<'_>, builder: &mut Builder) -> Done {
+    let pos = Pos {
+        lat: 1,
+        lon: 2,
+        alt: 3,
+    };
+    let lines = fields![(0, 1): union Fleet = variant![2: Pos = Apart(&pos)]];
+    let table = create_table::<Fleet, _>(builder, lines)?;
+    check_distance(test, table, 32, "a table with a struct in its union");
+    check_bytes(
+        test,
+        builder.as_slice(),
+        STRUCT_OF_UNION,
+        "a table with a struct in its union",
+    );
+    Ok(())
+}
+
 #[test]
 fn unions(rt: HostRuntime) -> Result<(), Fail> {
     let test = Test::new(&rt);
@@ -146,5 +170,6 @@ fn unions(rt: HostRuntime) -> Result<(), Fail> {
     in_builder(&test, Caches::all(), check_owned_list);
     in_builder(&test, Caches::all(), check_written_list);
     in_builder(&test, Caches::all(), check_union_by_reference);
+    in_builder(&test, Caches::all(), check_struct_of_union);
     test.end()
 }
