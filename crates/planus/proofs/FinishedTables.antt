@@ -76,7 +76,7 @@ module _ (size : ℕ) (words : ℕ → List ℕ) (old : State) (history : Histor
         (sym (ap (drop n) new_bytes ∙ drop-append-le n front history.written.bytes within))
         (stands_behind history (drop n front) contents distance kept apart)
 
-four_inside : (root : ℕ) (identifier : Option (List ℕ)) (place : ℕ) (pad : List ℕ)
+pub four_inside : (root : ℕ) (identifier : Option (List ℕ)) (place : ℕ) (pad : List ℕ)
     → 4 ≤ length (sized_words root identifier place ++ pad)
 four_inside root identifier place pad = omega arith
 

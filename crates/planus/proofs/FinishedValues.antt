@@ -22,6 +22,7 @@ use Rattle.planus_write.specs.lemmas.Laws.{put_extends}
 use Rattle.planus_write.specs.lemmas.Staying.{kept_stays}
 use Rattle.planus.specs.KeptValues.{StandsFromEnd, ValuesStandIn, ValuesStandOn, ValuesStandFinished}
 use Rattle.planus.specs.KeptValues.{FinishesKeepValues, SizedFinishesKeepValues}
+use Rattle.planus.proofs.FinishedTables.{four_inside}
 
 stand_behind : (front old B : List ℕ) → B ≡ front ++ old → (value : Value) (distance : ℕ)
     → distance ≤ length old → StandsFromEnd old value distance → StandsFromEnd B value distance
@@ -48,7 +49,7 @@ values_stand_before before builder history after old new extends B stand value d
     stand value distance (omega (arith, long, reached))
     (stand_behind extends.bytes.0 before.bytes builder.bytes is value distance reached stands)
 
-moved_nowhere : (p : Position) → moved 0 p ≡ p
+pub moved_nowhere : (p : Position) → moved 0 p ≡ p
 moved_nowhere (at k) = ap at (omega arith)
 moved_nowhere (at_both kt kv) =
     ap (λ k. at_both k (0 + kv)) (let e : 0 + kt ≡ kt = omega arith in e) ∙ ap (at_both kt) (omega arith)
@@ -113,10 +114,6 @@ module _ (size : ℕ) (words : ℕ → List ℕ) (old : State) (history : Histor
       subst (λ (B : List ℕ). Stands B (position_in B named) value)
       (sym (ap (drop n) new_bytes ∙ drop-append-le n front history.written.bytes within))
       (stands_after history (drop n front) value named kept)
-
-four_inside : (root : ℕ) (identifier : _) (place : ℕ) (pad : List ℕ)
-    → 4 ≤ length (sized_words root identifier place ++ pad)
-four_inside root identifier place pad = omega arith
 
 module _ {X T : Type 0} (may : X → State → Type 0) (outcome : X → Outcome (Offset T))
     (lawful : IsLawful may outcome (λ offset. offset.distance)) where

@@ -16,8 +16,7 @@ use Rattle.planus_back.proofs.PaddingLaws.{keeps_all}
 use Rattle.planus_read.specs.Values as value
 use Rattle.planus_read.specs.Values.{Value}
 use Rattle.planus_read.specs.Bytes.{BytesStand}
-use Rattle.planus_read.specs.Stands.{Position, at, at_both, ReferenceStands}
-use Rattle.planus_read.specs.Moves.{moved}
+use Rattle.planus_read.specs.Stands.{ReferenceStands}
 use Rattle.planus_read.specs.Aligned.{AlignedAt}
 use Rattle.planus_read.specs.ReadsBack.{WellFormed}
 use Rattle.planus_read.proofs.Reading.{num_inside}
@@ -61,6 +60,7 @@ use Rattle.planus.proofs.Lists.{all_weaker, all_push, all_named, get_last, made_
 use Rattle.planus.proofs.Lists.{all_more, distance_more, union_more, named_more, named_new}
 use Rattle.planus.proofs.Naming.{named_push, named_last, named_back, named_inside, none_named}
 use Rattle.planus.proofs.Naming.{not_behind_clear}
+use Rattle.planus.proofs.FinishedValues.{moved_nowhere}
 
 abbrev pub AllUtf8 : List Step → Type 0
 AllUtf8 all = (i : ℕ) (content : List ℕ) → slice_get all i ≡ Some (text content) → IsUtf8 content
@@ -201,10 +201,6 @@ module _ (settings : CacheSettings) (all done : List Step) (step : Step) (v : Va
 greatest_rises : (promises : List Promise) → greatest_alignment 1 promises ≤ greatest_alignment 4 promises
 greatest_rises [] = lit≤ tt
 greatest_rises (p ∷ promises) = let rest = greatest_rises promises in omega (arith, rest)
-
-moved_nowhere : (p : Position) → moved 0 p ≡ p
-moved_nowhere (at k) = ap at (omega arith)
-moved_nowhere (at_both kt kv) = ap (λ k. at_both k (0 + kv)) (let e : 0 + kt ≡ kt = omega arith in e) ∙ ap (at_both kt) (omega arith)
 
 pub root_behind : (all done : List Step) (before : State) (root to : ℕ) → AllByRecursion (ValueKept all done before.history before.listed) before.listed → value_at before.listed root ≡ Some to
     → to ≤ length before.history.written.bytes
