@@ -42,3 +42,4 @@ pub mod SameTrees
 pub mod Found
 pub mod Streams
 pub mod FieldLines
+pub mod UnionsBack

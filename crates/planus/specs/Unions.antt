@@ -1,6 +1,7 @@
 -- Unions as they are read: each variant is a table, a string or a struct.
 use Rattle.std.specs.Prelude.{◌≡◌, ◌≢◌, ℕ, ◌<◌, List, [], ◌∷◌, length, Option, Result, Ok, Err}
-use Rattle.std.specs.Prelude.{◌⊎◌, IsSomeAnd, ⊤}
+use Rattle.std.specs.Prelude.{◌⊎◌, ◌==◌, ◌||◌, IsSomeAnd, ⊤, Bool, false, Some, None}
+use Rattle.std.specs.Prelude.{if◌then◌else◌}
 use Rattle.std.specs.Borrow.{Bor}
 use Rattle.std.specs.Str.{IsUtf8}
 use Rattle.planus_read.specs.declared.errors.ErrorKind.{ErrorKind}
@@ -50,6 +51,17 @@ abbrev pub reads_struct : ℕ → Reads SliceWithStartOffset
 reads_struct size = reads_plain_ref (λ (slice : SliceWithStartOffset). slice) size
 
 module _ {U : Type 0} where
+  abbrev pub has_tag : List (UnionVariant U) → ℕ → Bool
+  has_tag [] tag = false
+  has_tag (variant ∷ variants) tag = (tag_of variant == tag) || has_tag variants tag
+
+  -- the only variant with this tag
+  abbrev pub variant_at : List (UnionVariant U) → ℕ → Option (UnionVariant U)
+  variant_at [] tag = None
+  variant_at (variant ∷ variants) tag =
+      if tag_of variant == tag then (if has_tag variants tag then None else Some variant)
+      else variant_at variants tag
+
   abbrev pub ReadsVariant : UnionVariant U → Reads U
   ReadsVariant (table_variant tag table_of) S start f (Ok union) =
       IsSomeAnd (table_of union) (λ table. reads_as (λ (table : Table). table) S start f (Ok table))

@@ -8,6 +8,7 @@ ghost use Rattle.planus.specs.KeptValues.{ValuesStandOn, ValuesStandFinished};
 ghost use Rattle.planus.specs.KeptValues.{FinishesKeepValues, SizedFinishesKeepValues};
 ghost use Rattle.planus.specs.ReadBack.{ItemsReadBack, ReferencesReadBack};
 ghost use Rattle.planus.specs.ItemAccessors.{TableViewsReadBack};
+ghost use Rattle.planus.specs.FieldLines.{VariantsReadBack, StructsOfUnionsReadBack};
 ghost use Rattle.planus.specs.ReadPlain.{PlainResultsReadBack};
 ghost use Rattle.planus.specs.Once.{EqualContentsHaveOneDistance, EqualEntriesGetOneDistance};
 ghost use Rattle.planus.specs.Replays.{AnAnswerIsThere, AnswersAreOne};
@@ -78,6 +79,13 @@ pub fn plain_values_read_back<T: Plain>()
 /// returned by `get` as the view of the table at its index.
 pub fn table_views_read_back<'a, V: TableView<'a>>()
     ensures { TableViewsReadBack ⟦<u32 as Plain>⟧ V.Kind V.table }
+{}
+
+/// The value that a union was given is read back by the union's field, once the table is read. A
+/// struct is one that [`create_plain`](crate::create_plain) wrote.
+pub fn unions_of_fields_read_back<K, U>()
+    ensures variants { VariantsReadBack K U }
+    ensures structs { StructsOfUnionsReadBack K U }
 {}
 
 /// A list of steps has one result, out of memory aside, so none depends on the mask of the hashes.

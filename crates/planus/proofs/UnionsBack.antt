@@ -1,0 +1,153 @@
+-- A union of a known variant stands where its value does, and is read as that variant.
+use Rattle.std.specs.Prelude.{◌≡◌, ◌≢◌, ℕ, ◌<◌, ◌==◌, List, [], ◌∷◌, length, Option, Some, None}
+use Rattle.std.specs.Prelude.{Result, Bool, true, false, if◌then◌else◌, IsOkAnd, IsSomeAnd, Ok, Err}
+use Rattle.std.proofs.Common.{refl, sym, subst, inl, inr}
+use Rattle.std.proofs.lemmas.Bool.{or_parts, eqb-true, eqb-false}
+use Rattle.planus_read.specs.declared.located.Error.{Error}
+use Rattle.planus_read.specs.declared.slice_helpers.SliceWithStartOffset.{SliceWithStartOffset}
+use Rattle.planus_read.specs.Bytes.{BytesStand, position_of}
+use Rattle.planus_read.specs.Slices.{slice_bytes}
+use Rattle.planus_read.specs.Stands.{ApartStands}
+use Rattle.planus_write.specs.Contents.{Content, written}
+use Rattle.planus_write.specs.declared.union_offset.UnionOffset.{UnionOffset}
+use Rattle.planus.specs.Accessors.{SameIf}
+use Rattle.planus.specs.FieldLines.{VariantsReadBack, StructsOfUnionsReadBack}
+use Rattle.planus.specs.Unions.{UnionVariant, struct_variant, tag_of, has_tag, variant_at}
+use Rattle.planus.specs.Unions.{IsKnown, VariantStands, EachStands, UnionStands, IsVariant, IsUnion}
+
+module _ {U : Type 0} where
+  found : (P : UnionVariant U → Type 0) (x y : UnionVariant U) → Some x ≡ Some y → P x → P y
+  found P x y same holds = subst (λ (o : Option (UnionVariant U)). IsSomeAnd o P) same holds
+
+  known : (variants : List (UnionVariant U)) (tag : ℕ) (variant : UnionVariant U)
+      → variant_at variants tag ≡ Some variant → IsKnown variants tag
+  known [] tag variant at = (cc)
+  known (first ∷ variants) tag variant at =
+      by_test (known variants tag variant) (tag_of first == tag) refl at
+    where
+      by_test : (variant_at variants tag ≡ Some variant → IsKnown variants tag)
+          → (is : Bool) → (tag_of first == tag) ≡ is
+          → (if is then (if has_tag variants tag then None else Some first) else variant_at variants tag)
+          ≡ Some variant
+          → IsKnown (first ∷ variants) tag
+      by_test later true same at = inl (sym (eqb-true (tag_of first) tag same))
+      by_test later false differs at = inr (later at)
+
+  module _ (B : List ℕ) (content : Content) where
+    others_stand : (variants : List (UnionVariant U)) (tag : ℕ) → has_tag variants tag ≡ false
+        → EachStands variants B tag content
+    others_stand [] tag none = tt
+    others_stand (first ∷ variants) tag none =
+        let parts = or_parts (tag_of first == tag) (has_tag variants tag) none in (
+          (λ same. absurd (eqb-false (tag_of first) tag parts.0 (sym same))),
+          others_stand variants tag parts.1,
+        )
+
+    each_stands : (variants : List (UnionVariant U)) (tag : ℕ) (variant : UnionVariant U)
+        → variant_at variants tag ≡ Some variant → VariantStands variant B content
+        → EachStands variants B tag content
+    each_stands [] tag variant at stands = tt
+    each_stands (first ∷ variants) tag variant at stands =
+        by_test (λ at. each_stands variants tag variant at stands) (tag_of first == tag)
+        (has_tag variants tag) refl refl at
+      where
+        by_test : (variant_at variants tag ≡ Some variant → EachStands variants B tag content)
+            → (is more : Bool) → (tag_of first == tag) ≡ is → has_tag variants tag ≡ more
+            → (if is then (if more then None else Some first) else variant_at variants tag)
+            ≡ Some variant
+            → EachStands (first ∷ variants) B tag content
+        by_test later true true same more at = (cc)
+        by_test later true false same more at = (
+          (λ _. found (λ v. VariantStands v B content) variant first (sym at) stands),
+          others_stand variants tag more,
+        )
+        by_test later false more differs has at = (
+          (λ same. absurd (eqb-false (tag_of first) tag differs (sym same))),
+          later at,
+        )
+
+    no_others : (variants : List (UnionVariant U)) (tag : ℕ) (union : U)
+        → has_tag variants tag ≡ false → IsUnion variants B tag content union → ⊥
+    no_others [] tag union none is = is
+    no_others (first ∷ variants) tag union none (inl is) =
+        eqb-false (tag_of first) tag (or_parts (tag_of first == tag) (has_tag variants tag) none).0
+        (sym is.0)
+    no_others (first ∷ variants) tag union none (inr is) =
+        no_others variants tag union (or_parts (tag_of first == tag) (has_tag variants tag) none).1 is
+
+    -- what is read is the only variant with the tag
+    pub variant_read : (variants : List (UnionVariant U)) (tag : ℕ) (variant : UnionVariant U)
+        → variant_at variants tag ≡ Some variant → (union : U)
+        → IsUnion variants B tag content union → IsVariant variant B content union
+    variant_read [] tag variant at union is = (cc)
+    variant_read (first ∷ variants) tag variant at union is =
+        by_test (variant_read variants tag variant) (tag_of first == tag) (has_tag variants tag)
+        refl refl at is
+      where
+        by_test : (variant_at variants tag ≡ Some variant → (union : U)
+            → IsUnion variants B tag content union → IsVariant variant B content union)
+            → (is more : Bool) → (tag_of first == tag) ≡ is → has_tag variants tag ≡ more
+            → (if is then (if more then None else Some first) else variant_at variants tag)
+            ≡ Some variant
+            → IsUnion (first ∷ variants) B tag content union → IsVariant variant B content union
+        by_test later true true same more at is = (cc)
+        by_test later true false same more at (inl is) =
+            found (λ v. IsVariant v B content union) first variant at is.1
+        by_test later true false same more at (inr is) = absurd (no_others variants tag union more is)
+        by_test later false more differs has at (inl is) =
+            absurd (eqb-false (tag_of first) tag differs (sym is.0))
+        by_test later false more differs has at (inr is) = later at union is
+
+    pub union_stands : (variants : List (UnionVariant U)) (tag : ℕ) (variant : UnionVariant U)
+        → variant_at variants tag ≡ Some variant → tag ≢ 0 → tag < 256
+        → VariantStands variant B content → UnionStands variants B tag content
+    union_stands variants tag variant at above below stands =
+        record {
+          known = known variants tag variant at;
+          above = above;
+          below = below;
+          each = each_stands variants tag variant at stands;
+        }
+
+pub variants_read_back : {K U : Type 0} → VariantsReadBack K U
+variants_read_back {K} {U} variants tag variant at above below B table slot given returns is_tag stands type_ method r is =
+    there r (returns (subst (λ (t : ℕ). UnionStands variants B t content) (sym is_tag)
+    (union_stands B content variants tag variant at above below stands))
+    type_ method r is)
+  where
+    content : Content
+    content = written given.offset.distance
+
+    there : (r : Result (Option U) Error)
+        → IsOkAnd r (SameIf (λ (one : UnionOffset K). IsUnion variants B one.tag (written one.offset.distance)) (Some given))
+        → IsOkAnd r (λ found. IsSomeAnd found (IsVariant variant B content))
+    there (Ok (Some one)) h =
+        variant_read B content variants tag variant at one
+        (subst (λ (t : ℕ). IsUnion variants B t content one) is_tag h)
+    there (Ok None) h = h
+    there (Err e) h = h
+
+pub structs_read_back : {K U : Type 0} → StructsOfUnionsReadBack K U
+structs_read_back {K} {U} variants tag size slice_of at above below B table slot given returns is_tag bytes
+    alignment distance sized stands is_at type_ method r is =
+    there r (variants_read_back variants tag (struct_variant tag size slice_of) at above below B table slot given returns
+    is_tag (bytes, sized, here) type_ method r is)
+  where
+    here : ApartStands B (position_of B given.offset.distance) bytes
+    here = subst (λ (d : ℕ). ApartStands B (position_of B d) bytes) (sym is_at) stands
+
+    slice_found : (found : Option SliceWithStartOffset)
+        → IsSomeAnd found (λ slice. (others : List ℕ) → length others ≡ size
+        → ApartStands B (position_of B given.offset.distance) others
+        → BytesStand (slice_bytes slice) 0 others)
+        → IsSomeAnd found (λ slice. BytesStand (slice_bytes slice) 0 bytes)
+    slice_found (Some slice) h = h bytes sized here
+    slice_found None h = h
+
+    there : (r : Result (Option U) Error)
+        → IsOkAnd r (λ found. IsSomeAnd found (IsVariant (struct_variant tag size slice_of) B (written given.offset.distance)))
+        → IsOkAnd r (λ found. IsSomeAnd found (λ one. IsSomeAnd (slice_of one) (λ slice.
+        BytesStand (slice_bytes slice) 0 bytes)))
+    there (Ok (Some one)) h = slice_found (slice_of one) h
+    there (Ok None) h = h
+    there (Err e) h = h
