@@ -5,3 +5,4 @@ pub mod Layouts
 pub mod Names
 pub mod Plans
 pub mod Spelling
+pub mod Keys

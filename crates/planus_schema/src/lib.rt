@@ -3,6 +3,7 @@
 //! has. It stands on nothing. Start at `schema`.
 #![tactic(auto)]
 
+mod keys;
 mod measure;
 mod names;
 mod number;
@@ -14,6 +15,7 @@ mod scope;
 mod slots;
 mod spelling;
 
+pub use keys::{have_key, is_key};
 pub use measure::{Measure, measure_of};
 pub use names::{file_index, has_name, is_first};
 pub use number::{Number, following, integer, is_hexadecimal, without_sign};
