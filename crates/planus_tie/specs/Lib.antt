@@ -1,5 +1,6 @@
 pub mod Bare
 pub mod Files
+pub mod Keys
 pub mod NameLists
 pub mod Ranks
 pub mod Reading

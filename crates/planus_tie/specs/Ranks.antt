@@ -1,5 +1,5 @@
 -- What is known of declarations by those before them.
-use Rattle.std.specs.Prelude.{ℕ, ◌+◌, Bool, true, false, List, [], ◌∷◌, ◌++◌, if◌then◌else◌}
+use Rattle.std.specs.Prelude.{ℕ, ◌+◌, Bool, true, false, ◌&&◌, not, List, [], ◌∷◌, ◌++◌, if◌then◌else◌}
 use Rattle.std.specs.Prelude.{unwrap_or, slice_get}
 use Rattle.std.specs.List.{list_all}
 use Rattle.planus_schema.specs.declared.schema.Base.{Base}
@@ -8,6 +8,7 @@ use Rattle.planus_schema.specs.declared.schema.Body.{Body}
 use Rattle.planus_schema.specs.declared.schema.Body.TheVariants as body
 use Rattle.planus_schema.specs.declared.schema.Declared.{Declared}
 use Rattle.planus_schema.specs.declared.schema.StructField.{StructField}
+use Rattle.planus_schema.specs.declared.schema.TableField.{TableField}
 
 abbrev pub is_table : Body → Bool
 is_table (body.Table one) = true
@@ -41,6 +42,16 @@ is_total totals (base.Scalar s) = true
 is_total totals (base.Enum i) = unwrap_or (slice_get totals i) false
 is_total totals (base.Struct i) = unwrap_or (slice_get totals i) false
 is_total totals b = false
+
+abbrev pub is_value : Base → Bool
+is_value (base.Enum i) = true
+is_value (base.Struct i) = true
+is_value b = false
+
+-- a number or a struct whose bytes may be no value of its type
+abbrev pub is_judged : List Bool → TableField → Bool
+is_judged totals f =
+    is_value f.kind.base && not f.kind.vector && not (is_total totals f.kind.base)
 
 abbrev pub are_total : List Bool → List StructField → Bool
 are_total totals fs = list_all (λ f. is_total totals f.base) fs

@@ -28,3 +28,7 @@ list_in text = after (codes "let lines=fields![") text
 abbrev pub begins : Option (List ℕ) → List ℕ → Bool
 begins None wanted = false
 begins (Some text) wanted = starts_with nat_eq text wanted
+
+-- the place of this in a text, if it begins there
+abbrev pub if_begins : Option (List ℕ) → List ℕ → Option (List ℕ)
+if_begins text wanted = if begins text wanted then text else None

@@ -1,9 +1,10 @@
 -- A table's text that is its schema's.
 use Rattle.std.specs.Prelude.{◌≡◌, ℕ, Bool, true, false, ◌&&◌, ◌||◌, List, [], ◌∷◌, map}
-use Rattle.std.specs.Prelude.{Option, Some, None, if◌then◌else◌, take, drop, ◌==◌}
+use Rattle.std.specs.Prelude.{Option, Some, None, take, drop, ◌==◌}
 use Rattle.planus_schema.specs.Plans.{LineV, line_of, IsPlan}
 use Rattle.planus_tie.specs.Bare.{bare}
-use Rattle.planus_tie.specs.Reading.{method_mark, body_of, after, list_in, begins}
+use Rattle.planus_tie.specs.Keys.{have_keys}
+use Rattle.planus_tie.specs.Reading.{method_mark, body_of, after, list_in, begins, if_begins}
 use Rattle.planus_tie.specs.Wanted.{call_text, list_text, member_of, group_mark, group_text}
 use Rattle.planus_tie.specs.Wanted.{is_spelled}
 use Rattle.std.specs.List.{list_all}
@@ -12,10 +13,6 @@ use Rattle.planus_schema.specs.declared.plan.Line.{Line}
 use Rattle.planus_schema.specs.declared.plan.Plan.{Plan}
 use Rattle.planus_tie.specs.declared.groups.Entry.{Entry}
 use Rattle.planus_tie.specs.declared.naming.Naming.{Naming}
-
--- the place of this in a text, if it begins there
-abbrev pub if_begins : Option (List ℕ) → List ℕ → Option (List ℕ)
-if_begins text wanted = if begins text wanted then text else None
 
 -- a field's accessor with its call as its body, and what follows it
 abbrev pub accessor_in : Naming → LineV → List ℕ → Option (List ℕ)
@@ -45,8 +42,9 @@ abbrev pub is_plan_tied : Naming → List Entry → Plan → List ℕ → Bool
 is_plan_tied n es p text = list_all (is_spelled n) (map line_of p.lines.items)
     && have_accessors n (Some text) (map line_of p.lines.items)
     && has_lines n text p.table es p.order.items
+    && have_keys n None (Some text) (map line_of p.lines.items)
 
--- The text of a table has the accessors and the lines of its plan.
+-- The text of a table has the accessors and the lines of its plan, and the look-up by its key.
 pub record IsTableTied (n : Naming) (table : ℕ) (one : Table) (text : List ℕ) : Type 0 where
   pub plan : Plan
   pub entries : List Entry

@@ -1,5 +1,5 @@
 -- A verified view's text that is its schema's.
-use Rattle.std.specs.Prelude.{◌≡◌, ℕ, Bool, true, false, ◌&&◌, not, List, [], ◌∷◌, ◌++◌, map}
+use Rattle.std.specs.Prelude.{◌≡◌, ℕ, Bool, true, false, ◌&&◌, List, [], ◌∷◌, ◌++◌, map}
 use Rattle.std.specs.Prelude.{codes, decimal, Option, Some, None, if◌then◌else◌}
 use Rattle.std.specs.List.{slice_get}
 use Rattle.planus_schema.specs.Numbers.{is_float}
@@ -13,24 +13,14 @@ use Rattle.planus_schema.specs.declared.schema.TableField.{TableField}
 use Rattle.planus_schema.specs.Plans.{LineV, line_of, IsPlan}
 use Rattle.planus_schema.specs.declared.plan.Plan.{Plan}
 use Rattle.planus_tie.specs.Bare.{bare}
-use Rattle.planus_tie.specs.Ranks.{rank_in, is_total}
-use Rattle.planus_tie.specs.Reading.{method_mark, body_of, after}
-use Rattle.planus_tie.specs.Ties.{if_begins}
+use Rattle.planus_tie.specs.Keys.{have_keys}
+use Rattle.planus_tie.specs.Ranks.{rank_in, is_judged}
+use Rattle.planus_tie.specs.Reading.{method_mark, body_of, after, if_begins}
 use Rattle.planus_tie.specs.Wanted.{type_of, module_of, member_of, has_default, default_text}
 use Rattle.planus_tie.specs.Wanted.{function_of, ending, read_slot}
 use Rattle.planus_tie.specs.declared.naming.Naming.{Naming}
 
 -- calls
-
-abbrev pub is_value : Base → Bool
-is_value (base.Enum i) = true
-is_value (base.Struct i) = true
-is_value b = false
-
--- a number or a struct whose bytes may be no value of its type
-abbrev pub is_judged : List Bool → TableField → Bool
-is_judged totals f =
-    is_value f.kind.base && not f.kind.vector && not (is_total totals f.kind.base)
 
 -- `text_field`, `judged_required` ..
 abbrev pub view_function : List Bool → TableField → List ℕ
@@ -91,8 +81,9 @@ kind_head n ranks i = kind_start (type_of n i) ++ (index_text (rank_in ranks i) 
 abbrev pub is_view_tied : Naming → List ℕ → List Bool → Plan → List ℕ → Bool
 is_view_tied n ranks totals p text =
     have_views n totals (after (kind_head n ranks p.table) text) (map line_of p.lines.items)
+    && have_keys n (Some totals) (Some text) (map line_of p.lines.items)
 
--- The text has the table's index, and then the accessors of its plan.
+-- The text has the table's index, and then the accessors of its plan, and the look-up by its key.
 pub record IsViewTied (n : Naming) (ranks : List ℕ) (totals : List Bool) (i : ℕ) (one : Table)
     (text : List ℕ) : Type 0
   where

@@ -8,6 +8,7 @@ mod defaults;
 mod entries;
 mod files;
 mod groups;
+mod keys;
 mod kinds;
 mod name_lists;
 mod naming;

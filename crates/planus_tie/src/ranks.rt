@@ -6,8 +6,9 @@ ghost use Rattle.planus_tie.specs.Ranks.{is_union_body as is_union_body_lem};
 ghost use Rattle.planus_tie.specs.Ranks.{rank_by as rank_by_lem, rank_in as rank_in_lem};
 ghost use Rattle.planus_tie.specs.Ranks.{is_total as is_total_lem, totals_of as totals_of_lem};
 ghost use Rattle.planus_tie.specs.Ranks.{is_total_body as is_total_body_lem, are_total as are_total_lem};
+ghost use Rattle.planus_tie.specs.Ranks.{is_value as is_value_lem, is_judged as is_judged_lem};
 
-use planus_schema::{Base, Body, Declared, StructField};
+use planus_schema::{Base, Body, Declared, StructField, TableField};
 use std::alloc::{AllocError, Global};
 
 pub(crate) fn is_table(body: &Body) -> bool
@@ -104,4 +105,17 @@ pub(crate) fn totals_of(alloc: Global, declared: &[Declared]) -> Result<Vec<bool
         totals.push(total)?;
     }
     Ok(totals)
+}
+
+fn is_value(base: Base) -> bool
+    ensures { result ≡ is_value_lem base }
+{
+    matches!(base, Base::Enum(_) | Base::Struct(_))
+}
+
+/// Returns whether the accessor of a verified view may fail.
+pub(crate) fn is_judged(totals: &[bool], field: &TableField) -> bool
+    ensures { result ≡ is_judged_lem totals.now field.now }
+{
+    is_value(field.kind.base) && !field.kind.vector && !is_total(totals, field.kind.base)
 }

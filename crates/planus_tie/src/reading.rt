@@ -5,7 +5,7 @@ ghost use Rattle.std.specs.Option.{option_copied};
 ghost use Rattle.planus_tie.specs.Reading.{after as after_lem, body_of as body_of_lem};
 ghost use Rattle.planus_tie.specs.Reading.{list_in as list_in_lem, begins as begins_lem};
 ghost use Rattle.planus_tie.specs.Reading.{method_mark as method_mark_lem};
-ghost use Rattle.planus_tie.specs.Reading.{after_in as after_in_lem};
+ghost use Rattle.planus_tie.specs.Reading.{after_in as after_in_lem, if_begins as if_begins_lem};
 
 use crate::pieces::push_str;
 use std::alloc::{AllocError, Global};
@@ -43,7 +43,8 @@ pub(crate) fn begins(text: Option<&[u8]>, wanted: &[u8]) -> bool
     }
 }
 
-fn after_in<'a>(mark: &[u8], text: Option<&'a [u8]>) -> Option<&'a [u8]>
+/// Returns what follows the first place of a mark in a text, where there is one.
+pub(crate) fn after_in<'a>(mark: &[u8], text: Option<&'a [u8]>) -> Option<&'a [u8]>
     ensures { option_copied result ≡ after_in_lem mark.now (option_copied text.entry) }
 {
     match text {
@@ -62,4 +63,10 @@ pub(crate) fn list_in(text: &[u8]) -> Option<&[u8]>
     ensures { option_copied result ≡ list_in_lem text.now }
 {
     after(b"let lines=fields![", text)
+}
+
+pub(crate) fn if_begins<'a>(text: Option<&'a [u8]>, wanted: &[u8]) -> Option<&'a [u8]>
+    ensures { option_copied result ≡ if_begins_lem (option_copied text.entry) wanted.now }
+{
+    if begins(text, wanted) { text } else { None }
 }

@@ -3,7 +3,7 @@
 ghost use Rattle.std.specs.Prelude.{◌≡◌, IfOk, IsTrue, Some, map, ◌||◌, ◌==◌};
 ghost use Rattle.std.specs.Option.{option_copied};
 ghost use Rattle.planus_schema.specs.Plans.{line_of};
-ghost use Rattle.planus_tie.specs.Ties.{has_lines as has_lines_lem, if_begins as if_begins_lem};
+ghost use Rattle.planus_tie.specs.Ties.{has_lines as has_lines_lem};
 ghost use Rattle.planus_tie.specs.Ties.{accessor_in as accessor_in_lem};
 ghost use Rattle.planus_tie.specs.Ties.{have_accessors as have_accessors_lem, IsTableTied};
 ghost use Rattle.planus_tie.specs.Ties.{is_plan_tied as is_plan_tied_lem, have_groups as have_groups_lem};
@@ -14,17 +14,12 @@ use crate::bare::bare;
 use crate::calls::call_of;
 use crate::entries::{back, front, group_mark, group_of, list_of};
 use crate::groups::{Entry, entries_of};
+use crate::keys::have_keys;
 use crate::naming::Naming;
-use crate::reading::{after, begins, body_of, list_in, method_mark};
+use crate::reading::{after, begins, body_of, if_begins, list_in, method_mark};
 use crate::spelling::are_spelled;
 use planus_schema::{Line, Plan, Table};
 use std::alloc::{AllocError, Global};
-
-pub(crate) fn if_begins<'a>(text: Option<&'a [u8]>, wanted: &[u8]) -> Option<&'a [u8]>
-    ensures { option_copied result ≡ if_begins_lem (option_copied text.entry) wanted.now }
-{
-    if begins(text, wanted) { text } else { None }
-}
 
 fn accessor_in<'a>(
     alloc: Global,
@@ -136,7 +131,10 @@ fn is_plan_tied(
     if !have_accessors(alloc, naming, &plan.lines, text)? {
         return Ok(false);
     }
-    has_lines(alloc, naming, plan.table, entries, &plan.order, text)
+    if !has_lines(alloc, naming, plan.table, entries, &plan.order, text)? {
+        return Ok(false);
+    }
+    have_keys(alloc, naming, None, &plan.lines, text)
 }
 
 /// Returns whether this is the text of a table.

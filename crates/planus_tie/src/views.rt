@@ -3,7 +3,7 @@
 ghost use Rattle.std.specs.Prelude.{◌≡◌, ◌++◌, IfOk, OnOk, IsTrue, Some, map, slice_get};
 ghost use Rattle.std.specs.Option.{option_copied};
 ghost use Rattle.planus_schema.specs.Plans.{line_of};
-ghost use Rattle.planus_tie.specs.Views.{is_value as is_value_lem, is_judged as is_judged_lem};
+ghost use Rattle.planus_tie.specs.Reading.{after as after_lem};
 ghost use Rattle.planus_tie.specs.Views.{view_function, is_flags_body as is_flags_body_lem};
 ghost use Rattle.planus_tie.specs.Views.{is_flags as is_flags_lem, is_constant as is_constant_lem};
 ghost use Rattle.planus_tie.specs.Views.{constant_path, view_default};
@@ -15,26 +15,14 @@ ghost use Rattle.planus_tie.specs.Views.{is_view_tied as is_view_tied_lem, IsVie
 use crate::bare::bare;
 use crate::calls::push_function;
 use crate::defaults::push_default;
+use crate::keys::have_keys;
 use crate::kinds::{ending, has_default, read_slot};
 use crate::naming::Naming;
 use crate::pieces::{push_number, push_str};
-use crate::ranks::{is_total, rank_in};
-use crate::reading::{after, body_of, method_mark};
-use crate::tie::if_begins;
+use crate::ranks::{is_judged, rank_in};
+use crate::reading::{after, body_of, if_begins, method_mark};
 use planus_schema::{Base, Body, Declared, Line, Plan, Table, TableField};
 use std::alloc::{AllocError, Global};
-
-fn is_value(base: Base) -> bool
-    ensures { result ≡ is_value_lem base }
-{
-    matches!(base, Base::Enum(_) | Base::Struct(_))
-}
-
-fn is_judged(totals: &[bool], field: &TableField) -> bool
-    ensures { result ≡ is_judged_lem totals.now field.now }
-{
-    is_value(field.kind.base) && !field.kind.vector && !is_total(totals, field.kind.base)
-}
 
 fn push_view_function(
     out: &mut Vec<u8>,
@@ -197,6 +185,25 @@ fn kind_head(
     Ok(out)
 }
 
+fn has_views(
+    alloc: Global,
+    naming: &Naming<'_>,
+    ranks: &[usize],
+    totals: &[bool],
+    plan: &Plan<'_>,
+    text: &[u8],
+) -> Result<bool, AllocError>
+    ensures { IfOk result (λ b. b ≡ have_views_lem naming.now totals.now
+        (after_lem (kind_head_lem naming.now ranks.now plan.now.table) text.now)
+        (map line_of plan.now.lines.items)) }
+{
+    let head = kind_head(alloc, naming, ranks, plan.table)?;
+    match after(&head, text) {
+        Some(rest) => have_views(alloc, naming, totals, &plan.lines, rest),
+        None => Ok(false),
+    }
+}
+
 fn is_plan_viewed(
     alloc: Global,
     naming: &Naming<'_>,
@@ -208,11 +215,10 @@ fn is_plan_viewed(
     ensures { IfOk result (λ b. b
         ≡ is_view_tied_lem naming.now ranks.now totals.now plan.now text.now) }
 {
-    let head = kind_head(alloc, naming, ranks, plan.table)?;
-    match after(&head, text) {
-        Some(rest) => have_views(alloc, naming, totals, &plan.lines, rest),
-        None => Ok(false),
+    if !has_views(alloc, naming, ranks, totals, plan, text)? {
+        return Ok(false);
     }
+    have_keys(alloc, naming, Some(totals), &plan.lines, text)
 }
 
 /// Returns whether this is the text of a table's verified view.
