@@ -15,8 +15,8 @@ is_word_of text w = list_any (λ word. bytes_eq word w) (slice_split (λ b. b ==
 
 -- types that code has without an import, and a file of definitions
 unfoldable pub own_types : List ℕ
-own_types = codes "Bool Clone Copy Debug Default Drop Err FieldLine Float Lib None Ok Option "
-    ++ codes "PartialEq Result Some String Table Type Unit Vec Verified"
+own_types = codes "Bool Clone Copy Debug Default Drop Eq Err FieldLine Float Lib None Ok Option "
+    ++ codes "Ord PartialEq PartialOrd Result Some String Table Type Unit Vec Verified"
 
 -- what clauses and definitions import
 unfoldable pub in_clauses : List (List ℕ)

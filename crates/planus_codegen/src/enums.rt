@@ -7,10 +7,10 @@ use crate::printer::{Piece, Printer};
 use crate::structs::{LAYOUT, READ, STRIDE, TOTAL};
 use planus_schema::{Declared, Enum, Scalar};
 
-const ENUM: &str = "\
-#[derive(Clone, Copy, Debug, PartialEq)]
-pub enum $T {
-";
+const DERIVES: &str = "#[derive(Clone, Copy, Debug, PartialEq)]\n";
+
+/// Of an enum by which tables are looked up: its values are in the order of their numbers.
+const KEY_DERIVES: &str = "#[derive(Clone, Copy, Debug, PartialEq, Eq, PartialOrd, Ord)]\n";
 
 const NUMBER: &str = "\
 }
@@ -82,9 +82,17 @@ abbrev pub $M_shape : Shape $T $S $S
 $M_shape = $b_enum $M_is
 ";
 
-const FLAGS: &str = "\
+const FLAGS_DERIVES: &str = "\
 /// Bits without a name are kept.
 #[derive(Clone, Copy, PartialEq)]
+";
+
+const KEY_FLAGS_DERIVES: &str = "\
+/// Bits without a name are kept.
+#[derive(Clone, Copy, PartialEq, Eq, PartialOrd, Ord)]
+";
+
+const FLAGS: &str = "\
 pub struct $T {
     /// The bits.
     pub bits: $b,
@@ -149,7 +157,7 @@ pub(crate) fn has_many_values(one: &Enum) -> bool {
 }
 
 const ENUM_CODE: [Piece; 8] = [
-    Once(ENUM),
+    Once("pub enum $T {\n"),
     Documented("", "    $n = $i,\n"),
     Once(NUMBER),
     Each("            $T::$n => $i,\n", ""),
@@ -174,6 +182,11 @@ pub(crate) fn print_enum<'a>(
 ) -> Printer<'a> {
     let mut printer = Printer::new(context);
     printer.put_docs("", &declared.docs, "/// One of some values.\n", at);
+    printer.put_str(if context.is_key_type(at.index) {
+        KEY_DERIVES
+    } else {
+        DERIVES
+    });
     printer.put_pieces(&ENUM_CODE, at);
     if has_many_values(one) {
         printer.put_pieces(&[Once(READ_FOUND), Once(STRIDE)], at);
@@ -262,6 +275,11 @@ pub(crate) fn print_flags<'a>(
 ) -> Printer<'a> {
     let mut printer = Printer::new(context);
     printer.put_docs("", &declared.docs, "/// A set of flags.\n", at);
+    printer.put_str(if context.is_key_type(at.index) {
+        KEY_FLAGS_DERIVES
+    } else {
+        FLAGS_DERIVES
+    });
     printer.put_pieces(&FLAGS_CODE, at);
     printer.put(EACH, at.member(context.names.count(at.index)));
     printer.put_pieces(&EACH_CODE, at);

@@ -16,8 +16,8 @@ const ESCAPED: &str = "axiom infix infixl infixr mutual open unfold";
 
 /// Types that code has anyway, without an import, and a file of definitions.
 const KNOWN_TYPES: &str =
-    "Bool Clone Copy Debug Default Drop Err FieldLine Float Lib None Ok Option \
-     PartialEq Result Some String Table Type Unit Vec Verified";
+    "Bool Clone Copy Debug Default Drop Eq Err FieldLine Float Lib None Ok Option \
+     Ord PartialEq PartialOrd Result Some String Table Type Unit Vec Verified";
 
 /// What a crate has beside its modules.
 const KNOWN_MODULES: &str = "finish_root finish_root_size_prefixed has_identifier lib read_as_root \

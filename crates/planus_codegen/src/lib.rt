@@ -18,6 +18,7 @@ mod groups;
 mod hex_floats;
 mod holes;
 mod imports;
+mod keys;
 mod known;
 mod leads;
 mod members;

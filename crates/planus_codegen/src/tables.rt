@@ -133,12 +133,26 @@ impl<'a> Printer<'a> {
         }
     }
 
-    /// Adds imports of the constants that clauses name, which an implementation's ghost members need.
+    /// Adds the import of the constant that a field's clause names, which an implementation's ghost
+    /// members need.
+    pub(crate) fn put_constant_use(&mut self, line: &Line<'_>) {
+        if is_named_in_clauses(self.context, line.field) {
+            self.put(CONSTANT, At::line(line));
+        }
+    }
+
+    /// Adds the imports of the constants that clauses name.
     pub(crate) fn put_constant_uses(&mut self, plan: &Plan<'_>) {
         for line in &plan.lines {
-            if is_named_in_clauses(self.context, line.field) {
-                self.put(CONSTANT, At::line(line));
-            }
+            self.put_constant_use(line);
+        }
+    }
+
+    /// Adds the import of the constant that a field's clause names, and an empty line if there is one.
+    pub(crate) fn put_constant_use_apart(&mut self, line: &Line<'_>) {
+        if is_named_in_clauses(self.context, line.field) {
+            self.put_constant_use(line);
+            self.put_str("\n");
         }
     }
 
@@ -286,5 +300,6 @@ pub(crate) fn print_table<'a>(
     printer.put_view(plan);
     printer.put(KIND, at.member(plan.vtable_size));
     printer.put_shown(plan);
+    printer.put_key(plan);
     Ok(printer)
 }

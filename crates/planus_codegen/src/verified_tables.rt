@@ -251,6 +251,7 @@ impl<'a> Printer<'a> {
         self.join(&methods);
         self.put_shown_verified(At::declaration(plan.table));
         self.put_verify(plan, order);
+        self.put_view_key(plan, order);
     }
 
     // Adds the method of the view that tests what it reads which returns the verified one.
