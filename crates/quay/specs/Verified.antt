@@ -13,12 +13,13 @@ verified_whole = refl
 
 -- the tables' names by their indices
 abbrev pub table_names : List (ℕ × List ℕ)
-table_names = (0, codes "Boat") ∷ (1, codes "Quay") ∷ []
+table_names = (0, codes "Boat") ∷ (1, codes "Fee") ∷ (2, codes "Quay") ∷ []
 
 -- the fields' names by the indices of their tables and by their slots
 abbrev pub field_names : List (ℕ × ℕ × List ℕ)
-field_names = (0, 0, codes "name") ∷ (1, 0, codes "name") ∷ (1, 1, codes "plate") ∷
-    (1, 2, codes "cranes") ∷ (1, 3, codes "first") ∷ (1, 5, codes "berths") ∷ []
+field_names = (0, 0, codes "name") ∷ (1, 0, codes "gear") ∷ (1, 1, codes "euros") ∷
+    (2, 0, codes "name") ∷ (2, 1, codes "plate") ∷ (2, 2, codes "cranes") ∷ (2, 3, codes "first") ∷
+    (2, 5, codes "berths") ∷ (2, 7, codes "boats") ∷ (2, 8, codes "fees") ∷ []
 
 -- the names of both
 abbrev pub verified_names : NameTexts

@@ -95,3 +95,15 @@ impl<'a> std::fmt::Debug for BoatRef<'a> {
         shown.finish()
     }
 }
+
+impl<'a> planus_keys::KeyOf<BoatRef<'a>> for Boat {
+    type Key = &'a str;
+
+    type Error = planus::Error;
+
+    ghost is_key = { λ _ view key. IsTextRequired view.0 0 (codes "Boat") (codes "name") key };
+
+    fn key(&self, view: &BoatRef<'a>) -> Result<&'a str> {
+        view.name()
+    }
+}

@@ -8,7 +8,7 @@ use planus::errors::ErrorKind;
 use planus::{Exact, Plain, PlainField, SliceWithStartOffset, Stride, read_variant};
 
 /// One of some values.
-#[derive(Clone, Copy, Debug, PartialEq)]
+#[derive(Clone, Copy, Debug, PartialEq, Eq, PartialOrd, Ord)]
 pub enum Gear {
     Hook = 0,
     Grab = 1,

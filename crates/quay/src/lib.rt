@@ -4,6 +4,7 @@
 mod berth;
 mod boat;
 mod crane;
+mod fee;
 mod gear;
 mod load;
 mod plate;
@@ -12,6 +13,7 @@ mod quay;
 pub use berth::{Berth, BerthRef};
 pub use boat::{Boat, BoatFields, BoatRef};
 pub use crane::Crane;
+pub use fee::{Fee, FeeFields, FeeRef};
 pub use gear::Gear;
 pub use load::Load;
 pub use planus::Create;
@@ -29,4 +31,5 @@ mod verified;
 
 pub use verified::berth::BerthView;
 pub use verified::boat::BoatView;
+pub use verified::fee::FeeView;
 pub use verified::quay::QuayView;

@@ -1,24 +1,28 @@
 //! Tables `Quay`.
 
 ghost use Rattle.std.specs.Prelude.{◌≡◌, ◌∷◌, [], codes, MatchOption, ⊤, None};
-ghost use Rattle.planus.specs.Printed.{IsIn, AllUnionsIn, IsPlainVector, IsTextRequired};
-ghost use Rattle.planus.specs.Printed.{text_kind, IsPlainField, IsUnionField, IsUnionVector};
-ghost use Rattle.planus.specs.Printed.{ReadsVariants, judged, optional, required, plain_if, union};
-ghost use Rattle.planus.specs.Printed.{unions, gives_as};
+ghost use Rattle.planus.specs.Printed.{IsIn, AllIn, AllUnionsIn, IsPlainVector, IsTextRequired};
+ghost use Rattle.planus.specs.Printed.{IsTableVector, text_kind, IsPlainField, IsUnionField};
+ghost use Rattle.planus.specs.Printed.{IsUnionVector, ReadsVariants, judged, tables, optional};
+ghost use Rattle.planus.specs.Printed.{required, plain_if, union, unions, gives_as};
 ghost use Rattle.quay.specs.Berth.{berth_variants};
 ghost use Rattle.quay.specs.declared.berth.Berth.{Berth};
 ghost use Rattle.quay.specs.declared.berth.BerthRef.{BerthRef};
+ghost use Rattle.quay.specs.declared.boat.Boat.{Boat};
 ghost use Rattle.quay.specs.Crane.{crane_shape};
+ghost use Rattle.quay.specs.declared.fee.Fee.{Fee};
 ghost use Rattle.quay.specs.Plate.{plate_shape};
 
 use crate::berth::{Berth, BerthRef};
+use crate::boat::{Boat, BoatRef};
 use crate::crane::Crane;
+use crate::fee::{Fee, FeeRef};
 use crate::plate::Plate;
 use planus::table_reader::Table;
 use planus::{
     Builder, Built, Create, List, Offset, OrDefault, Result, SliceWithStartOffset, Stride,
     TableKind, TableView, TableWriter, Text, UnionOffset, UnionVector, Vector, create_table,
-    fields, plain_field, plain_vector, text_required, union_field, union_vector,
+    fields, plain_field, plain_vector, table_vector, text_required, union_field, union_vector,
 };
 
 /// The kind of `Quay`, and of an offset to one.
@@ -32,6 +36,8 @@ pub struct QuayFields<'a> {
     pub cranes: Option<&'a [Crane]>,
     pub first: Option<UnionOffset<Berth>>,
     pub berths: &'a [UnionOffset<Berth>],
+    pub boats: Option<&'a [Offset<Boat>]>,
+    pub fees: Option<&'a [Offset<Fee>]>,
 }
 
 impl Quay {
@@ -39,7 +45,7 @@ impl Quay {
     pub fn fields<'a>(name: &'a str) -> QuayFields<'a>
         ensures given { (result.name ≡ name.entry) }
         ensures rest { let x = result in (x.plate ≡ None) × (x.cranes ≡ None) × (x.first ≡ None) ×
-            (x.berths.now ≡ []) }
+            (x.berths.now ≡ []) × (x.boats ≡ None) × (x.fees ≡ None) }
     {
         QuayFields {
             name,
@@ -47,6 +53,8 @@ impl Quay {
             cranes: None,
             first: None,
             berths: &[],
+            boats: None,
+            fees: None,
         }
     }
 }
@@ -57,10 +65,14 @@ impl<'a> Create<QuayFields<'a>> for Quay {
         optional (judged crane_shape) 2 fields.cranes ∷
         union berth_variants 3 fields.first ∷
         unions BerthRef 5 fields.berths ∷
+        optional (tables Boat) 7 fields.boats ∷
+        optional (tables Fee) 8 fields.fees ∷
         plain_if plate_shape 1 fields.plate ∷ [] };
 
     ghost may = { λ fields builder. MatchOption fields.first ⊤ (λ x. IsIn builder x.offset) ×
-        AllUnionsIn builder fields.berths.now };
+        AllUnionsIn builder fields.berths.now ×
+        MatchOption fields.boats ⊤ (λ x. AllIn builder x.now) ×
+        MatchOption fields.fees ⊤ (λ x. AllIn builder x.now) };
 
     fn create(builder: &mut Builder, fields: QuayFields<'a>) -> Built<Quay> {
         let lines = fields![
@@ -68,6 +80,8 @@ impl<'a> Create<QuayFields<'a>> for Quay {
             2: Offset<List<Crane>> = fields.cranes,
             (3, 4): union Berth = fields.first,
             (5, 6): unions Berth = OrDefault { value: fields.berths, default: () },
+            7: Offset<List<Offset<Boat>>> = fields.boats,
+            8: Offset<List<Offset<Fee>>> = fields.fees,
             1: Plate = fields.plate,
         ];
         create_table::<Quay, _>(builder, lines)
@@ -114,6 +128,20 @@ impl<'a> QuayRef<'a> {
     {
         union_vector(&self.0, 5, "Quay", "berths")
     }
+
+    /// Returns `boats`.
+    pub fn boats(&self) -> Result<Option<Vector<'a, Result<BoatRef<'a>>>>>
+        ensures { IsTableVector Boat self.now.0 7 (codes "Quay") (codes "boats") result }
+    {
+        table_vector(&self.0, 7, "Quay", "boats")
+    }
+
+    /// Returns `fees`.
+    pub fn fees(&self) -> Result<Option<Vector<'a, Result<FeeRef<'a>>>>>
+        ensures { IsTableVector Fee self.now.0 8 (codes "Quay") (codes "fees") result }
+    {
+        table_vector(&self.0, 8, "Quay", "fees")
+    }
 }
 
 impl<'a> TableView<'a> for QuayRef<'a> {
@@ -143,7 +171,7 @@ impl<'a> planus::VectorReadInner<'a> for QuayRef<'a> {
 }
 
 impl TableKind for Quay {
-    type Writer = TableWriter<18>;
+    type Writer = TableWriter<22>;
 
     ghost name = { codes "[QuayRef]" };
 
@@ -160,6 +188,8 @@ impl<'a> std::fmt::Debug for QuayRef<'a> {
         shown.field("cranes", &self.cranes());
         shown.field("first", &self.first());
         shown.field("berths", &self.berths());
+        shown.field("boats", &self.boats());
+        shown.field("fees", &self.fees());
         shown.finish()
     }
 }

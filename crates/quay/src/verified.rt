@@ -2,6 +2,7 @@
 
 pub(crate) mod berth;
 pub(crate) mod boat;
+pub(crate) mod fee;
 pub(crate) mod quay;
 
 ghost use Rattle.std.specs.Prelude.{◌≡◌};
@@ -13,11 +14,21 @@ use planus_views::{
     VariantKind,
 };
 
-pub const FIELDS: [FieldShape; 6] = [
+pub const FIELDS: [FieldShape; 10] = [
     FieldShape {
         slot: 0,
         required: true,
         kind: FieldKind::Value(ValueKind::Text),
+    },
+    FieldShape {
+        slot: 0,
+        required: false,
+        kind: FieldKind::Value(ValueKind::Plain(1)),
+    },
+    FieldShape {
+        slot: 1,
+        required: false,
+        kind: FieldKind::Value(ValueKind::Plain(4)),
     },
     FieldShape {
         slot: 0,
@@ -44,11 +55,22 @@ pub const FIELDS: [FieldShape; 6] = [
         required: false,
         kind: FieldKind::Unions(0),
     },
+    FieldShape {
+        slot: 7,
+        required: false,
+        kind: FieldKind::Value(ValueKind::Tables(0)),
+    },
+    FieldShape {
+        slot: 8,
+        required: false,
+        kind: FieldKind::Value(ValueKind::Tables(1)),
+    },
 ];
 
-pub const TABLES: [TableShape; 2] = [
+pub const TABLES: [TableShape; 3] = [
     TableShape { first: 0, count: 1 },
-    TableShape { first: 1, count: 5 },
+    TableShape { first: 1, count: 2 },
+    TableShape { first: 3, count: 7 },
 ];
 
 pub const VARIANTS: [Variant; 4] = [
@@ -85,18 +107,22 @@ pub(crate) fn schema() -> Schema<'static>
     }
 }
 
-pub const TABLE_NAMES: [TableName<'static>; 2] = [
+pub const TABLE_NAMES: [TableName<'static>; 3] = [
     TableName {
         index: 0,
         table: "Boat",
     },
     TableName {
         index: 1,
+        table: "Fee",
+    },
+    TableName {
+        index: 2,
         table: "Quay",
     },
 ];
 
-pub const FIELD_NAMES: [FieldName<'static>; 6] = [
+pub const FIELD_NAMES: [FieldName<'static>; 10] = [
     FieldName {
         table: 0,
         slot: 0,
@@ -105,27 +131,47 @@ pub const FIELD_NAMES: [FieldName<'static>; 6] = [
     FieldName {
         table: 1,
         slot: 0,
-        field: "name",
+        field: "gear",
     },
     FieldName {
         table: 1,
         slot: 1,
+        field: "euros",
+    },
+    FieldName {
+        table: 2,
+        slot: 0,
+        field: "name",
+    },
+    FieldName {
+        table: 2,
+        slot: 1,
         field: "plate",
     },
     FieldName {
-        table: 1,
+        table: 2,
         slot: 2,
         field: "cranes",
     },
     FieldName {
-        table: 1,
+        table: 2,
         slot: 3,
         field: "first",
     },
     FieldName {
-        table: 1,
+        table: 2,
         slot: 5,
         field: "berths",
+    },
+    FieldName {
+        table: 2,
+        slot: 7,
+        field: "boats",
+    },
+    FieldName {
+        table: 2,
+        slot: 8,
+        field: "fees",
     },
 ];
 

@@ -5,6 +5,7 @@ ghost use Rattle.quay.specs.Verified.{verified_schema};
 ghost use Rattle.quay.specs.Verified.{verified_whole};
 
 use crate::boat::{Boat, BoatRef};
+use planus::errors::ErrorKind;
 use planus::table_reader::Table;
 
 impl planus_views::VerifiedKind for Boat {
@@ -87,5 +88,21 @@ impl<'a> BoatRef<'a> {
             self.now.0 result }
     {
         planus_views::verify_table(self.0, limits)
+    }
+}
+
+impl<'a> planus_keys::KeyOf<BoatView<'a>> for Boat {
+    ghost use Rattle.std.specs.Prelude.{IsOkAnd};
+    ghost use Rattle.planus.specs.Printed.{IsTextRequired};
+    ghost use Rattle.planus_views.specs.Printed.{view_table, Returns};
+
+    type Key = &'a str;
+
+    type Error = ErrorKind;
+
+    ghost is_key = { λ _ view key. IsOkAnd key (Returns (IsTextRequired (view_table view.0) 0)) };
+
+    fn key(&self, view: &BoatView<'a>) -> Result<&'a str, ErrorKind> {
+        Ok(view.name())
     }
 }

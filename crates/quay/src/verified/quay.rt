@@ -5,17 +5,21 @@ ghost use Rattle.quay.specs.Verified.{verified_schema};
 ghost use Rattle.quay.specs.Verified.{verified_whole};
 
 use crate::berth::Berth;
+use crate::boat::Boat;
 use crate::crane::Crane;
+use crate::fee::Fee;
 use crate::plate::Plate;
 use crate::quay::{Quay, QuayRef};
 use crate::verified::berth::BerthView;
+use crate::verified::boat::BoatView;
+use crate::verified::fee::FeeView;
 use planus::Vector;
 use planus::table_reader::Table;
 
 impl planus_views::VerifiedKind for Quay {
     ghost schema = { verified_schema };
 
-    ghost index = { 1 };
+    ghost index = { 2 };
 
     ghost whole = { verified_whole };
 
@@ -24,7 +28,7 @@ impl planus_views::VerifiedKind for Quay {
     }
 
     fn index() -> usize {
-        1
+        2
     }
 }
 
@@ -53,19 +57,24 @@ impl planus_views::Verify for Quay {
         let left = fields.value(2, false, planus_views::ValueKind::Plains(56), left)?;
         let left = fields.union::<Berth>(3, false, left)?;
         let left = fields.unions::<Berth>(5, false, left)?;
+        let left = fields.tables::<Boat>(7, false, left)?;
+        let left = fields.tables::<Fee>(8, false, left)?;
         Some(left)
     }
 }
 
 impl<'a> QuayView<'a> {
     ghost use Rattle.std.specs.Prelude.{◌≡◌};
-    ghost use Rattle.planus.specs.Printed.{IsPlainVector, IsTextRequired, IsPlainField};
-    ghost use Rattle.planus.specs.Printed.{IsUnionField, IsUnionVector, ReadsVariants};
-    ghost use Rattle.planus_views.specs.Printed.{view_table, checked_unions, Returns, ReturnsAs};
-    ghost use Rattle.planus_views.specs.Printed.{checked_option, option_map};
+    ghost use Rattle.planus.specs.Printed.{IsPlainVector, IsTextRequired, IsTableVector};
+    ghost use Rattle.planus.specs.Printed.{IsPlainField, IsUnionField, IsUnionVector};
+    ghost use Rattle.planus.specs.Printed.{ReadsVariants};
+    ghost use Rattle.planus_views.specs.Printed.{view_table, checked_tables, checked_unions};
+    ghost use Rattle.planus_views.specs.Printed.{Returns, ReturnsAs, checked_option, option_map};
     ghost use Rattle.quay.specs.Berth.{berth_view_variants};
     ghost use Rattle.quay.specs.Berth.{berth_checked};
     ghost use Rattle.quay.specs.declared.berth.Berth.{Berth};
+    ghost use Rattle.quay.specs.declared.boat.Boat.{Boat};
+    ghost use Rattle.quay.specs.declared.fee.Fee.{Fee};
     ghost use Rattle.quay.specs.Plate.{plate_shape};
 
     /// Returns `name`.
@@ -106,6 +115,22 @@ impl<'a> QuayView<'a> {
         self.0.union_vector(5)
     }
 
+    /// Returns `boats`.
+    pub fn boats(&self) -> Option<planus_views::Tables<'a, BoatView<'a>>>
+        ensures { Returns (IsTableVector Boat (view_table self.now.0) 7)
+            (option_map (λ all. checked_tables all) result) }
+    {
+        self.0.table_vector(7)
+    }
+
+    /// Returns `fees`.
+    pub fn fees(&self) -> Option<planus_views::Tables<'a, FeeView<'a>>>
+        ensures { Returns (IsTableVector Fee (view_table self.now.0) 8)
+            (option_map (λ all. checked_tables all) result) }
+    {
+        self.0.table_vector(8)
+    }
+
     /// Returns the view that tests what it reads.
     pub fn checked(&self) -> QuayRef<'a>
         ensures { result.0 ≡ view_table self.now.0 }
@@ -129,7 +154,7 @@ impl<'a> QuayRef<'a> {
     /// Verifies this table with all that it leads to, within limits, and returns its view, whose
     /// accessors don't fail.
     pub fn verify(&self, limits: planus_views::Limits) -> Result<QuayView<'a>, planus_views::Fault>
-        ensures { VerifiesTable (λ (view : QuayView). view_table view.0) verified_schema 1 limits
+        ensures { VerifiesTable (λ (view : QuayView). view_table view.0) verified_schema 2 limits
             self.now.0 result }
     {
         planus_views::verify_table(self.0, limits)
