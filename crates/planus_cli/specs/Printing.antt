@@ -8,6 +8,8 @@ use Rattle.std.specs.Int.{is_in_range}
 use Rattle.planus_schema.specs.Names.{is_in, is_reserved}
 use Rattle.std.specs.Str.{bytes_eq}
 use Rattle.std.specs.String.{string_bytes}
+use Rattle.planus_schema.specs.Keys.{have_key}
+use Rattle.planus_schema.specs.declared.schema.Declared.{Declared}
 use Rattle.planus_schema.specs.declared.schema.Schema.{Schema}
 use Rattle.planus_tie.specs.declared.files.PrintedFile.{PrintedFile}
 use Rattle.planus_codegen.specs.Printed.{IsPrinted}
@@ -83,9 +85,14 @@ is_of_planus w = starts_with nat_eq w (codes "planus")
 abbrev pub is_crate_name : List ℕ → Bool
 is_crate_name w = is_word w && not (is_reserved w || is_library w || is_of_planus w)
 
--- what a repository says of the crate: it stands on `planus` and `planus_views`
-abbrev pub crates_line : List ℕ → List ℕ
-crates_line name = line_of (codes "the line of crates.txt is `") name (codes ": planus planus_views`")
+-- the crates that printed code stands on, after its name: `planus_keys` where a table has a key
+abbrev pub stands_on : List Declared → List ℕ
+stands_on ds = if have_key ds then codes ": planus planus_keys planus_views`"
+    else codes ": planus planus_views`"
+
+-- what a repository says of the crate
+abbrev pub crates_line : List Declared → List ℕ → List ℕ
+crates_line ds name = line_of (codes "the line of crates.txt is `") name (stands_on ds)
 
 -- why no crate can have a name, after it
 abbrev pub name_fault : List ℕ → List ℕ
@@ -152,9 +159,9 @@ PrintsAll disk folder check (file ∷ files) worst status unsaid said =
     (one : ℕ) × (told : Option (List ℕ)) × PrintsFile disk folder check file one unsaid told
     × PrintsOn one (PrintsAll disk folder check files (max worst one)) status told said
 
-abbrev pub SaysLine : Bool → List ℕ → Option (List ℕ) → Option (List ℕ) → Type 0
-SaysLine true name unsaid said = said ≡ unsaid
-SaysLine false name unsaid said = Appends unsaid said (crates_line name)
+abbrev pub SaysLine : Bool → List Declared → List ℕ → Option (List ℕ) → Option (List ℕ) → Type 0
+SaysLine true ds name unsaid said = said ≡ unsaid
+SaysLine false ds name unsaid said = Appends unsaid said (crates_line ds name)
 
 -- All files of a crate with the code of a schema have their texts or were written.
 pub record PrintsCrate (disk : Disk) (folder name : List ℕ) (check verified : Bool)
@@ -163,7 +170,7 @@ pub record PrintsCrate (disk : Disk) (folder name : List ℕ) (check verified : 
   pub are : IsPrinted verified schema.declarations.items files
   pub told : Option (List ℕ)
   pub prints : PrintsAll disk folder check files 0 0 unsaid told
-  pub says : SaysLine check name told said
+  pub says : SaysLine check schema.declarations.items name told said
 
 -- A crate has the code of what the named file means.
 pub record PrintsNamed (places : Places) (word folder name : List ℕ) (check verified : Bool)

@@ -4,7 +4,8 @@ ghost use Rattle.std.specs.Prelude.{◌≡◌, true, not, IfOk, OnOk, MatchOptio
 ghost use Rattle.std.specs.Io.KnownBytes.{Appends};
 ghost use Rattle.planus_cli.specs.Arguments.{words_of};
 ghost use Rattle.planus_cli.specs.Loading.{places_of};
-ghost use Rattle.planus_cli.specs.Printing.{crates_line, RefusesName, IsHeld};
+ghost use Rattle.planus_cli.specs.Printing.{crates_line, stands_on as stands_on_lem};
+ghost use Rattle.planus_cli.specs.Printing.{RefusesName, IsHeld};
 ghost use Rattle.planus_cli.specs.Printing.{TellsOther, PrintsBytes, PrintsFile, PrintsAll};
 ghost use Rattle.planus_cli.specs.Printing.{PrintsCrate, PrintsNamed};
 ghost use Rattle.planus_cli.specs.Printing.{PrintsCode};
@@ -24,7 +25,7 @@ use crate::sources::schema_at;
 use crate::streams::{GREATEST_TEXT, RunError, say};
 use planus_codegen::{PrintedFile, Refusal, print_crate};
 use planus_resolve::Schema;
-use planus_schema::is_reserved;
+use planus_schema::{Declared, have_key, is_reserved};
 use std::alloc::{AllocError, Global};
 use std::io::Write;
 
@@ -238,18 +239,29 @@ fn say_unsupported<X: Write>(
     Ok(FAULTY)
 }
 
-/// A crate of printed code stands on `planus` and `planus_views`.
-fn say_line<X: Write>(alloc: Global, name: &str, errors: &mut X) -> Result<(), RunError>
-    ensures { OnOk result (Appends (X.contents errors.old) (X.contents errors.new)
-        (crates_line name.now)) }
+/// Returns the crates that printed code stands on, as they are said after its name.
+fn stands_on(declared: &[Declared]) -> &'static str
+    ensures { result.now ≡ stands_on_lem declared.now }
 {
-    say(
-        alloc,
-        errors,
-        "the line of crates.txt is `",
-        name,
-        ": planus planus_views`",
-    )
+    if have_key(declared) {
+        ": planus planus_keys planus_views`"
+    } else {
+        ": planus planus_views`"
+    }
+}
+
+fn say_line<X: Write>(
+    alloc: Global,
+    declared: &[Declared],
+    name: &str,
+    errors: &mut X,
+) -> Result<(), RunError>
+    ensures { OnOk result (Appends (X.contents errors.old) (X.contents errors.new)
+        (crates_line declared.now name.now)) }
+{
+    let crates = stands_on(declared);
+    say(alloc, errors, "the line of crates.txt is `", name, crates)?;
+    Ok(())
 }
 
 /// Writes or compares the files of a crate. Returns the exit status.
@@ -269,7 +281,7 @@ fn print_to<F: Files, X: Write>(
         Ok(printed) => {
             let status = print_files(files, alloc, folder, &printed, errors)?;
             if status == CLEAN && !folder.check {
-                say_line(alloc, folder.name, errors)?;
+                say_line(alloc, &schema.declarations, folder.name, errors)?;
             }
             Ok(status)
         }
