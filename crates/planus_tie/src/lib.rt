@@ -1,5 +1,5 @@
-//! Printed text, read again: the accessors of tables and of their verified views, the lines of what
-//! is created and the schema's value are those that a schema wants.
+//! Printed text, read again: the accessors of tables and of their verified views, the look-up of both
+//! by a key, the lines of what is created and the schema's value are those that a schema wants.
 #![tactic(auto)]
 
 mod bare;
