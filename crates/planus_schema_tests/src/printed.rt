@@ -3,6 +3,7 @@
 ghost use Rattle.std.specs.Prelude.{◌≡◌, None, []};
 
 mod arrays;
+mod keys;
 mod members;
 mod ports;
 mod structs;

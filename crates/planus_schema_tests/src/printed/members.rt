@@ -127,6 +127,8 @@ fn writes_quay(builder: &mut Builder) -> std::result::Result<bool, BuildError> {
             Berth::from_empty(empty),
             Berth::from_waiting(waiting),
         ],
+        boats: None,
+        fees: None,
     };
     let quay = Quay::create(builder, quay)?;
     let bytes = builder.finish(quay, None)?;
