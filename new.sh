@@ -52,10 +52,12 @@ runtime_lines() {
     echo "# the runtime, copied by new.sh, of commit $(git -C "$here" rev-parse --short HEAD 2>/dev/null || echo "none")"
     for crate in $RUNTIME; do grep "^$crate:" "$here/crates.txt"; done
 }
+# Prints the code of a schema, and says the crate's line of crates.txt.
 print_code() { # in the folder: crate, options, schema
     crate=$1
     shift
     said=$("$planus" rattle "$@" -o "$crate" 2>&1) || fail "the code of $* isn't printed: $said"
+    printf '%s\n' "$said" | sed -n 's/^planus: the line of crates.txt is `\(.*\)`$/\1/p'
 }
 
 if [ "$1" = --update ]; then
@@ -71,7 +73,7 @@ if [ "$1" = --update ]; then
     while read -r name words; do
         # shellcheck disable=SC2086 # options and a schema
         (cd "$folder" && print_code "$room/printed/$name" $words)
-    done <"$room/schemas"
+    done <"$room/schemas" >"$room/lines"
     changed=
     replace() { # folder of the new crate, name: the crate's files but what is built
         for part in src specs proofs; do
@@ -86,6 +88,10 @@ if [ "$1" = --update ]; then
     for crate in $RUNTIME; do replace "$room" "$crate"; done
     while read -r name words; do replace "$room/printed" "$name"; done <"$room/schemas"
     grep -v -e '^# the runtime, copied' $(printf ' -e ^%s:' $RUNTIME) "$folder/crates.txt" >"$room/rest" || :
+    while read -r line; do
+        sed "s/^${line%%:*}:.*/$line/" "$room/rest" >"$room/other"
+        mv "$room/other" "$room/rest"
+    done <"$room/lines"
     runtime_lines >"$room/crates.txt"
     sed '/./,$!d' "$room/rest" >"$room/own"
     { cat "$room/crates.txt"; echo; cat "$room/own"; } >"$folder/crates.txt"
@@ -110,7 +116,7 @@ file=$(basename "$schema")
 room=$(mktemp -d)
 trap 'rm -rf "$room"' EXIT
 # shellcheck disable=SC2086 # none or one
-(cd "$(dirname "$schema")" && print_code "$room/$name" $options "$file")
+line=$(cd "$(dirname "$schema")" && print_code "$room/$name" $options "$file")
 
 mkdir -p "$folder/crates"
 copy_runtime "$folder/crates"
@@ -123,7 +129,7 @@ done
     runtime_lines
     echo
     echo "# printed by: planus rattle $options$file -o crates/$name"
-    echo "$name: planus planus_views"
+    echo "$line"
 } >"$folder/crates.txt"
 echo "Handles allowed: none." >"$folder/HANDLES"
 printf 'out/\n__pycache__/\n' >"$folder/.gitignore"
