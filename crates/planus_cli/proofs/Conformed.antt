@@ -1,5 +1,5 @@
--- Reports of breaks, and renames.
-use Rattle.std.proofs.Common.{◌≡◌, ℕ, List, [], ◌∷◌, ◌++◌, Option, map, refl, sym, ap, ◌∙◌, append-nil, append_assoc}
+-- What is told of breaks, and renames.
+use Rattle.std.proofs.Common.{◌≡◌, ℕ, Bool, List, [], ◌∷◌, ◌++◌, Option, map, refl, sym, ap, ◌∙◌, append-nil, append_assoc}
 use Rattle.std.specs.Borrow.{Bor}
 use Rattle.std.specs.Io.KnownBytes.{Appends}
 use Rattle.planus_conform.specs.declared.breaks.Break.{Break}
@@ -7,24 +7,25 @@ use Rattle.planus_conform.specs.declared.breaks.Way.{Way}
 use Rattle.planus_conform.specs.declared.rename.Rename.{Rename}
 use Rattle.planus_conform.specs.Conforms.{Conforms}
 use Rattle.planus_cli.specs.declared.meaning.Meaning.{Meaning}
-use Rattle.planus_cli.specs.Conforming.{ReportsBreak, ReportBreaks, IsRenameOf, AreRenamesOf, SaysBreaks}
+use Rattle.planus_cli.specs.Conforming.{IsRenameOf, AreRenamesOf, AreWritten, TellsOf}
+use Rattle.planus_cli.specs.Telling.{TellsBreak, TellsBreaks}
 
--- one more report
-pub breaks_push : (rs : List Rename) (old new : Meaning) (bs : List Break) (one : Break) (out report more : List ℕ)
-    → ReportBreaks rs old new bs out → ReportsBreak rs old new one report → more ≡ out ++ report
-    → ReportBreaks rs old new (bs ++ one ∷ []) more
-breaks_push rs old new [] one out report more none is added = record {
+-- one more break
+pub breaks_push : (json : Bool) (rs : List Rename) (old new : Meaning) (bs : List Break) (one : Break) (out report more : List ℕ)
+    → TellsBreaks json rs old new bs out → TellsBreak json rs old new one report → more ≡ out ++ report
+    → TellsBreaks json rs old new (bs ++ one ∷ []) more
+breaks_push json rs old new [] one out report more none is added = record {
   first = report;
   rest = [];
   is = is;
   are = refl;
   joined = added ∙ ap (λ xs. xs ++ report) none ∙ sym (append-nil report);
 }
-breaks_push rs old new (b ∷ bs) one out report more j is added = record {
+breaks_push json rs old new (b ∷ bs) one out report more j is added = record {
   first = j.first;
   rest = j.rest ++ report;
   is = j.is;
-  are = breaks_push rs old new bs one j.rest report (j.rest ++ report) j.are is refl;
+  are = breaks_push json rs old new bs one j.rest report (j.rest ++ report) j.are is refl;
   joined = added ∙ ap (λ xs. xs ++ report) j.joined ∙ append_assoc j.first j.rest report;
 }
 
@@ -37,13 +38,14 @@ renames_push (v ∷ ws) [] w r are is = absurd are
 renames_push (v ∷ ws) (q ∷ rs) w r are is = (are.0, renames_push ws rs w r are.1 is)
 
 -- nothing breaks
-pub says_none : (w : Way) (rs : List Rename) (old new : Meaning) (bs : List Break) (unsaid : Option (List ℕ)) → bs ≡ []
-    → Conforms w rs old.schema new.schema → SaysBreaks w rs old new bs 0 unsaid unsaid
-says_none w rs old new [] unsaid none conforms = (refl, refl, conforms)
-says_none w rs old new (b ∷ bs) unsaid none conforms = absurd cc
+pub tells_none : (json : Bool) (w : Way) (rs : List Rename) (old new : Meaning) (bs : List Break) (before unsaid : Option (List ℕ)) → bs ≡ []
+    → Conforms w rs old.schema new.schema → TellsOf json w rs old new bs 0 before before unsaid unsaid
+tells_none json w rs old new [] before unsaid none conforms = (refl, refl, refl, conforms)
+tells_none json w rs old new (b ∷ bs) before unsaid none conforms = absurd cc
 
--- all that breaks is reported
-pub says_some : (w : Way) (rs : List Rename) (old new : Meaning) (bs : List Break) (out : List ℕ) (unsaid said : Option (List ℕ)) → ¬ (bs ≡ [])
-    → ReportBreaks rs old new bs out → Appends unsaid said out → SaysBreaks w rs old new bs 1 unsaid said
-says_some w rs old new [] out unsaid said some are appends = absurd (some refl)
-says_some w rs old new (b ∷ bs) out unsaid said some are appends = (refl, (out, are, appends))
+-- all that breaks is told
+pub tells_some : (json : Bool) (w : Way) (rs : List Rename) (old new : Meaning) (bs : List Break) (out : List ℕ)
+    (before after unsaid said : Option (List ℕ)) → ¬ (bs ≡ [])
+    → TellsBreaks json rs old new bs out → AreWritten json out before after unsaid said → TellsOf json w rs old new bs 1 before after unsaid said
+tells_some json w rs old new [] out before after unsaid said some are written = absurd (some refl)
+tells_some json w rs old new (b ∷ bs) out before after unsaid said some are written = (refl, (out, are, written))

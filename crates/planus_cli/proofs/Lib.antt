@@ -14,4 +14,3 @@ mod Led
 pub mod Listed
 mod Rows
 pub mod Conformed
-pub mod ConformedEach

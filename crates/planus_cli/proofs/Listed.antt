@@ -42,6 +42,10 @@ move5 : (a b c d e h k : Bool) → (a || (b || (c || (d || (e || (h || (k || fal
 move5 true b c d e h k = sym (or_true (h || k))
 move5 false b c d e h k = move4 b c d e h k
 
+move6 : (a b c d e f h k : Bool) → (a || (b || (c || (d || (e || (f || (h || (k || false)))))))) ≡ ((h || k) || (a || (b || (c || (d || (e || (f || false)))))))
+move6 true b c d e f h k = sym (or_true (h || k))
+move6 false b c d e f h k = move5 b c d e f h k
+
 pub options_listed : (command : Command) (w : List ℕ) → list_any (bytes_eq w) (option_words command) ≡ is_some (option_of command w)
 options_listed Check w = simp some_of (move1 (bytes_eq w (codes "-I")) (bytes_eq w (codes "--help")) (bytes_eq w (codes "-h")))
 options_listed Format w = simp some_of (move2 (bytes_eq w (codes "--write")) (bytes_eq w (codes "--check")) (bytes_eq w (codes "--help")) (bytes_eq w (codes "-h")))
@@ -49,7 +53,7 @@ options_listed View w = simp some_of (move5 (bytes_eq w (codes "-I")) (bytes_eq 
     (bytes_eq w (codes "--help")) (bytes_eq w (codes "-h")))
 options_listed RattleCommand w = simp some_of (move4 (bytes_eq w (codes "-I")) (bytes_eq w (codes "-o")) (bytes_eq w (codes "--check")) (bytes_eq w (codes "--no-verified")) (bytes_eq w (codes "--help")) (bytes_eq w (codes "-h")))
 options_listed Dot w = simp some_of (move1 (bytes_eq w (codes "-I")) (bytes_eq w (codes "--help")) (bytes_eq w (codes "-h")))
-options_listed Conform w = simp some_of (move5 (bytes_eq w (codes "-I")) (bytes_eq w (codes "--backward")) (bytes_eq w (codes "--forward")) (bytes_eq w (codes "--rename")) (bytes_eq w (codes "--against")) (bytes_eq w (codes "--help")) (bytes_eq w (codes "-h")))
+options_listed Conform w = simp some_of (move6 (bytes_eq w (codes "-I")) (bytes_eq w (codes "--backward")) (bytes_eq w (codes "--forward")) (bytes_eq w (codes "--rename")) (bytes_eq w (codes "--against")) (bytes_eq w (codes "--json")) (bytes_eq w (codes "--help")) (bytes_eq w (codes "-h")))
 options_listed Completions w = simp some_of (move0 (bytes_eq w (codes "--help")) (bytes_eq w (codes "-h")))
 
 last7 : (a b c d e f g h : Bool) → (a || (b || (c || (d || (e || (f || (g || (h || false)))))))) ≡ ((a || (b || (c || (d || (e || (f || (g || false))))))) || h)

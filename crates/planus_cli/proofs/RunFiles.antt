@@ -3,7 +3,7 @@ use Rattle.std.proofs.Common.{◌≡◌, ◌<◌, ◌≤◌, ◌+◌, ℕ, List,
 use Rattle.std.specs.Prelude.{zero, suc, max, Option}
 use Rattle.std.specs.Borrow.{Bor}
 use Rattle.std.proofs.Math.Seq.{drop-nil}
-use Rattle.planus_cli.specs.Running.{Does, RunsFiles}
+use Rattle.planus_cli.specs.Each.{Does, RunsFiles}
 
 -- what is left to do is one file and those after it
 pub next_run : (One : List ℕ → Does) (ws : List (Bor (List ℕ))) (i : ℕ) (w any : Bor (List ℕ)) (worst one : ℕ)

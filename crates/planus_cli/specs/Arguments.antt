@@ -19,7 +19,7 @@ use Rattle.planus_cli.specs.declared.arguments.Choice.TheVariants.{Root, SizePre
 use Rattle.planus_cli.specs.declared.arguments.Choice.TheVariants.{Bytes, Output}
 use Rattle.planus_cli.specs.declared.arguments.Choice.TheVariants.{Check as CheckChoice}
 use Rattle.planus_cli.specs.declared.arguments.Choice.TheVariants.{NoVerified, Backward, Forward}
-use Rattle.planus_cli.specs.declared.arguments.Choice.TheVariants.{Rename, Against}
+use Rattle.planus_cli.specs.declared.arguments.Choice.TheVariants.{Rename, Against, Json}
 use Rattle.planus_cli.specs.declared.arguments.Choice.TheVariants.{Help as HelpChoice}
 use Rattle.planus_cli.specs.declared.arguments.Joined.{Joined}
 use Rattle.planus_cli.specs.declared.arguments.Words.{Words}
@@ -41,6 +41,7 @@ pub record WordsV : Type 0 where
   pub forward : Bool
   pub renames : List (List ℕ)
   pub against : Option (List ℕ)
+  pub json : Bool
   pub help : Bool
   pub only_files : Bool
   pub wants : Option Choice
@@ -62,6 +63,7 @@ no_words = record {
   forward = false;
   renames = [];
   against = None;
+  json = false;
   help = false;
   only_files = false;
   wants = None;
@@ -84,6 +86,7 @@ words_of w = record {
   forward = w.forward;
   renames = map (λ s. s.now) w.renames.items;
   against = option_map (λ s. s.now) w.against;
+  json = w.json;
   help = w.help;
   only_files = w.only_files;
   wants = w.wants;
@@ -112,7 +115,8 @@ conform_option w = if bytes_eq w (codes "-I") then Some Folder
     else if bytes_eq w (codes "--backward") then Some Backward
     else if bytes_eq w (codes "--forward") then Some Forward
     else if bytes_eq w (codes "--rename") then Some Rename
-    else if bytes_eq w (codes "--against") then Some Against else None
+    else if bytes_eq w (codes "--against") then Some Against
+    else if bytes_eq w (codes "--json") then Some Json else None
 
 -- `--help`, or `-h`
 abbrev pub is_help : List ℕ → Bool
@@ -175,6 +179,7 @@ with_choice ws Rename = record ws { wants = Some Rename }
 with_choice ws Against = record ws { wants = Some Against }
 with_choice ws Backward = record ws { backward = true }
 with_choice ws Forward = record ws { forward = true }
+with_choice ws Json = record ws { json = true }
 with_choice ws SizePrefixed = record ws { size_prefixed = true }
 with_choice ws CheckChoice = record ws { check = true }
 with_choice ws NoVerified = record ws { no_verified = true }
@@ -196,6 +201,7 @@ with_value ws CheckChoice w = ws
 with_value ws NoVerified w = ws
 with_value ws Backward w = ws
 with_value ws Forward w = ws
+with_value ws Json w = ws
 with_value ws HelpChoice w = ws
 
 abbrev pub with_joined : WordsV → List ℕ → Option JoinedV → WordsV

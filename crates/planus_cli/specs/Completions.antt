@@ -81,8 +81,8 @@ option_words View = codes "-I" ∷ codes "--root" ∷ codes "--size-prefixed" �
 option_words RattleCommand = codes "-I" ∷ codes "-o" ∷ codes "--check" ∷ codes "--no-verified"
     ∷ codes "--help" ∷ codes "-h" ∷ []
 option_words Dot = codes "-I" ∷ codes "--help" ∷ codes "-h" ∷ []
-option_words Conform = codes "-I" ∷ codes "--backward" ∷ codes "--forward" ∷ codes "--rename" ∷ codes "--against"
-    ∷ codes "--help" ∷ codes "-h" ∷ []
+option_words Conform = codes "-I" ∷ codes "--backward" ∷ codes "--forward" ∷ codes "--rename"
+    ∷ codes "--against" ∷ codes "--json" ∷ codes "--help" ∷ codes "-h" ∷ []
 option_words Completions = codes "--help" ∷ codes "-h" ∷ []
 
 -- the options that a call may begin with

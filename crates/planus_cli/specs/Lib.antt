@@ -21,6 +21,9 @@ pub mod Drawing
 pub mod Changes
 pub mod Parts
 pub mod Spots
+pub mod Json
+pub mod Telling
+pub mod Each
 pub mod Conforming
 pub mod Running
 pub mod Outputs

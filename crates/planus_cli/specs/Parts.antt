@@ -153,14 +153,26 @@ stated_name s p = None
 abbrev pub part_said : Schema → Word → Option (List ℕ)
 part_said s w = name_if (body_if s.declarations.items w.declaration) w.part
 
--- the name that a report begins with: that of the part in the new schema, or else in the old one;
--- where there is none, that of the declaration, or what the statement says
+-- the part's name in the new schema, or else in the old one
+abbrev pub part_told : Schema → Word → Schema → Word → Option (List ℕ)
+part_told old before new after = option_or (part_said new after) (part_said old before)
+
+-- and the declaration's
+abbrev pub declaration_told : Schema → Word → Schema → Word → Option (List ℕ)
+declaration_told old before new after =
+    option_or (declared_name new.declarations.items after.declaration)
+    (declared_name old.declarations.items before.declaration)
+
+-- and what the statement says
+abbrev pub statement_told : Schema → Schema → Place → Option (List ℕ)
+statement_told old new p = option_or (stated_name new p) (stated_name old p)
+
+-- the name that a message begins with: that of the part; where there is none, that of the
+-- declaration, or what the statement says
 abbrev pub subject : Schema → Word → Schema → Word → Place → List ℕ
 subject old before new after p =
-    unwrap_or (option_or (option_or (option_or (option_or (option_or (part_said new after)
-    (part_said old before)) (declared_name new.declarations.items after.declaration))
-    (declared_name old.declarations.items before.declaration)) (stated_name new p))
-    (stated_name old p)) []
+    unwrap_or (option_or (option_or (part_told old before new after)
+    (declaration_told old before new after)) (statement_told old new p)) []
 
 abbrev pub required_in : Option Body → Option ℕ → Bool
 required_in None o = false

@@ -46,11 +46,19 @@ rest_shown rest = if nat_lt most_beside (length rest)
 abbrev pub below : ℕ → List ℕ
 below b = if b == 9 then 9 ∷ [] else (if is_in_range 128 191 b then [] else 32 ∷ [])
 
--- the line and the column in bytes, from 1
+-- the line of the place after these bytes, from 1
+abbrev pub line_number : List ℕ → ℕ
+line_number before = 1 + count_by is_feed before
+
+-- its column in bytes, from 1
+abbrev pub column_number : List ℕ → ℕ
+column_number before = 1 + length (last_line before)
+
+-- the line and the column
 abbrev pub place_text : List ℕ → List ℕ → List ℕ
 place_text name before =
-    name ++ (codes ":" ++ (decimal (1 + count_by is_feed before)
-    ++ (codes ":" ++ (decimal (1 + length (last_line before)) ++ codes ": "))))
+    name ++ (codes ":" ++ (decimal (line_number before)
+    ++ (codes ":" ++ (decimal (column_number before) ++ codes ": "))))
 
 -- a line, and a mark below the end of its front
 abbrev pub marked_text : List ℕ → List ℕ → List ℕ

@@ -7,6 +7,7 @@ use Rattle.planus_cli.specs.Buffers.{ViewsBy}
 use Rattle.planus_cli.specs.Conforming.{ConformsFiles}
 use Rattle.planus_cli.specs.Disks.{Disk}
 use Rattle.planus_cli.specs.Drawing.{DrawsFiles}
+use Rattle.planus_cli.specs.Each.{Does, RunsFiles}
 use Rattle.planus_cli.specs.Files.{SaysUnread}
 use Rattle.planus_cli.specs.Including.{file_named}
 use Rattle.planus_cli.specs.Loading.{Places}
@@ -19,10 +20,6 @@ use Rattle.planus_cli.specs.declared.arguments.Command.TheVariants.{Check, Forma
 use Rattle.planus_cli.specs.declared.arguments.Command.TheVariants.{Rattle as RattleCommand}
 use Rattle.planus_cli.specs.declared.arguments.Command.TheVariants.{Dot, Conform, Completions}
 
--- A status, what was written before and after, and what was reported.
-abbrev pub Does : Type 1
-Does = ℕ → Option (List ℕ) → Option (List ℕ) → Option (List ℕ) → Option (List ℕ) → Type 0
-
 abbrev pub places_in : Disk → WordsV → Places
 places_in disk words = record { disk = disk; folders = words.folders }
 
@@ -32,15 +29,6 @@ RunsFile disk true words word status before after unsaid said =
     FormatsFile disk words word status before after unsaid said
 RunsFile disk false words word status before after unsaid said =
     (after ≡ before) × ChecksFile (places_in disk words) (file_named word) status unsaid said
-
--- One file after the other. The worst status before stays.
-abbrev pub RunsFiles : (List ℕ → Does) → List (List ℕ) → ℕ → Does
-RunsFiles One [] worst status before after unsaid said =
-    (status ≡ worst) × (after ≡ before) × (said ≡ unsaid)
-RunsFiles One (word ∷ words) worst status before after unsaid said =
-    (one : ℕ) × (written : Option (List ℕ)) × (told : Option (List ℕ))
-    × One word one before written unsaid told
-    × RunsFiles One words (max worst one) status written after told said
 
 -- A file was read and viewed.
 pub record ViewsRead (disk : Disk) (schema : Schema) (words : WordsV) (name : List ℕ) (status : ℕ)
@@ -86,8 +74,8 @@ RunsCommand disk Format words status before after unsaid said =
     RunsFiles (RunsFile disk true words) words.files 0 status before after unsaid said
 RunsCommand disk Dot words status before after unsaid said =
     DrawsFiles (places_in disk words) words.files status before after unsaid said
-RunsCommand disk Conform words status before after unsaid said = (after ≡ before)
-    × ConformsFiles (places_in disk words) words status unsaid said
+RunsCommand disk Conform words status before after unsaid said =
+    ConformsFiles (places_in disk words) words status before after unsaid said
 RunsCommand disk Completions words status before after unsaid said = status ≡ 2
 
 -- what a call does with the files that it names

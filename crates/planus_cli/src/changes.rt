@@ -1,9 +1,13 @@
-//! The messages of breaks.
+//! What is said of breaks.
 
 ghost use Rattle.std.specs.Prelude.{◌≡◌, IfOk};
+ghost use Rattle.planus_cli.specs.Changes.{hurts as hurts_lem, hurts_both as hurts_both_lem};
+ghost use Rattle.planus_cli.specs.Changes.{hurts_new as hurts_new_lem};
+ghost use Rattle.planus_cli.specs.Changes.{hurts_old as hurts_old_lem};
 ghost use Rattle.planus_cli.specs.Changes.{moved as moved_lem, removed as removed_lem};
 ghost use Rattle.planus_cli.specs.Changes.{retyped as retyped_lem, required as required_lem};
-ghost use Rattle.planus_cli.specs.Changes.{after as after_lem, change_text as change_text_lem};
+ghost use Rattle.planus_cli.specs.Changes.{message_of as message_lem, saying_view};
+ghost use Rattle.planus_cli.specs.Changes.{saying_of as saying_lem};
 
 use planus_conform::{Change, Place};
 use std::alloc::{AllocError, Global};
@@ -11,109 +15,290 @@ use std::alloc::{AllocError, Global};
 /// What is said below the place in the old schema.
 pub(crate) const BEFORE: &str = "the old schema has this";
 
-fn moved(place: Place) -> &'static str
-    ensures { result.now ≡ moved_lem place }
+/// What is said of a change.
+#[derive(Clone, Copy)]
+pub struct Saying {
+    /// The change in a word.
+    pub word: &'static str,
+    /// Whose code reads data of the other schema otherwise: `old`, `new` or `both`.
+    pub hurt: &'static str,
+    pub effect: &'static str,
+    /// What to do instead.
+    pub advice: &'static str,
+}
+
+fn hurts(
+    hurt: &'static str,
+    word: &'static str,
+    effect: &'static str,
+    advice: &'static str,
+) -> Saying
+    ensures { saying_view result ≡ hurts_lem hurt.now word.now effect.now advice.now }
 {
-    match place {
-        Place::Field(..) =>
-            ": another slot: code of either schema reads another field; add fields last, or give all an `id`",
-        Place::Part(..) =>
-            ": another distance: code of either schema reads other bytes; declare another struct, and add a field of it",
-        Place::Value(..) =>
-            ": another number: code of either schema reads another value; write the numbers out",
-        _ => ": another tag: code of either schema reads another member; write the tags out",
+    Saying {
+        word,
+        hurt,
+        effect,
+        advice,
     }
 }
 
-fn removed(place: Place) -> &'static str
-    ensures { result.now ≡ removed_lem place }
+/// Of a change that breaks each way.
+fn hurts_both(word: &'static str, effect: &'static str, advice: &'static str) -> Saying
+    ensures { saying_view result ≡ hurts_both_lem word.now effect.now advice.now }
+{
+    hurts("both", word, effect, advice)
+}
+
+/// Of a change that breaks new code that reads old data.
+fn hurts_new(word: &'static str, effect: &'static str, advice: &'static str) -> Saying
+    ensures { saying_view result ≡ hurts_new_lem word.now effect.now advice.now }
+{
+    hurts("new", word, effect, advice)
+}
+
+/// Of a change that breaks old code that reads new data.
+fn hurts_old(word: &'static str, effect: &'static str, advice: &'static str) -> Saying
+    ensures { saying_view result ≡ hurts_old_lem word.now effect.now advice.now }
+{
+    hurts("old", word, effect, advice)
+}
+
+fn moved(place: Place) -> Saying
+    ensures { saying_view result ≡ moved_lem place }
 {
     match place {
-        Place::Part(..) =>
-            ": nothing at its distance: new code has lost the field; declare another struct, and add a field of it",
-        _ => ": removed: new code has lost the field; keep it, and mark it `deprecated`",
+        Place::Field(..) => {
+            hurts_both(
+                "moved",
+                "another slot: code of either schema reads another field",
+                "add fields last, or give all an `id`",
+            )
+        }
+        Place::Part(..) => {
+            hurts_both(
+                "moved",
+                "another distance: code of either schema reads other bytes",
+                "declare another struct, and add a field of it",
+            )
+        }
+        Place::Value(..) => {
+            hurts_both(
+                "moved",
+                "another number: code of either schema reads another value",
+                "write the numbers out",
+            )
+        }
+        _ => {
+            hurts_both(
+                "moved",
+                "another tag: code of either schema reads another member",
+                "write the tags out",
+            )
+        }
     }
 }
 
-fn retyped(place: Place) -> &'static str
-    ensures { result.now ≡ retyped_lem place }
+fn removed(place: Place) -> Saying
+    ensures { saying_view result ≡ removed_lem place }
 {
     match place {
-        Place::Part(..) =>
-            ": another type: code of either schema misreads it; declare another struct, and add a field of it",
-        _ =>
-            ": another type: code of either schema misreads it; add a new field, and deprecate this one",
+        Place::Part(..) => {
+            hurts_both(
+                "field_removed",
+                "nothing at its distance: new code has lost the field",
+                "declare another struct, and add a field of it",
+            )
+        }
+        _ => {
+            hurts_both(
+                "field_removed",
+                "removed: new code has lost the field",
+                "keep it, and mark it `deprecated`",
+            )
+        }
     }
 }
 
-fn required(required: bool) -> &'static str
-    ensures { result.now ≡ required_lem required }
+fn retyped(place: Place) -> Saying
+    ensures { saying_view result ≡ retyped_lem place }
+{
+    match place {
+        Place::Part(..) => {
+            hurts_both(
+                "type_changed",
+                "another type: code of either schema misreads it",
+                "declare another struct, and add a field of it",
+            )
+        }
+        _ => {
+            hurts_both(
+                "type_changed",
+                "another type: code of either schema misreads it",
+                "add a new field, and deprecate this one",
+            )
+        }
+    }
+}
+
+fn required(required: bool) -> Saying
+    ensures { saying_view result ≡ required_lem required }
 {
     if required {
-        ": now `required`: new code fails where it is absent; leave it optional, and test for it in your code"
+        hurts_new(
+            "required_changed",
+            "now `required`: new code fails where it is absent",
+            "leave it optional, and test for it in your code",
+        )
     } else {
-        ": no longer `required`: old code fails where it is absent; update readers first"
+        hurts_old(
+            "required_changed",
+            "no longer `required`: old code fails where it is absent",
+            "update readers first",
+        )
     }
 }
 
-/// `is_required`: whether the new field is.
-fn after(change: Change, place: Place, is_required: bool) -> &'static str
-    ensures { result.now ≡ after_lem change place is_required }
+/// Returns what is said of a change. `is_required`: whether the new field is.
+pub(crate) fn saying_of(change: Change, place: Place, is_required: bool) -> Saying
+    ensures { saying_view result ≡ saying_lem change place is_required }
 {
     match change {
-        Change::Removed =>
-            ": the new schema has nothing of this name; keep it, or name what it is now by --rename",
-        Change::OtherKind =>
-            ": another kind of declaration: code of either schema misreads it; give the new one another name",
+        Change::Removed => {
+            hurts_both(
+                "removed",
+                "the new schema has nothing of this name",
+                "keep it, or name what it is now by --rename",
+            )
+        }
+        Change::OtherKind => {
+            hurts_both(
+                "other_kind",
+                "another kind of declaration: code of either schema misreads it",
+                "give the new one another name",
+            )
+        }
         Change::FieldRemoved => removed(place),
         Change::Moved => moved(place),
         Change::TypeChanged => retyped(place),
         Change::RequiredChanged => required(is_required),
-        Change::RequiredDeprecated =>
-            ": deprecated, but old code fails where it is absent; make it optional first, and wait for old readers",
-        Change::DefaultChanged =>
-            ": another default: code of either schema reads another value where the field is absent; add a new field, and deprecate this one",
-        Change::NestedChanged =>
-            ": a buffer of another table: code of either schema misreads it; add a new field, and deprecate this one",
-        Change::SizeChanged =>
-            ": another size: code of either schema misreads it; declare another struct, and add a field of it",
-        Change::NumberTypeChanged =>
-            ": another integer type: code of either schema misreads it; declare another enum, and add a field of it",
-        Change::FlagsChanged =>
-            ": `bit_flags` in one schema alone: its code takes numbers that the other's doesn't; declare another enum, and add a field of it",
-        Change::ValueRemoved => ": removed: new code fails at it in old data; keep it",
-        Change::ValueAdded =>
-            ": its number is new: old code fails at it in new data; update readers first",
-        Change::MemberRemoved => ": removed: new code fails at it in old data; keep it",
-        Change::MemberChanged =>
-            ": another type has its tag: code of either schema misreads it; write the tags out",
-        Change::MemberAdded =>
-            ": its tag is new: old code fails at it in new data; update readers first",
-        Change::RootChanged =>
-            ": another root: code of either schema misreads a buffer of the other; keep the `root_type`",
-        Change::IdentifierRemoved =>
-            ": no identifier any more: old code takes no new buffer for its own; keep it",
-        Change::IdentifierChanged =>
-            ": another identifier: code of either schema takes no buffer of the other for its own; keep it",
-        Change::IdentifierAdded =>
-            ": a new identifier: new code takes no old buffer for its own; leave it out",
+        Change::RequiredDeprecated => {
+            hurts_old(
+                "required_deprecated",
+                "deprecated, but old code fails where it is absent",
+                "make it optional first, and wait for old readers",
+            )
+        }
+        Change::DefaultChanged => {
+            hurts_both(
+                "default_changed",
+                "another default: code of either schema reads another value where the field is absent",
+                "add a new field, and deprecate this one",
+            )
+        }
+        Change::NestedChanged => {
+            hurts_both(
+                "nested_changed",
+                "a buffer of another table: code of either schema misreads it",
+                "add a new field, and deprecate this one",
+            )
+        }
+        Change::SizeChanged => {
+            hurts_both(
+                "size_changed",
+                "another size: code of either schema misreads it",
+                "declare another struct, and add a field of it",
+            )
+        }
+        Change::NumberTypeChanged => {
+            hurts_both(
+                "number_type_changed",
+                "another integer type: code of either schema misreads it",
+                "declare another enum, and add a field of it",
+            )
+        }
+        Change::FlagsChanged => {
+            hurts_both(
+                "flags_changed",
+                "`bit_flags` in one schema alone: its code takes numbers that the other's doesn't",
+                "declare another enum, and add a field of it",
+            )
+        }
+        Change::ValueRemoved => {
+            hurts_new(
+                "value_removed",
+                "removed: new code fails at it in old data",
+                "keep it",
+            )
+        }
+        Change::ValueAdded => {
+            hurts_old(
+                "value_added",
+                "its number is new: old code fails at it in new data",
+                "update readers first",
+            )
+        }
+        Change::MemberRemoved => {
+            hurts_new(
+                "member_removed",
+                "removed: new code fails at it in old data",
+                "keep it",
+            )
+        }
+        Change::MemberChanged => {
+            hurts_both(
+                "member_changed",
+                "another type has its tag: code of either schema misreads it",
+                "write the tags out",
+            )
+        }
+        Change::MemberAdded => {
+            hurts_old(
+                "member_added",
+                "its tag is new: old code fails at it in new data",
+                "update readers first",
+            )
+        }
+        Change::RootChanged => {
+            hurts_both(
+                "root_changed",
+                "another root: code of either schema misreads a buffer of the other",
+                "keep the `root_type`",
+            )
+        }
+        Change::IdentifierRemoved => {
+            hurts_old(
+                "identifier_removed",
+                "no identifier any more: old code takes no new buffer for its own",
+                "keep it",
+            )
+        }
+        Change::IdentifierChanged => {
+            hurts_both(
+                "identifier_changed",
+                "another identifier: code of either schema takes no buffer of the other for its own",
+                "keep it",
+            )
+        }
+        Change::IdentifierAdded => {
+            hurts_new(
+                "identifier_added",
+                "a new identifier: new code takes no old buffer for its own",
+                "leave it out",
+            )
+        }
     }
 }
 
-/// Returns the message of a break.
-pub(crate) fn change_text(
-    alloc: Global,
-    change: Change,
-    place: Place,
-    is_required: bool,
-    subject: &[u8],
-) -> Result<Vec<u8>, AllocError>
-    ensures { IfOk result (λ text. text.items
-        ≡ change_text_lem change place is_required subject.now) }
+/// Returns the message of a change of what has this name.
+pub(crate) fn message_of(alloc: Global, saying: Saying, name: &[u8]) -> Result<Vec<u8>, AllocError>
+    ensures { IfOk result (λ text. text.items ≡ message_lem (saying_view saying) name.now) }
 {
     let mut text = Vec::from_slice(alloc, b"`")?;
-    text.extend_from_slice(subject)?;
-    text.push(b'`')?;
-    text.extend_from_slice(after(change, place, is_required).as_bytes())?;
+    text.extend_from_slice(name)?;
+    text.extend_from_slice(b"`: ")?;
+    text.extend_from_slice(saying.effect.as_bytes())?;
+    text.extend_from_slice(b"; ")?;
+    text.extend_from_slice(saying.advice.as_bytes())?;
     Ok(text)
 }

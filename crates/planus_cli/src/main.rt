@@ -14,6 +14,7 @@ mod file_error;
 mod files;
 mod format;
 mod include;
+mod json;
 mod laws;
 mod libraries;
 mod meaning;
@@ -34,6 +35,7 @@ mod sources;
 mod spots;
 mod streams;
 mod texts;
+mod told;
 mod view;
 mod viewing;
 

@@ -16,6 +16,9 @@ ghost use Rattle.planus_cli.specs.Parts.{new_word as new_word_lem};
 ghost use Rattle.planus_cli.specs.Parts.{part_after as part_after_lem};
 ghost use Rattle.planus_cli.specs.Parts.{declared_name as declared_name_lem};
 ghost use Rattle.planus_cli.specs.Parts.{stated_name as stated_name_lem};
+ghost use Rattle.planus_cli.specs.Parts.{part_told as part_told_lem};
+ghost use Rattle.planus_cli.specs.Parts.{declaration_told as declaration_told_lem};
+ghost use Rattle.planus_cli.specs.Parts.{statement_told as statement_told_lem};
 ghost use Rattle.planus_cli.specs.Parts.{subject as subject_lem};
 ghost use Rattle.planus_cli.specs.Parts.{is_moved as is_moved_lem};
 ghost use Rattle.planus_cli.specs.Parts.{is_needed as is_needed_lem};
@@ -255,8 +258,44 @@ fn stated_name(schema: &Schema, place: Place) -> Option<&[u8]>
     }
 }
 
-/// Returns the name that a report begins with: that of the part in the new schema, or else in the
-/// old one; where there is none, that of the declaration, or what the statement says.
+/// Returns the name of a part in the new schema, or else in the old one.
+pub(crate) fn part_told<'a>(
+    old: &'a Schema,
+    before: Word,
+    new: &'a Schema,
+    after: Word,
+) -> Option<&'a [u8]>
+    ensures { option_map (λ w. w.now) result ≡ part_told_lem old.now before new.now after }
+{
+    let old_body = body_if(&old.declarations, before.declaration);
+    let new_body = body_if(&new.declarations, after.declaration);
+    name_if(new_body, after.part).or(name_if(old_body, before.part))
+}
+
+/// Returns the name of a declaration in the new schema, or else in the old one.
+pub(crate) fn declaration_told<'a>(
+    old: &'a Schema,
+    before: Word,
+    new: &'a Schema,
+    after: Word,
+) -> Option<&'a [u8]>
+    ensures { option_map (λ w. w.now) result ≡ declaration_told_lem old.now before new.now after }
+{
+    declared_name(&new.declarations, after.declaration).or(declared_name(
+        &old.declarations,
+        before.declaration,
+    ))
+}
+
+/// Returns what a statement says in the new schema, or else in the old one.
+fn statement_told<'a>(old: &'a Schema, new: &'a Schema, place: Place) -> Option<&'a [u8]>
+    ensures { option_map (λ w. w.now) result ≡ statement_told_lem old.now new.now place }
+{
+    stated_name(new, place).or(stated_name(old, place))
+}
+
+/// Returns the name that a message begins with: that of the part; where there is none, that of the
+/// declaration, or what the statement says.
 pub(crate) fn subject<'a>(
     old: &'a Schema,
     before: Word,
@@ -266,14 +305,9 @@ pub(crate) fn subject<'a>(
 ) -> &'a [u8]
     ensures { result.now ≡ subject_lem old.now before new.now after place }
 {
-    let old_body = body_if(&old.declarations, before.declaration);
-    let new_body = body_if(&new.declarations, after.declaration);
-    name_if(new_body, after.part)
-        .or(name_if(old_body, before.part))
-        .or(declared_name(&new.declarations, after.declaration))
-        .or(declared_name(&old.declarations, before.declaration))
-        .or(stated_name(new, place))
-        .or(stated_name(old, place))
+    part_told(old, before, new, after)
+        .or(declaration_told(old, before, new, after))
+        .or(statement_told(old, new, place))
         .unwrap_or(&[])
 }
 

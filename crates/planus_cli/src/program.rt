@@ -5,7 +5,8 @@ ghost use Rattle.std.specs.String.{string_bytes};
 ghost use Rattle.planus_cli.specs.Arguments.{request_of as request_lem};
 ghost use Rattle.planus_cli.specs.Arguments.{asked, words_of};
 ghost use Rattle.planus_cli.specs.Outputs.{ends_quietly as ends_quietly_lem, Ends};
-ghost use Rattle.planus_cli.specs.Running.{RunsFile, RunsFiles, Runs, SaysOrRuns};
+ghost use Rattle.planus_cli.specs.Each.{RunsFiles};
+ghost use Rattle.planus_cli.specs.Running.{RunsFile, Runs, SaysOrRuns};
 
 use crate::arguments::{Command, Request, Words, request_of};
 use crate::conform::conform;
@@ -83,7 +84,7 @@ fn run_request<F: Files, W: Write, X: Write>(
         Command::View => view_file(files, alloc, words, writer, errors),
         Command::Rattle => print_code(files, alloc, words, errors),
         Command::Dot => draw_graph(files, alloc, words, writer, errors),
-        Command::Conform => conform(files, alloc, words, errors),
+        Command::Conform => conform(files, alloc, words, writer, errors),
         Command::Check => run_files(files, alloc, false, words, writer, errors),
         Command::Format => run_files(files, alloc, true, words, writer, errors),
         // Said before.

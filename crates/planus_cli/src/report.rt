@@ -21,7 +21,7 @@ fn is_feed(b: u8) -> bool
 }
 
 /// The number of line feeds, and the last line.
-fn last_line(bytes: &[u8]) -> (usize, &[u8])
+pub(crate) fn last_line(bytes: &[u8]) -> (usize, &[u8])
     ensures feeds { result.0 ≡ count_by is_feed_lem bytes.now }
     ensures line { result.1.now ≡ last_line_lem bytes.now }
     ensures bound { result.0 ≤ length bytes.now }

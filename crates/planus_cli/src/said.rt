@@ -127,6 +127,7 @@ change by which code of one reads data of the other otherwise, and what to do in
   --backward        only what breaks new code that reads old data
   --forward         only what breaks old code that reads new data
   --rename OLD=NEW  what is OLD in the old schema is NEW in the new one
+  --json            a line of JSON on standard output for each change, for a program
   -I FOLDER         included files are sought in this folder too
 
 Ends with 0 where nothing breaks, with 1 where something does or a schema has a fault,
@@ -238,6 +239,7 @@ pub(crate) fn option_words(command: Command) -> &'static [&'static str]
                 "--forward",
                 "--rename",
                 "--against",
+                "--json",
                 "--help",
                 "-h",
             ]

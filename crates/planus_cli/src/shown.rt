@@ -69,7 +69,7 @@ fn kept_of(kept: usize, bytes: &[u8]) -> usize
     if kept == 0 { seen_length(bytes) } else { kept }
 }
 
-fn hex_digit(value: u8) -> u8
+pub(crate) fn hex_digit(value: u8) -> u8
     requires { value < 16 }
     ensures { result ≡ digit_char value }
 {

@@ -14,6 +14,9 @@ returns-in-Ok g c =
     let unsaid = g.X.Write.contents c.args.errors.now in
     let told = g.X.Write.contents c.meaning_at.new.errors in
     let said = g.X.Write.contents c.compare.new.errors in
+    let before = g.W.Write.contents c.args.writer.now in
+    let after = g.W.Write.contents c.compare.new.writer in
+    let json = c.args.words.now.json in
     let old = c.args.old.now in
     let new = c.in-Ok.new in
     let found = subst (λ found. IfOk found (λ meaning. HasMeaning (places_of disk c.deref.result.now) name meaning unsaid told)) c.in-Ok.is
@@ -27,7 +30,7 @@ returns-in-Ok g c =
       found = has;
       renames = renames;
       are = are;
-      compares = subst (λ way. Compares way renames old new status told said) c.way_by-way.ensures
-          (subst (λ rs. Compares c.way_by-way.result rs old new status told said) c.deref-in-Ok-2.ensures.value compares);
+      compares = subst (λ way. Compares json way renames old new status before after told said) c.way_by-way.ensures
+          (subst (λ rs. Compares json c.way_by-way.result rs old new status before after told said) c.deref-in-Ok-2.ensures.value compares);
     }))
     c.compare.ensures

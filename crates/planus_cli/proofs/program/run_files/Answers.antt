@@ -1,6 +1,7 @@
 use Rattle.std.proofs.Common.{subst, sym, refl, ◌≤◌, drop, length, map, max, ◌+◌}
 use Rattle.planus_cli.specs.Arguments.{words_of}
-use Rattle.planus_cli.specs.Running.{RunsFile, RunsFiles}
+use Rattle.planus_cli.specs.Each.{RunsFiles}
+use Rattle.planus_cli.specs.Running.{RunsFile}
 use Rattle.planus_cli.proofs.RunFiles.{next_run, all_run}
 use Rattle.planus_cli.proofs.program.run_files.Goals as goal
 

@@ -1,7 +1,8 @@
 use Rattle.std.proofs.Common.{ℕ, List, drop, map}
 use Rattle.std.specs.Prelude.{Option}
 use Rattle.planus_cli.specs.Arguments.{words_of}
-use Rattle.planus_cli.specs.Running.{RunsFile, RunsFiles}
+use Rattle.planus_cli.specs.Each.{RunsFiles}
+use Rattle.planus_cli.specs.Running.{RunsFile}
 use Rattle.planus_cli.proofs.program.run_files.Given as goal
 
 abbrev pub invariant-words : goal.invariant-words

@@ -1,6 +1,6 @@
 use Rattle.std.proofs.Common.{◌++◌, ap, ◌∙◌, subst}
-use Rattle.planus_cli.specs.Conforming.{ReportsIn}
-use Rattle.planus_cli.proofs.conform.both_reports.Goals as goal
+use Rattle.planus_cli.specs.Telling.{ReportsIn}
+use Rattle.planus_cli.proofs.told.both_reports.Goals as goal
 
 pub returns : goal.returns
 returns c = record {

@@ -1,8 +1,8 @@
 use Rattle.std.proofs.Common.{take, subst, sym, ap, ◌∙◌, ◌++◌}
 use Rattle.std.proofs.lemmas.List.{take_more}
-use Rattle.planus_cli.specs.Conforming.{ReportBreaks}
+use Rattle.planus_cli.specs.Telling.{TellsBreaks}
 use Rattle.planus_cli.proofs.Conformed.{breaks_push}
-use Rattle.planus_cli.proofs.conform.break_reports.Goals as goal
+use Rattle.planus_cli.proofs.told.all_told.Goals as goal
 
 pub breaks-preserved : goal.breaks-preserved
 breaks-preserved c =
@@ -10,7 +10,7 @@ breaks-preserved c =
     let old = c.args.old.now in
     let new = c.args.new.now in
     let some = take c.breaks.one-index c.args.breaks.now in
-    subst (λ bs. ReportBreaks rs old new bs c.extend_from_slice.new.self.items)
+    subst (λ bs. TellsBreaks c.args.json rs old new bs c.extend_from_slice.new.self.items)
     (sym (take_more c.args.breaks.now c.breaks.one-index _ c.breaks-test.true))
-    (breaks_push rs old new some _ c.breaks.out.items c.in_ok-report.report.items c.extend_from_slice.new.self.items c.breaks.invariant
-    c.in_ok-report.ensures (c.in_ok-extend_from_slice.ensures.items ∙ ap (λ xs. c.breaks.out.items ++ xs) c.deref.ensures.value))
+    (breaks_push c.args.json rs old new some _ c.breaks.out.items c.in_ok-told.told.items c.extend_from_slice.new.self.items c.breaks.invariant
+    c.in_ok-told.ensures (c.in_ok-extend_from_slice.ensures.items ∙ ap (λ xs. c.breaks.out.items ++ xs) c.deref.ensures.value))

@@ -2,7 +2,7 @@ use Rattle.std.proofs.Common.{◌<◌, length, refl, subst, sym}
 use Rattle.std.proofs.lemmas.Option.{slice_get_read}
 use Rattle.planus_cli.specs.Outcomes.{HasTokens, ReportsAt}
 use Rattle.planus_cli.proofs.LoadedFiles.{if_ok}
-use Rattle.planus_cli.proofs.conform.spot_report.Goals as goal
+use Rattle.planus_cli.proofs.told.spot_report.Goals as goal
 
 pub placed_report-requires : goal.placed_report-requires
 placed_report-requires c =
