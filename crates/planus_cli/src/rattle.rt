@@ -25,7 +25,7 @@ use crate::sources::schema_at;
 use crate::streams::{GREATEST_TEXT, RunError, say};
 use planus_codegen::{PrintedFile, Refusal, print_crate};
 use planus_resolve::Schema;
-use planus_schema::{Declared, have_key, is_reserved};
+use planus_schema::{have_key, is_reserved};
 use std::alloc::{AllocError, Global};
 use std::io::Write;
 
@@ -240,10 +240,10 @@ fn say_unsupported<X: Write>(
 }
 
 /// Returns the crates that printed code stands on, as they are said after its name.
-fn stands_on(declared: &[Declared]) -> &'static str
-    ensures { result.now ≡ stands_on_lem declared.now }
+fn stands_on(schema: &Schema) -> &'static str
+    ensures { result.now ≡ stands_on_lem schema.now.declarations.items }
 {
-    if have_key(declared) {
+    if have_key(&schema.declarations) {
         ": planus planus_keys planus_views`"
     } else {
         ": planus planus_views`"
@@ -252,14 +252,14 @@ fn stands_on(declared: &[Declared]) -> &'static str
 
 fn say_line<X: Write>(
     alloc: Global,
-    declared: &[Declared],
+    schema: &Schema,
     name: &str,
     errors: &mut X,
 ) -> Result<(), RunError>
     ensures { OnOk result (Appends (X.contents errors.old) (X.contents errors.new)
-        (crates_line declared.now name.now)) }
+        (crates_line schema.now.declarations.items name.now)) }
 {
-    let crates = stands_on(declared);
+    let crates = stands_on(schema);
     say(alloc, errors, "the line of crates.txt is `", name, crates)?;
     Ok(())
 }
@@ -281,7 +281,7 @@ fn print_to<F: Files, X: Write>(
         Ok(printed) => {
             let status = print_files(files, alloc, folder, &printed, errors)?;
             if status == CLEAN && !folder.check {
-                say_line(alloc, &schema.declarations, folder.name, errors)?;
+                say_line(alloc, schema, folder.name, errors)?;
             }
             Ok(status)
         }
