@@ -16,6 +16,7 @@ escaped b = if b == 34 || b == 92 then 92 ∷ b ∷ []
 abbrev pub text_json : List ℕ → List ℕ
 text_json text = codes "\"" ++ (flat_map escaped text ++ codes "\"")
 
+-- a text, if there is one
 abbrev pub text_or_null : Option (List ℕ) → List ℕ
 text_or_null None = codes "null"
 text_or_null (Some text) = text_json text

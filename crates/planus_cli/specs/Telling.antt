@@ -30,18 +30,21 @@ message_at old before new after one =
 
 -- ---- the members of a line of JSON
 
+-- what changed, and whom that hurts
 abbrev pub kind_json : SayingV → List ℕ
 kind_json s = codes "{\"change\":" ++ (text_json s.word ++ (codes ",\"hurt\":" ++ text_json s.hurt))
 
+-- what it is about
 abbrev pub names_json : Option (List ℕ) → Option (List ℕ) → List ℕ
 names_json declaration part = codes ",\"declaration\":" ++ (text_or_null declaration
     ++ (codes ",\"part\":" ++ text_or_null part))
 
+-- what is said
 abbrev pub texts_json : List ℕ → List ℕ → List ℕ
 texts_json message advice = codes ",\"message\":" ++ (text_json message
     ++ (codes ",\"advice\":" ++ text_json advice))
 
--- with the end of the line
+-- where it is, and the end of the line
 abbrev pub places_json : List ℕ → List ℕ → List ℕ
 places_json new old = codes ",\"new\":" ++ (new ++ (codes ",\"old\":" ++ (old ++ codes "}\n")))
 
@@ -84,6 +87,7 @@ pub record IsPlaceIn (files : List File) (spot : Spot) (json : List ℕ) : Type 
   pub place : IsPlaceAt file.text.items spot.left at
   pub is : json ≡ place_json (string_bytes file.name) (take at file.text.items)
 
+-- of a spot, if there is one
 abbrev pub IsPlaceOrNull : List File → Option Spot → List ℕ → Type 0
 IsPlaceOrNull files None json = json ≡ codes "null"
 IsPlaceOrNull files (Some spot) json = IsPlaceIn files spot json
