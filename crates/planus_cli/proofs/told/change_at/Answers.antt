@@ -15,8 +15,8 @@ returns c =
     let parted = option_map (λ w. w.now) c.part_told-part.result in
     let text = c.deref.result.now in
     let same = ap (λ (s : SayingV). change_json s named parted text) c.saying_at.ensures
-        ∙ ap (λ (d : Option (List ℕ)). change_json saying d parted text) c.declaration_told-declaration.ensures
-        ∙ ap (λ (p : Option (List ℕ)). change_json saying declaration p text) c.part_told-part.ensures
-        ∙ ap (λ (t : List ℕ). change_json saying declaration part t)
-        (c.deref.ensures.value ∙ c.in_ok-message.ensures) in
+    ∙ ap (λ (d : Option (List ℕ)). change_json saying d parted text) c.declaration_told-declaration.ensures
+    ∙ ap (λ (p : Option (List ℕ)). change_json saying declaration p text) c.part_told-part.ensures
+    ∙ ap (λ (t : List ℕ). change_json saying declaration part t)
+    (c.deref.ensures.value ∙ c.in_ok-message.ensures) in
     if_ok c.change_json.result (λ json is. is ∙ same) c.change_json.ensures

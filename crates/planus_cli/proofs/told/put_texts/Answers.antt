@@ -3,11 +3,12 @@ use Rattle.std.specs.Prelude.{codes, OnOk}
 use Rattle.planus_cli.specs.Json.{text_json}
 use Rattle.planus_cli.proofs.told.put_texts.Goals as goal
 
-one_list : (xs as bs cs ds : List ℕ)
-    → (((xs ++ as) ++ bs) ++ cs) ++ ds ≡ xs ++ (as ++ (bs ++ (cs ++ ds)))
-one_list xs as bs cs ds =
-    append_assoc ((xs ++ as) ++ bs) cs ds ∙ append_assoc (xs ++ as) bs (cs ++ ds)
-    ∙ append_assoc xs as (bs ++ (cs ++ ds))
+one_list : (xs first second third fourth : List ℕ)
+    → (((xs ++ first) ++ second) ++ third) ++ fourth ≡ xs ++ (first ++ (second ++ (third ++ fourth)))
+one_list xs first second third fourth =
+    append_assoc ((xs ++ first) ++ second) third fourth
+    ∙ append_assoc (xs ++ first) second (third ++ fourth)
+    ∙ append_assoc xs first (second ++ (third ++ fourth))
 
 pub returns : goal.returns
 returns c =
@@ -16,8 +17,8 @@ returns c =
     let told = text_json c.args.message.now in
     let advised = text_json c.args.advice.now in
     let before = c.in_ok-extend_from_slice-2.ensures.items
-        ∙ ap (λ (xs : List ℕ). xs ++ advice) (c.in_ok-put_text.ensures
-        ∙ ap (λ (xs : List ℕ). xs ++ told) c.in_ok-extend_from_slice.ensures.items) in
+    ∙ ap (λ (xs : List ℕ). xs ++ advice) (c.in_ok-put_text.ensures
+    ∙ ap (λ (xs : List ℕ). xs ++ told) c.in_ok-extend_from_slice.ensures.items) in
     subst (λ (xs : List ℕ). OnOk c.put_text-2.result (c.put_text-2.new.out.items ≡ xs))
     (ap (λ (text : List ℕ). c.extend_from_slice-2.new.self.items ++ text_json text) c.as_bytes.ensures.value
     ∙ ap (λ (xs : List ℕ). xs ++ advised) before
