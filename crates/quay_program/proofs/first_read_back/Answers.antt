@@ -1,6 +1,6 @@
 use Rattle.std.proofs.Common.{◌≡◌, Result, Ok, refl, subst, arith, lit<}
 use Rattle.std.specs.Prelude.{IsOkAnd}
-use Rattle.planus_read.specs.Values.{apart}
+use Rattle.planus.specs.read.Values.{apart}
 use Rattle.quay.specs.Berth.{berth_variants, berth_2}
 use Rattle.quay.specs.Load.{load_shape}
 use Rattle.quay_program.proofs.first_read_back.Goals as goal
