@@ -1,5 +1,5 @@
 -- A union of a known variant stands where its value does, and is read as that variant.
-use Rattle.std.specs.Prelude.{◌≡◌, ◌≢◌, ℕ, ◌<◌, ◌==◌, List, [], ◌∷◌, length, Option, Some, None}
+use Rattle.std.specs.Prelude.{◌≡◌, ℕ, ◌==◌, List, [], ◌∷◌, length, Option, Some, None}
 use Rattle.std.specs.Prelude.{Result, Bool, true, false, if◌then◌else◌, IsOkAnd, IsSomeAnd, Ok, Err}
 use Rattle.std.proofs.Common.{refl, sym, subst, inl, inr}
 use Rattle.std.proofs.lemmas.Bool.{or_parts, eqb-true, eqb-false}
@@ -11,7 +11,9 @@ use Rattle.planus_read.specs.Stands.{ApartStands}
 use Rattle.planus_write.specs.Contents.{Content, written}
 use Rattle.planus_write.specs.declared.union_offset.UnionOffset.{UnionOffset}
 use Rattle.planus.specs.Accessors.{SameIf}
-use Rattle.planus.specs.FieldLines.{VariantsReadBack, StructsOfUnionsReadBack}
+use Rattle.planus.specs.UnionsBack.{HasTag, VariantsReadBack, RequiredVariantsReadBack}
+use Rattle.planus.specs.UnionsBack.{VariantItemsReadBack, StructsHaveTheirBytes, HasStruct}
+use Rattle.planus.specs.UnionsBack.{StructsOfUnionsReadBack}
 use Rattle.planus.specs.Unions.{UnionVariant, struct_variant, tag_of, has_tag, variant_at}
 use Rattle.planus.specs.Unions.{IsKnown, VariantStands, EachStands, UnionStands, IsVariant, IsUnion}
 
@@ -99,55 +101,108 @@ module _ {U : Type 0} where
         by_test later false more differs has at (inr is) = later at union is
 
     pub union_stands : (variants : List (UnionVariant U)) (tag : ℕ) (variant : UnionVariant U)
-        → variant_at variants tag ≡ Some variant → tag ≢ 0 → tag < 256
-        → VariantStands variant B content → UnionStands variants B tag content
-    union_stands variants tag variant at above below stands =
+        → HasTag variants tag variant → VariantStands variant B content
+        → UnionStands variants B tag content
+    union_stands variants tag variant has stands =
         record {
-          known = known variants tag variant at;
-          above = above;
-          below = below;
-          each = each_stands variants tag variant at stands;
+          known = known variants tag variant has.only;
+          above = has.above;
+          below = has.below;
+          each = each_stands variants tag variant has.only stands;
         }
 
+-- of a result, an optional one and an item
+read_as : {U : Type 0} (B : List ℕ) (content : Content) (variants : List (UnionVariant U)) (tag : ℕ)
+    (variant : UnionVariant U) → HasTag variants tag variant → (r : Result U Error)
+    → IsOkAnd r (IsUnion variants B tag content) → IsOkAnd r (IsVariant variant B content)
+read_as B content variants tag variant has (Ok one) h =
+    variant_read B content variants tag variant has.only one h
+read_as B content variants tag variant has (Err e) h = h
+
+found_as : {U : Type 0} (B : List ℕ) (content : Content) (variants : List (UnionVariant U)) (tag : ℕ)
+    (variant : UnionVariant U) → HasTag variants tag variant → (r : Result (Option U) Error)
+    → IsOkAnd r (λ found. IsSomeAnd found (IsUnion variants B tag content))
+    → IsOkAnd r (λ found. IsSomeAnd found (IsVariant variant B content))
+found_as B content variants tag variant has (Ok (Some one)) h =
+    variant_read B content variants tag variant has.only one h
+found_as B content variants tag variant has (Ok None) h = h
+found_as B content variants tag variant has (Err e) h = h
+
+item_as : {U : Type 0} (B : List ℕ) (content : Content) (variants : List (UnionVariant U)) (tag : ℕ)
+    (variant : UnionVariant U) → HasTag variants tag variant → (r : Option (Result U Error))
+    → IsSomeAnd r (λ item. IsOkAnd item (IsUnion variants B tag content))
+    → IsSomeAnd r (λ item. IsOkAnd item (IsVariant variant B content))
+item_as B content variants tag variant has (Some item) h =
+    read_as B content variants tag variant has item h
+item_as B content variants tag variant has None h = h
+
+module _ {U : Type 0} (B : List ℕ) (content : Content) (variants : List (UnionVariant U)) where
+  stands_tagged : (tag : ℕ) (variant : UnionVariant U) → HasTag variants tag variant
+      → VariantStands variant B content → (given : ℕ) → given ≡ tag
+      → UnionStands variants B given content
+  stands_tagged tag variant has stands given is =
+      subst (λ (t : ℕ). UnionStands variants B t content) (sym is)
+      (union_stands B content variants tag variant has stands)
+
 pub variants_read_back : {K U : Type 0} → VariantsReadBack K U
-variants_read_back {K} {U} variants tag variant at above below B table slot given returns is_tag stands type_ method r is =
-    there r (returns (subst (λ (t : ℕ). UnionStands variants B t content) (sym is_tag)
-    (union_stands B content variants tag variant at above below stands))
-    type_ method r is)
+variants_read_back {K} {U} variants tag variant has B table slot given returns is stands type_ method r clause =
+    found_as B content variants tag variant has r
+    (subst (λ (t : ℕ). IsOkAnd r (λ found. IsSomeAnd found (IsUnion variants B t content))) is
+    (there r (returns (stands_tagged B content variants tag variant has stands given.tag is) type_ method r clause)))
   where
     content : Content
     content = written given.offset.distance
 
     there : (r : Result (Option U) Error)
         → IsOkAnd r (SameIf (λ (one : UnionOffset K). IsUnion variants B one.tag (written one.offset.distance)) (Some given))
-        → IsOkAnd r (λ found. IsSomeAnd found (IsVariant variant B content))
-    there (Ok (Some one)) h =
-        variant_read B content variants tag variant at one
-        (subst (λ (t : ℕ). IsUnion variants B t content one) is_tag h)
+        → IsOkAnd r (λ found. IsSomeAnd found (IsUnion variants B given.tag content))
+    there (Ok (Some one)) h = h
     there (Ok None) h = h
     there (Err e) h = h
 
-pub structs_read_back : {K U : Type 0} → StructsOfUnionsReadBack K U
-structs_read_back {K} {U} variants tag size slice_of at above below B table slot given returns is_tag bytes
-    alignment distance sized stands is_at type_ method r is =
-    there r (variants_read_back variants tag (struct_variant tag size slice_of) at above below B table slot given returns
-    is_tag (bytes, sized, here) type_ method r is)
+pub required_read_back : {K U : Type 0} → RequiredVariantsReadBack K U
+required_read_back {K} {U} variants tag variant has B table slot given returns is stands type_ method r clause =
+    read_as B content variants tag variant has r
+    (subst (λ (t : ℕ). IsOkAnd r (IsUnion variants B t content)) is
+    (returns (stands_tagged B content variants tag variant has stands given.tag is) type_ method r clause))
   where
-    here : ApartStands B (position_of B given.offset.distance) bytes
-    here = subst (λ (d : ℕ). ApartStands B (position_of B d) bytes) (sym is_at) stands
+    content : Content
+    content = written given.offset.distance
 
-    slice_found : (found : Option SliceWithStartOffset)
+pub items_read_back : {T E U : Type 0} → VariantItemsReadBack T E U
+items_read_back {T} {E} {U} variants tag variant has B unions vector index content are at stands name r item =
+    item_as B content variants tag variant has r
+    (item.read_back B variants (λ S start tag f r h. h) unions tag content are at
+    (union_stands B content variants tag variant has stands))
+
+pub structs_have_bytes : {U : Type 0} → StructsHaveTheirBytes U
+structs_have_bytes {U} tag size slice_of B bytes alignment distance sized stands =
+    ((bytes, sized, stands), λ one is. there (slice_of one) is)
+  where
+    there : (found : Option SliceWithStartOffset)
         → IsSomeAnd found (λ slice. (others : List ℕ) → length others ≡ size
-        → ApartStands B (position_of B given.offset.distance) others
-        → BytesStand (slice_bytes slice) 0 others)
+        → ApartStands B (position_of B distance) others → BytesStand (slice_bytes slice) 0 others)
         → IsSomeAnd found (λ slice. BytesStand (slice_bytes slice) 0 bytes)
-    slice_found (Some slice) h = h bytes sized here
-    slice_found None h = h
+    there (Some slice) h = h bytes sized stands
+    there None h = h
+
+pub structs_read_back : {K U : Type 0} → StructsOfUnionsReadBack K U
+structs_read_back {K} {U} variants tag size slice_of has B table slot given returns is bytes alignment
+    distance sized stands is_at type_ method r clause =
+    there r (variants_read_back variants tag variant has B table slot given returns is parts.0 type_ method r clause)
+  where
+    variant : UnionVariant U
+    variant = struct_variant tag size slice_of
+
+    parts : VariantStands (struct_variant tag size slice_of) B (written given.offset.distance)
+        × ((one : U) → IsVariant (struct_variant tag size slice_of) B (written given.offset.distance) one
+        → HasStruct slice_of bytes one)
+    parts = structs_have_bytes tag size slice_of B bytes alignment given.offset.distance sized
+        (subst (λ (d : ℕ). ApartStands B (position_of B d) bytes) (sym is_at) stands)
 
     there : (r : Result (Option U) Error)
-        → IsOkAnd r (λ found. IsSomeAnd found (IsVariant (struct_variant tag size slice_of) B (written given.offset.distance)))
-        → IsOkAnd r (λ found. IsSomeAnd found (λ one. IsSomeAnd (slice_of one) (λ slice.
-        BytesStand (slice_bytes slice) 0 bytes)))
-    there (Ok (Some one)) h = slice_found (slice_of one) h
+        → IsOkAnd r (λ found. IsSomeAnd found (IsVariant variant B (written given.offset.distance)))
+        → IsOkAnd r (λ found. IsSomeAnd found (HasStruct slice_of bytes))
+    there (Ok (Some one)) h = parts.1 one h
     there (Ok None) h = h
     there (Err e) h = h

@@ -1,18 +1,14 @@
 -- The fields of a table: what each holds, and what its method returns once the table is read.
 use Rattle.std.specs.Prelude.{◌≡◌, ℕ, ◌+◌, ◌==◌, List, [], ◌∷◌, ◌++◌, map, Bool}
 use Rattle.std.specs.Prelude.{if◌then◌else◌, Option, Some, Result, Ok, IsOkAnd, MatchOption, ⊤}
-use Rattle.std.specs.Prelude.{ℤ, FitsSigned, IsTrue, IsSomeAnd, ◌≢◌, ◌<◌, length}
+use Rattle.std.specs.Prelude.{ℤ, FitsSigned, IsTrue}
 use Rattle.std.specs.Borrow.{Bor}
 use Rattle.std.specs.Int.{Width}
 use Rattle.std.specs.Ordering.{int_eq}
 use Rattle.planus_read.specs.declared.located.Error.{Error}
-use Rattle.planus_read.specs.declared.slice_helpers.SliceWithStartOffset.{SliceWithStartOffset}
 use Rattle.planus_read.specs.declared.table_reader.Table.{Table}
-use Rattle.planus_read.specs.Bytes.{BytesStand}
 use Rattle.planus_read.specs.Plain.{Shape}
 use Rattle.planus_read.specs.Shapes.{u32_shape}
-use Rattle.planus_read.specs.Slices.{slice_bytes}
-use Rattle.planus_read.specs.Values.{apart}
 use Rattle.planus_read.specs.declared.plain.Plain.{Ghosts as PlainGhosts}
 use Rattle.planus_write.specs.Contents.{Content, written, written_union}
 use Rattle.planus_write.specs.Finishing.{FinishGives}
@@ -31,14 +27,13 @@ use Rattle.planus.specs.Holds.{holds_plain, holds_union_tag, holds_union_value}
 use Rattle.planus.specs.Holds.{holds_any_union_tags, holds_any_union_values, holds_union_tags}
 use Rattle.planus.specs.Holds.{holds_union_values, as_signed}
 use Rattle.planus.specs.Contents.{TableIsKept, WritesContents}
-use Rattle.planus.specs.KeptValues.{StandsFromEnd, ValuesStandIn}
+use Rattle.planus.specs.KeptValues.{ValuesStandIn}
 use Rattle.planus.specs.ReadBack.{TableStands, TableHolds, are_apart}
 use Rattle.planus.specs.ReadPlain.{IsPlainField, IsPlainFieldOr}
 use Rattle.planus.specs.UnionAccessors.{IsUnionField, IsUnionRequired, IsUnionVector}
 use Rattle.planus.specs.UnionAccessors.{IsUnionVectorRequired, AreAnyUnions, AreUnionsOf}
 use Rattle.planus.specs.declared.tables.table_ref.TableRef.{TableRef}
 use Rattle.planus.specs.Unions.{UnionVariant, ReadsVariants, UnionStands, IsUnion}
-use Rattle.planus.specs.Unions.{VariantStands, IsVariant, struct_variant, variant_at}
 
 -- the items of vectors, by their shape
 abbrev pub items_of : {R : Type 0} {size alignment : ℕ} → Shape R size alignment → PlainGhosts R
@@ -202,30 +197,3 @@ pub record ReadsBack (builder : State) (lines : List FieldLine) (table : Table) 
   pub keeps_values : ValuesStandIn bytes builder
   pub holds : TableHolds bytes (contents_of lines) table
   pub returns : AllReturnGiven bytes table lines
-
--- What a union has and what stands in the buffer is what the union's field returns: the table, the
--- string or the struct of the variant with this tag.
-abbrev pub VariantsReadBack : (K U : Type 0) → Type 0
-VariantsReadBack K U =
-    (variants : List (UnionVariant U)) (tag : ℕ) (variant : UnionVariant U)
-    → variant_at variants tag ≡ Some variant → tag ≢ 0 → tag < 256
-    → (B : List ℕ) (table : Table) (slot : ℕ) (given : UnionOffset K)
-    → ReturnsGiven B table (union variants slot (Some given)) → given.tag ≡ tag
-    → VariantStands variant B (written given.offset.distance)
-    → Returns (λ type_ method. IsUnionField (ReadsVariants variants) table slot type_ method K)
-    (λ r. IsOkAnd r (λ found. IsSomeAnd found
-    (IsVariant variant B (written given.offset.distance))))
-
--- of structs, which were written by themselves: the slice has their bytes
-abbrev pub StructsOfUnionsReadBack : (K U : Type 0) → Type 0
-StructsOfUnionsReadBack K U =
-    (variants : List (UnionVariant U)) (tag size : ℕ) (slice_of : U → Option SliceWithStartOffset)
-    → variant_at variants tag ≡ Some (struct_variant tag size slice_of) → tag ≢ 0 → tag < 256
-    → (B : List ℕ) (table : Table) (slot : ℕ) (given : UnionOffset K)
-    → ReturnsGiven B table (union variants slot (Some given)) → given.tag ≡ tag
-    → (bytes : List ℕ) (alignment distance : ℕ) → length bytes ≡ size
-    → StandsFromEnd B (apart (record { bytes = bytes; alignment = alignment })) distance
-    → given.offset.distance ≡ distance
-    → Returns (λ type_ method. IsUnionField (ReadsVariants variants) table slot type_ method K)
-    (λ r. IsOkAnd r (λ found. IsSomeAnd found (λ one. IsSomeAnd (slice_of one)
-    (λ slice. BytesStand (slice_bytes slice) 0 bytes))))

@@ -30,6 +30,7 @@ pub mod Streams
 pub mod Once
 pub mod SameTrees
 pub mod FieldLines
+pub mod UnionsBack
 pub mod Creating
 pub mod SizedRoots
 pub mod Printed

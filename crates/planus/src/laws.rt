@@ -8,7 +8,9 @@ ghost use Rattle.planus.specs.KeptValues.{ValuesStandOn, ValuesStandFinished};
 ghost use Rattle.planus.specs.KeptValues.{FinishesKeepValues, SizedFinishesKeepValues};
 ghost use Rattle.planus.specs.ReadBack.{ItemsReadBack, ReferencesReadBack};
 ghost use Rattle.planus.specs.ItemAccessors.{TableViewsReadBack};
-ghost use Rattle.planus.specs.FieldLines.{VariantsReadBack, StructsOfUnionsReadBack};
+ghost use Rattle.planus.specs.UnionsBack.{VariantsReadBack, RequiredVariantsReadBack};
+ghost use Rattle.planus.specs.UnionsBack.{StructsOfUnionsReadBack, StructsHaveTheirBytes};
+ghost use Rattle.planus.specs.UnionsBack.{VariantItemsReadBack};
 ghost use Rattle.planus.specs.ReadPlain.{PlainResultsReadBack};
 ghost use Rattle.planus.specs.Once.{EqualContentsHaveOneDistance, EqualEntriesGetOneDistance};
 ghost use Rattle.planus.specs.Replays.{AnAnswerIsThere, AnswersAreOne};
@@ -81,11 +83,20 @@ pub fn table_views_read_back<'a, V: TableView<'a>>()
     ensures { TableViewsReadBack ⟦<u32 as Plain>⟧ V.Kind V.table }
 {}
 
-/// The value that a union was given is read back by the union's field, once the table is read. A
-/// struct is one that [`create_plain`](crate::create_plain) wrote.
+/// What stands in the buffer and was given to an optional union, or to a required one, is returned
+/// by the union's field. A struct that [`create_plain`](crate::create_plain) wrote is returned with
+/// its bytes.
 pub fn unions_of_fields_read_back<K, U>()
     ensures variants { VariantsReadBack K U }
+    ensures required { RequiredVariantsReadBack K U }
     ensures structs { StructsOfUnionsReadBack K U }
+    ensures bytes { StructsHaveTheirBytes U }
+{}
+
+/// What stands in the buffer and was given to a vector of unions is returned as the item at its
+/// index.
+pub fn items_of_unions_read_back<T, E, U>()
+    ensures { VariantItemsReadBack T E U }
 {}
 
 /// A list of steps has one result, out of memory aside, so none depends on the mask of the hashes.
