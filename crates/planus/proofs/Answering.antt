@@ -28,9 +28,9 @@ use Rattle.planus.specs.Runs.{named_at, value_at, union_of, all_of, width_of, fi
 use Rattle.planus.specs.Runs.{entries_put, finish_of, values_added, finishes_added}
 use Rattle.planus.specs.Replays.{is_clear, named_step, fault_of, first_fault, union_fault, numbers_fault, struct_fault}
 use Rattle.planus.specs.Replays.{broken_check, first_bad, AnAnswerIsThere, IsAnswered}
-use Rattle.planus.specs.declared.faults.Why.{Why}
-use Rattle.planus.specs.declared.faults.Why.TheVariants.{ValueTooBig, WrongSize, ZeroTag}
-use Rattle.planus.specs.declared.faults.ReplayError.TheVariants.{TooLarge, BadStep}
+use Rattle.planus.specs.declared.replaying.faults.Why.{Why}
+use Rattle.planus.specs.declared.replaying.faults.Why.TheVariants.{ValueTooBig, WrongSize, ZeroTag}
+use Rattle.planus.specs.declared.replaying.faults.ReplayError.TheVariants.{TooLarge, BadStep}
 use Rattle.planus.proofs.FieldFaults.{none_of}
 use Rattle.planus.proofs.Kept.{Kept, run_kept, values_are_written, leads_on}
 use Rattle.planus.proofs.NamedKinds.{GoodAreNamed, good_value}

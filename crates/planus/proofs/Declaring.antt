@@ -14,21 +14,21 @@ use Rattle.planus_write.specs.Tables.{Declared, IsTable, SlotsOnce, declared_of,
 use Rattle.planus_write.specs.TableWriting.{Writer, WasTold, slot_position, with_entry}
 use Rattle.planus_write.proofs.ToldTables.{pair_length}
 use Rattle.planus.specs.Steps.{FieldStep, content_of, bare_field}
-use Rattle.planus.specs.declared.steps.Field as code
+use Rattle.planus.specs.declared.replaying.steps.Field as code
 use Rattle.planus.specs.Slots.{slot_fault, rising_fault, place_fault, alignment_of, greatest_field}
 use Rattle.planus.specs.Runs.{field_of, fields_of}
 use Rattle.planus.specs.TableChecks.{content_fault, field_fault, table_fault}
 use Rattle.planus_write.specs.Parts.{Named}
-use Rattle.planus.specs.declared.named_steps.NamedSteps.{NamedSteps}
-use Rattle.planus.specs.declared.prepared_field.PreparedField.{PreparedField}
+use Rattle.planus.specs.declared.replaying.named_steps.NamedSteps.{NamedSteps}
+use Rattle.planus.specs.declared.replaying.prepared_field.PreparedField.{PreparedField}
 use Rattle.planus.specs.inner.Prepared.{PreparesField}
 use Rattle.planus.specs.inner.Names.{name_of, listed_from, IsReached}
 use Rattle.planus.specs.inner.Replaying.{names, values_listed, name_fault, AreReached}
 use Rattle.planus.specs.inner.Declaring.{slots_of}
-use Rattle.planus.specs.declared.faults.Why.{Why}
-use Rattle.planus.specs.declared.faults.Why.TheVariants.{SlotTooBig, SlotTwice, RisingAlignment}
-use Rattle.planus.specs.declared.replay_state.ReplayState.{ReplayState}
-use Rattle.planus.specs.declared.written.Written.{Written}
+use Rattle.planus.specs.declared.replaying.faults.Why.{Why}
+use Rattle.planus.specs.declared.replaying.faults.Why.TheVariants.{SlotTooBig, SlotTwice, RisingAlignment}
+use Rattle.planus.specs.declared.replaying.state.ReplayState.{ReplayState}
+use Rattle.planus.specs.declared.replaying.written.Written.{Written}
 use Rattle.planus.proofs.FieldFaults.{last_alignment, field_behind, no_more}
 use Rattle.planus.proofs.Filling.{size_around}
 use Rattle.planus.proofs.Found.{around}

@@ -7,7 +7,7 @@ use Rattle.planus.specs.Kinds.{Kind, a_value, a_union_vector}
 use Rattle.planus.specs.Slots.{slot_fault, rising_fault, alignment_of}
 use Rattle.planus.specs.TableChecks.{content_fault, field_fault, fields_fault}
 use Rattle.planus.specs.inner.Declaring.{slots_of}
-use Rattle.planus.specs.declared.faults.Why.{Why}
+use Rattle.planus.specs.declared.replaying.faults.Why.{Why}
 
 module _ (f g : Kind → ℕ → Option Why) (same : (kind : Kind) (n : ℕ) → f kind n ≡ g kind n) where
   same_content : (content : FieldStep) → content_fault f content ≡ content_fault g content

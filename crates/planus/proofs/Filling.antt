@@ -9,16 +9,16 @@ use Rattle.planus_write.specs.Parts.{Named}
 use Rattle.planus_write.specs.ObjectWriting.{ObjectBody, wrote}
 use Rattle.planus_write.proofs.WrittenBodies.{wrote_both}
 use Rattle.planus.specs.Steps.{FieldStep, content_of, bare_field}
-use Rattle.planus.specs.declared.steps.Field as code
+use Rattle.planus.specs.declared.replaying.steps.Field as code
 use Rattle.planus.specs.Slots.{slot_fault, rising_fault, place_fault, alignment_of, greatest_field}
 use Rattle.planus.specs.Runs.{Listed, named_at, field_of, with_field, fields_of}
 use Rattle.planus.specs.TableChecks.{content_fault, field_fault, fields_fault, table_fault}
 use Rattle.planus.specs.Kinds.{Kind, a_value, a_union_vector, kind_named, naming_fault}
 use Rattle.planus.specs.inner.Names.{name_of, listed_from, written_at, fault_since}
-use Rattle.planus.specs.declared.faults.Why.{Why}
+use Rattle.planus.specs.declared.replaying.faults.Why.{Why}
 use Rattle.planus.specs.inner.Prepared.{field_reach}
 use Rattle.planus.specs.inner.Filling.{listed_since, fields_or_none, fields_in, fields_reach}
-use Rattle.planus.specs.declared.table_body.TableBody.{TableBody}
+use Rattle.planus.specs.declared.replaying.table_body.TableBody.{TableBody}
 use Rattle.planus.proofs.FieldFaults.{none_of}
 use Rattle.planus.proofs.Found.{around}
 use Rattle.planus.proofs.NamedKinds.{GoodAreNamed}

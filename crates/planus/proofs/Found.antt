@@ -4,7 +4,7 @@ use Rattle.std.proofs.Common.{Option, Some, None, append_assoc}
 use Rattle.std.specs.Option.{option_or}
 use Rattle.std.proofs.lemmas.List.{take-append-drop}
 use Rattle.planus.specs.Replays.{first_fault}
-use Rattle.planus.specs.declared.faults.Why.{Why}
+use Rattle.planus.specs.declared.replaying.faults.Why.{Why}
 
 module _ {X : Type 0} (fault : X → Option Why) where
   none_first : (first rest : Option Why) → option_or first rest ≡ None → (first ≡ None) × (rest ≡ None)

@@ -20,7 +20,7 @@ use Rattle.planus.specs.ReadBack.{TableHolds}
 use Rattle.planus.specs.ReadKinds.{reads_text, reads_view}
 use Rattle.planus.specs.ReadVectors.{ItemsAreTables}
 use Rattle.planus.specs.Views.{reads_as, IsSameView}
-use Rattle.planus.specs.declared.tables.table_ref.TableRef.{TableRef}
+use Rattle.planus.specs.declared.tables.kind.table_ref.TableRef.{TableRef}
 use Rattle.planus.proofs.Accessors.{the_table}
 
 module _ {T R : Type 0} {kind : PlainGhosts R} where

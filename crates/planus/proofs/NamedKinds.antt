@@ -17,7 +17,7 @@ use Rattle.planus.specs.Runs.{Listed, named_at, value_distance, tags_distance, r
 use Rattle.planus.specs.Runs.{distance_at, value_at, union_of, all_of, width_of, fits_width}
 use Rattle.planus.specs.Runs.{numbers_value, fields_of, value_of}
 use Rattle.planus.specs.Runs.{struct_width, fits_alignment, struct_value}
-use Rattle.planus.specs.declared.faults.Why.{Why}
+use Rattle.planus.specs.declared.replaying.faults.Why.{Why}
 use Rattle.planus.proofs.Lists.{made_after, made_of}
 
 value_kind : (named : Named) (distance : ℕ) → value_distance named ≡ Some distance → kind_named named ≡ a_value

@@ -4,7 +4,7 @@ use Rattle.std.proofs.Common.{drop, refl, sym, ap, ◌∙◌, subst, arith, Opti
 use Rattle.std.proofs.Common.{true, false, inl, inr, length-append}
 use Rattle.std.specs.Prelude.{slice_get, nat_lt, if◌then◌else◌, ◌⊎◌, ◌||◌, ◌==◌}
 use Rattle.std.specs.Option.{option_or, option_map}
-use Rattle.planus.specs.declared.faults.Why.{Why}
+use Rattle.planus.specs.declared.replaying.faults.Why.{Why}
 use Rattle.std.specs.List.{list_any}
 use Rattle.std.proofs.lemmas.Bool.Decides.{nat_tests}
 use Rattle.std.proofs.lemmas.List.{map_push}
@@ -18,9 +18,9 @@ use Rattle.planus.specs.Replays.{broken_check}
 use Rattle.planus.specs.Slots.{greatest_field}
 use Rattle.planus.specs.inner.Replaying.{names, name_fault, Wrote}
 use Rattle.planus.specs.inner.Replaying.{AllWrote, HasTaken}
-use Rattle.planus.specs.declared.faults.Why.TheVariants.{ZeroTag}
-use Rattle.planus.specs.declared.replay_state.ReplayState.{ReplayState}
-use Rattle.planus.specs.declared.written.Written.{Written}
+use Rattle.planus.specs.declared.replaying.faults.Why.TheVariants.{ZeroTag}
+use Rattle.planus.specs.declared.replaying.state.ReplayState.{ReplayState}
+use Rattle.planus.specs.declared.replaying.written.Written.{Written}
 use Rattle.planus.proofs.FieldFaults.{same_fields}
 use Rattle.planus.proofs.Lists.{get_push, get_last, drop_push}
 

@@ -15,9 +15,9 @@ use Rattle.planus.specs.Runs.{nothing_written, value_of, values_added}
 use Rattle.planus.specs.Runs.{finishes_added}
 use Rattle.planus.specs.Replays.{first_bad, first_bad_after, first_bad_or, broken_check, Replays}
 use Rattle.planus.specs.Replays.{AnswersAreOne}
-use Rattle.planus.specs.declared.faults.ReplayError.{ReplayError}
-use Rattle.planus.specs.declared.faults.ReplayError.TheVariants.{OutOfMemory, TooLarge, BadStep}
-use Rattle.planus.specs.declared.faults.Why.{Why}
+use Rattle.planus.specs.declared.replaying.faults.ReplayError.{ReplayError}
+use Rattle.planus.specs.declared.replaying.faults.ReplayError.TheVariants.{OutOfMemory, TooLarge, BadStep}
+use Rattle.planus.specs.declared.replaying.faults.Why.{Why}
 
 written_of : (a b : Written) → a.bytes ≡ b.bytes → a.promises ≡ b.promises → a ≡ b
 written_of a b same_bytes promises = ap (λ xs. record { bytes = xs; promises = a.promises }) same_bytes ∙ ap (λ ps. record { bytes = b.bytes; promises = ps }) promises

@@ -28,7 +28,7 @@ use Rattle.planus.specs.ReadBack.{FieldsHold, is_other}
 use Rattle.planus.specs.ReadBack.{are_apart, content_at, TableStands, SlotHolds, TableHolds}
 use Rattle.planus.specs.ReadBack.{ReferencesReadBack, ContentsReadBack, AbsentFieldsReadBack}
 use Rattle.planus.specs.Views.{ShowsView}
-use Rattle.planus.specs.declared.tables.table_ref.TableRef.{TableRef}
+use Rattle.planus.specs.declared.tables.kind.table_ref.TableRef.{TableRef}
 
 all_stand : (history : History) (contents : List Value) (distances : List ℕ)
     → AllKept history contents distances → AllStand history.written.bytes contents distances

@@ -14,10 +14,10 @@ use Rattle.planus.specs.FinishHolds.{FinishHolds, AreFinishesOf, finishes_of}
 use Rattle.planus.specs.inner.Replaying.{state_with, names, HasTaken, Takes, Stopped}
 use Rattle.planus.specs.inner.Replaying.{AreReached}
 use Rattle.planus.specs.inner.Names.{IsReached}
-use Rattle.planus.specs.declared.steps.Step as code
-use Rattle.planus.specs.declared.replay_state.ReplayState.{ReplayState}
-use Rattle.planus.specs.declared.faults.ReplayError.{ReplayError}
-use Rattle.planus.specs.declared.faults.ReplayError.TheVariants.{OutOfMemory, TooLarge, BadStep}
+use Rattle.planus.specs.declared.replaying.steps.Step as code
+use Rattle.planus.specs.declared.replaying.state.ReplayState.{ReplayState}
+use Rattle.planus.specs.declared.replaying.faults.ReplayError.{ReplayError}
+use Rattle.planus.specs.declared.replaying.faults.ReplayError.TheVariants.{OutOfMemory, TooLarge, BadStep}
 use Rattle.planus.proofs.FinishNumbers.{each_holds}
 use Rattle.planus.proofs.Kept.{leads_on, run_kept, run_value}
 use Rattle.planus.proofs.Lists.{found_at}

@@ -11,7 +11,7 @@ use Rattle.planus.specs.ReadBack.{TableStands, TableHolds}
 use Rattle.planus.specs.ReadKinds.{reads_view}
 use Rattle.planus.specs.Roots.{IsRoot}
 use Rattle.planus.specs.Views.{reads_as, IsSameView}
-use Rattle.planus.specs.declared.tables.table_ref.TableRef.{TableRef}
+use Rattle.planus.specs.declared.tables.kind.table_ref.TableRef.{TableRef}
 use Rattle.planus.proofs.Accessors.{view_led}
 use Rattle.planus.proofs.FinishedTables.{finished_tables_stand}
 

@@ -44,15 +44,15 @@ use Rattle.planus.specs.Runs.{width_of, fits_width, numbers_value, value_at, uni
 use Rattle.planus.specs.Runs.{struct_width, struct_value, fits_alignment}
 use Rattle.planus.specs.Runs.{AsksForMemory, ComesToRefusedEntry, StepRefused}
 use Rattle.planus.specs.Runs.{Listed, Finish, StepTooLarge, Writes, value_of, values_added, finishes_added, entries_put, finish_of}
-use Rattle.planus.specs.declared.faults.ReplayError.{ReplayError}
-use Rattle.planus.specs.declared.faults.ReplayError.TheVariants.{OutOfMemory as ReplayOutOfMemory, TooLarge as ReplayTooLarge, BadStep}
+use Rattle.planus.specs.declared.replaying.faults.ReplayError.{ReplayError}
+use Rattle.planus.specs.declared.replaying.faults.ReplayError.TheVariants.{OutOfMemory as ReplayOutOfMemory, TooLarge as ReplayTooLarge, BadStep}
 use Rattle.planus.specs.Replays.{finish_given, place_of, replay_error}
 use Rattle.planus.specs.inner.Names.{offset_named, vector_named, written_named, name_of, listed_from, IsReached}
 use Rattle.planus.specs.inner.Replaying.{names, values_listed, state_with, Advanced, Stopped, Noted}
 use Rattle.planus.specs.inner.Replaying.{WritesValue, AreReached}
-use Rattle.planus.specs.declared.finishes.Finished.{Finished}
-use Rattle.planus.specs.declared.replay_state.ReplayState.{ReplayState}
-use Rattle.planus.specs.declared.written.Written.{Written}
+use Rattle.planus.specs.declared.replaying.finishes.Finished.{Finished}
+use Rattle.planus.specs.declared.replaying.state.ReplayState.{ReplayState}
+use Rattle.planus.specs.declared.replaying.written.Written.{Written}
 use Rattle.planus.proofs.Lists.{listed_push_some, listed_push_none, all_unmapped}
 use Rattle.planus.proofs.Declaring.{values_reached}
 use Rattle.planus.proofs.WrittenValues.{value_behind, references_behind, unions_behind}

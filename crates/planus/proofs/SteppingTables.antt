@@ -26,10 +26,10 @@ use Rattle.planus.specs.inner.Prepared.{field_reach}
 use Rattle.planus.specs.inner.Filling.{fields_or_none, fields_reach}
 use Rattle.planus.specs.inner.Names.{offset_named, name_of, listed_from, IsReached}
 use Rattle.planus.specs.inner.Replaying.{AreReached}
-use Rattle.planus.specs.declared.faults.ReplayError.{ReplayError}
-use Rattle.planus.specs.declared.faults.ReplayError.TheVariants.{OutOfMemory as ReplayOutOfMemory, TooLarge as ReplayTooLarge, BadStep}
-use Rattle.planus.specs.declared.replay_state.ReplayState.{ReplayState}
-use Rattle.planus.specs.declared.written.Written.{Written}
+use Rattle.planus.specs.declared.replaying.faults.ReplayError.{ReplayError}
+use Rattle.planus.specs.declared.replaying.faults.ReplayError.TheVariants.{OutOfMemory as ReplayOutOfMemory, TooLarge as ReplayTooLarge, BadStep}
+use Rattle.planus.specs.declared.replaying.state.ReplayState.{ReplayState}
+use Rattle.planus.specs.declared.replaying.written.Written.{Written}
 use Rattle.planus.specs.inner.Replaying.{values_listed, Advanced, WritesValue}
 use Rattle.planus.proofs.Naming.{took_one}
 use Rattle.planus.proofs.Stepping.{runs_on, settings_stay, stops, lacks}

@@ -15,8 +15,8 @@ use Rattle.planus.specs.Runs.{value_at, field_width, fits_width, plain_field}
 use Rattle.planus.specs.Runs.{field_of, with_field, fields_of}
 use Rattle.planus.specs.TableChecks.{number_fault, content_fault, field_fault, fields_fault}
 use Rattle.planus.specs.inner.Declaring.{slots_of}
-use Rattle.planus.specs.declared.faults.Why.{Why}
-use Rattle.planus.specs.declared.faults.Why.TheVariants.{ValueTooBig}
+use Rattle.planus.specs.declared.replaying.faults.Why.{Why}
+use Rattle.planus.specs.declared.replaying.faults.Why.TheVariants.{ValueTooBig}
 use Rattle.planus.proofs.FieldFaults.{none_of, last_alignment}
 use Rattle.planus.proofs.NamedKinds.{NamedAreGood, value_good, tags_good, references_good}
 use Rattle.planus.proofs.NamedKinds.{GoodAreNamed, good_value, good_tags, good_references}

@@ -25,12 +25,12 @@ use Rattle.std.specs.Int.{Width, byte_len, to_le_bytes}
 use Rattle.std.specs.Prelude.{Bool, true, false, if◌then◌else◌}
 use Rattle.planus.specs.Replays.{first_bad, first_bad_after, first_bad_or, broken_check, fault_of}
 use Rattle.planus.specs.Replays.{named_step, numbers_fault, struct_fault, first_fault, union_fault, Replays}
-use Rattle.planus.specs.declared.faults.Why.TheVariants.{ValueTooBig, WrongSize, ZeroTag}
-use Rattle.planus.specs.declared.faults.ReplayError.TheVariants.{TooLarge, BadStep}
-use Rattle.planus.specs.declared.faults.Why.{Why}
-use Rattle.planus.specs.declared.steps.Step as code
-use Rattle.planus.specs.declared.steps.Step.TheVariants.{Text, Bytes, Numbers, Refs, Unions}
-use Rattle.planus.specs.declared.steps.Step.TheVariants.{Struct, Table, Finish, FinishSized, Clear}
+use Rattle.planus.specs.declared.replaying.faults.Why.TheVariants.{ValueTooBig, WrongSize, ZeroTag}
+use Rattle.planus.specs.declared.replaying.faults.ReplayError.TheVariants.{TooLarge, BadStep}
+use Rattle.planus.specs.declared.replaying.faults.Why.{Why}
+use Rattle.planus.specs.declared.replaying.steps.Step as code
+use Rattle.planus.specs.declared.replaying.steps.Step.TheVariants.{Text, Bytes, Numbers, Refs, Unions}
+use Rattle.planus.specs.declared.replaying.steps.Step.TheVariants.{Struct, Table, Finish, FinishSized, Clear}
 use Rattle.planus.proofs.Kept.{AllUtf8, run_value}
 use Rattle.planus.proofs.Lists.{get_last, made_of, all_made, union_made}
 use Rattle.planus.proofs.NamedKinds.{NamedAreGood, value_good}

@@ -19,7 +19,7 @@ use Rattle.planus.specs.Slots.{greatest_field}
 use Rattle.planus.specs.inner.Names.{IsReached}
 use Rattle.planus.specs.Runs.{Listed, tags_distance, references_distance, distance_at, value_at}
 use Rattle.planus.specs.Runs.{width_of, field_width, fits_width, plain_field, field_of, fields_of}
-use Rattle.planus.specs.declared.faults.Why.TheVariants.{SlotTooBig, SlotTwice, RisingAlignment}
+use Rattle.planus.specs.declared.replaying.faults.Why.TheVariants.{SlotTooBig, SlotTwice, RisingAlignment}
 use Rattle.planus.proofs.FieldFaults.{none_of}
 use Rattle.planus.proofs.NamedKinds.{tags_reached, references_reached}
 use Rattle.planus.proofs.Lists.{made_of}

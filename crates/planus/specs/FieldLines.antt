@@ -32,7 +32,7 @@ use Rattle.planus.specs.ReadBack.{TableStands, TableHolds, are_apart}
 use Rattle.planus.specs.ReadPlain.{IsPlainField, IsPlainFieldOr}
 use Rattle.planus.specs.UnionAccessors.{IsUnionField, IsUnionRequired, IsUnionVector}
 use Rattle.planus.specs.UnionAccessors.{IsUnionVectorRequired, AreAnyUnions, AreUnionsOf}
-use Rattle.planus.specs.declared.tables.table_ref.TableRef.{TableRef}
+use Rattle.planus.specs.declared.tables.kind.table_ref.TableRef.{TableRef}
 use Rattle.planus.specs.Unions.{UnionVariant, ReadsVariants, UnionStands, IsUnion}
 
 -- the items of vectors, by their shape

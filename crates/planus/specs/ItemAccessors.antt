@@ -18,7 +18,7 @@ use Rattle.planus.specs.Accessors.{TableIsThere, IsViewOf}
 use Rattle.planus.specs.ReadKinds.{reads_text, reads_view}
 use Rattle.planus.specs.ReadVectors.{ItemsAreTexts, ItemsAreTables}
 use Rattle.planus.specs.Views.{gives_as, reads_as}
-use Rattle.planus.specs.declared.tables.table_ref.TableRef.{TableRef}
+use Rattle.planus.specs.declared.tables.kind.table_ref.TableRef.{TableRef}
 
 module _ {T R A : Type 0} {kind : PlainGhosts R} (reads : Reads A) (name : List ℕ) where
   -- the result of an item's read, its error at the start of the items

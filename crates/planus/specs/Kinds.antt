@@ -2,8 +2,8 @@
 use Rattle.std.specs.Prelude.{ℕ, Option, Some, None}
 use Rattle.planus_write.specs.Parts.{Named}
 use Rattle.planus.specs.Steps.{Step, unions, finish, clear}
-use Rattle.planus.specs.declared.faults.Why.{Why}
-use Rattle.planus.specs.declared.faults.Why.TheVariants.{NoSuchStep, WrongKind}
+use Rattle.planus.specs.declared.replaying.faults.Why.{Why}
+use Rattle.planus.specs.declared.replaying.faults.Why.TheVariants.{NoSuchStep, WrongKind}
 
 -- a union vector has two distances, of its tags and of its references
 pub data Kind : Type 0 where

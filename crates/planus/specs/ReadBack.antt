@@ -26,7 +26,7 @@ use Rattle.planus.specs.Contents.{there_of}
 use Rattle.planus_write.specs.Contents.{Unions, no_unions, union_and}
 use Rattle.planus.specs.Contents.{TableIsKept}
 use Rattle.planus.specs.Views.{ShowsView}
-use Rattle.planus.specs.declared.tables.table_ref.TableRef.{TableRef}
+use Rattle.planus.specs.declared.tables.kind.table_ref.TableRef.{TableRef}
 
 abbrev pub AllStand : List ℕ → List Value → List ℕ → Type 0
 AllStand B [] [] = ⊤

@@ -10,7 +10,7 @@ use Rattle.planus_read.specs.Values.{text, byte_list}
 use Rattle.planus_write.specs.Contents.{value}
 use Rattle.planus.specs.ReadBack.{ContentsReadBack}
 use Rattle.planus.specs.Views.{ShowsView}
-use Rattle.planus.specs.declared.tables.table_ref.TableRef.{TableRef}
+use Rattle.planus.specs.declared.tables.kind.table_ref.TableRef.{TableRef}
 
 abbrev pub reads_text : Reads (Bor (List ℕ))
 reads_text S start f r = Answer (shown ShowsBytes (text_reading S f)) r

@@ -19,7 +19,7 @@ use Rattle.planus_view.specs.declared.vector_of.VectorOf.{VectorOf}
 use Rattle.planus_write.specs.Contents.{Content, value, values}
 use Rattle.planus.specs.ReadBack.{AllStand, ContentsReadBack, TableStands, TableHolds}
 use Rattle.planus.specs.Views.{ShowsView}
-use Rattle.planus.specs.declared.tables.table_ref.TableRef.{TableRef}
+use Rattle.planus.specs.declared.tables.kind.table_ref.TableRef.{TableRef}
 
 abbrev pub item_offset : {R : Type 0} → PlainGhosts R → ℕ → ℕ
 item_offset kind i = i * kind.SIZE

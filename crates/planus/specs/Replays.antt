@@ -15,15 +15,15 @@ use Rattle.planus.specs.Runs.{Finish, Listed, State, nothing_written, LeadsTo, R
 use Rattle.planus.specs.Runs.{ComesToTooLarge, width_of, fits_width}
 use Rattle.planus.specs.Runs.{struct_width, fits_alignment}
 use Rattle.planus.specs.TableChecks.{table_fault}
-use Rattle.planus.specs.declared.faults.Why.{Why}
-use Rattle.planus.specs.declared.faults.Why.TheVariants.{WidthUnknown, ValueTooBig}
-use Rattle.planus.specs.declared.faults.Why.TheVariants.{ZeroTag, AlignmentUnknown, WrongSize}
-use Rattle.planus.specs.declared.faults.ReplayError.{ReplayError}
-use Rattle.planus.specs.declared.faults.ReplayError.TheVariants.{OutOfMemory, TooLarge, BadStep}
-use Rattle.planus.specs.declared.finishes.Finished.{Finished}
+use Rattle.planus.specs.declared.replaying.faults.Why.{Why}
+use Rattle.planus.specs.declared.replaying.faults.Why.TheVariants.{WidthUnknown, ValueTooBig}
+use Rattle.planus.specs.declared.replaying.faults.Why.TheVariants.{ZeroTag, AlignmentUnknown, WrongSize}
+use Rattle.planus.specs.declared.replaying.faults.ReplayError.{ReplayError}
+use Rattle.planus.specs.declared.replaying.faults.ReplayError.TheVariants.{OutOfMemory, TooLarge, BadStep}
+use Rattle.planus.specs.declared.replaying.finishes.Finished.{Finished}
 use Rattle.planus_write.specs.declared.errors.BuildError.{BuildError}
 use Rattle.planus_write.specs.declared.errors.BuildError.TheVariants as build
-use Rattle.planus.specs.declared.finishes.StepPlace.{StepPlace}
+use Rattle.planus.specs.declared.replaying.finishes.StepPlace.{StepPlace}
 
 abbrev pub is_clear : Step → Bool
 is_clear clear = true

@@ -20,7 +20,7 @@ use Rattle.planus.specs.Steps.{Step, text, bytes, numbers, refs, unions, struct,
 use Rattle.planus.specs.Steps.{clear, FieldStep, number_field, ref_field, tags_field, values_field}
 use Rattle.planus.specs.Steps.{Front, root_first, size_first}
 use Rattle.planus.specs.Slots.{place_fault, alignment_of, greatest_field}
-use Rattle.planus.specs.declared.faults.Why.{Why}
+use Rattle.planus.specs.declared.replaying.faults.Why.{Why}
 
 -- a value's step and its distances
 pub record Listed : Type 0 where

@@ -1,12 +1,12 @@
 -- Steps of a run, without locations in memory.
 use Rattle.std.specs.Prelude.{ℕ, Bool, true, false, List, Option, map}
 use Rattle.std.specs.String.{string_bytes}
-use Rattle.planus.specs.declared.steps.Step as code
-use Rattle.planus.specs.declared.steps.Step.TheVariants.{Text, Bytes, Numbers, Refs, Unions}
-use Rattle.planus.specs.declared.steps.Step.TheVariants.{Struct, Table, Finish, FinishSized, Clear}
-use Rattle.planus.specs.declared.steps.Field.{Field}
-use Rattle.planus.specs.declared.steps.FieldValue.{FieldValue}
-use Rattle.planus.specs.declared.steps.FieldValue.TheVariants.{Number, Ref, Tags, Values}
+use Rattle.planus.specs.declared.replaying.steps.Step as code
+use Rattle.planus.specs.declared.replaying.steps.Step.TheVariants.{Text, Bytes, Numbers, Refs, Unions}
+use Rattle.planus.specs.declared.replaying.steps.Step.TheVariants.{Struct, Table, Finish, FinishSized, Clear}
+use Rattle.planus.specs.declared.replaying.steps.Field.{Field}
+use Rattle.planus.specs.declared.replaying.steps.FieldValue.{FieldValue}
+use Rattle.planus.specs.declared.replaying.steps.FieldValue.TheVariants.{Number, Ref, Tags, Values}
 
 -- a number with its width in bytes, or a reference to a step's value, tags or references
 pub data FieldStep : Type 0 where

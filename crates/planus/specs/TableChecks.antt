@@ -6,8 +6,8 @@ use Rattle.planus.specs.Steps.{FieldStep, number_field, ref_field, tags_field, v
 use Rattle.planus.specs.Slots.{slot_fault, rising_fault, alignment_of, greatest_field}
 use Rattle.planus.specs.Kinds.{Kind, a_value, a_union_vector}
 use Rattle.planus.specs.Runs.{field_width, fits_width}
-use Rattle.planus.specs.declared.faults.Why.{Why}
-use Rattle.planus.specs.declared.faults.Why.TheVariants.{WidthUnknown, ValueTooBig}
+use Rattle.planus.specs.declared.replaying.faults.Why.{Why}
+use Rattle.planus.specs.declared.replaying.faults.Why.TheVariants.{WidthUnknown, ValueTooBig}
 
 abbrev pub number_fault : Option Width → ℕ → Option Why
 number_fault None number = Some WidthUnknown

@@ -1,13 +1,13 @@
 -- The messages of a replay's errors.
 use Rattle.std.specs.Prelude.{ℕ, List, codes, ◌++◌}
 use Rattle.std.specs.Fmt.{decimal}
-use Rattle.planus.specs.declared.faults.ReplayError.{ReplayError}
-use Rattle.planus.specs.declared.faults.ReplayError.TheVariants.{OutOfMemory, TooLarge, BadStep}
-use Rattle.planus.specs.declared.faults.Why.{Why}
-use Rattle.planus.specs.declared.faults.Why.TheVariants.{WidthUnknown, ValueTooBig}
-use Rattle.planus.specs.declared.faults.Why.TheVariants.{AlignmentUnknown, WrongSize}
-use Rattle.planus.specs.declared.faults.Why.TheVariants.{NoSuchStep, WrongKind, ZeroTag}
-use Rattle.planus.specs.declared.faults.Why.TheVariants.{SlotTooBig, SlotTwice, RisingAlignment}
+use Rattle.planus.specs.declared.replaying.faults.ReplayError.{ReplayError}
+use Rattle.planus.specs.declared.replaying.faults.ReplayError.TheVariants.{OutOfMemory, TooLarge, BadStep}
+use Rattle.planus.specs.declared.replaying.faults.Why.{Why}
+use Rattle.planus.specs.declared.replaying.faults.Why.TheVariants.{WidthUnknown, ValueTooBig}
+use Rattle.planus.specs.declared.replaying.faults.Why.TheVariants.{AlignmentUnknown, WrongSize}
+use Rattle.planus.specs.declared.replaying.faults.Why.TheVariants.{NoSuchStep, WrongKind, ZeroTag}
+use Rattle.planus.specs.declared.replaying.faults.Why.TheVariants.{SlotTooBig, SlotTwice, RisingAlignment}
 
 -- a step's error
 abbrev pub why_text : Why → List ℕ

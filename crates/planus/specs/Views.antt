@@ -7,7 +7,7 @@ use Rattle.planus_read.specs.Items.{item_method}
 use Rattle.planus_read.specs.Located.{Located}
 use Rattle.planus_read.specs.Reading.{TableLayout, table_reading}
 use Rattle.planus_read.specs.Tables.{Reads, ShowsTable}
-use Rattle.planus.specs.declared.tables.table_ref.TableRef.{TableRef}
+use Rattle.planus.specs.declared.tables.kind.table_ref.TableRef.{TableRef}
 
 -- the view of the table of this layout in the slice S
 abbrev pub ShowsView : {K : Type 0} → List ℕ → ℕ → TableLayout → TableRef K → Type 0

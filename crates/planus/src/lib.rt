@@ -4,28 +4,14 @@
 #![tactic(auto)]
 
 mod exact;
-mod faults;
-mod finishes;
 pub mod laws;
-mod named_steps;
 mod plain_bodies;
-mod prepared_field;
 mod printed;
-mod replay_state;
-mod run;
-mod slots;
-mod steps;
-mod struct_bytes;
-mod table_body;
+mod replaying;
 mod tables;
 mod version;
-mod written;
 
 pub use exact::Exact;
-pub use faults::ReplayError;
-pub use faults::Why;
-pub use finishes::Finished;
-pub use finishes::StepPlace;
 pub use planus_back::Fill;
 pub use planus_back::Overwrite;
 pub use planus_fields::DefaultValue;
@@ -102,10 +88,14 @@ pub use printed::Built;
 pub use printed::Create;
 pub use printed::finish_and_read;
 pub use printed::read_sized_root;
-pub use run::replay;
-pub use steps::Field;
-pub use steps::FieldValue;
-pub use steps::Step;
+pub use replaying::Field;
+pub use replaying::FieldValue;
+pub use replaying::Finished;
+pub use replaying::ReplayError;
+pub use replaying::Step;
+pub use replaying::StepPlace;
+pub use replaying::Why;
+pub use replaying::replay;
 pub use tables::FieldAt;
 pub use tables::FieldGroup;
 pub use tables::Fields;

@@ -3,7 +3,7 @@ use Rattle.std.proofs.Common.{◌≡◌, ℕ, List, ◌∷◌, false, refl, sym,
 use Rattle.std.specs.Str.{IsUtf8}
 use Rattle.std.proofs.lemmas.Str.{is_utf8-from_IsUtf8}
 use Rattle.planus.specs.Steps.{Step}
-use Rattle.planus.specs.declared.steps.Step as code
+use Rattle.planus.specs.declared.replaying.steps.Step as code
 use Rattle.planus_script.specs.Script.{command_of, command_of_words, is_skipped}
 use Rattle.planus_script.specs.Words.{words_of}
 use Rattle.planus_script.specs.Asking.{AsksForWords, AsksForLine, AsksForLines}

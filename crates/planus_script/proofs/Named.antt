@@ -11,11 +11,11 @@ use Rattle.planus.specs.Replays.{first_bad_after, first_bad_or, broken_check, Re
 use Rattle.planus_script.specs.inner.Outputs.{NamesStep}
 use Rattle.planus_script.specs.declared.script.ReadFault.{ReadFault}
 use Rattle.planus_script.specs.declared.script.Script.{Script}
-use Rattle.planus.specs.declared.steps.Step as code
-use Rattle.planus.specs.declared.faults.Why.{Why}
-use Rattle.planus.specs.declared.finishes.Finished.{Finished}
-use Rattle.planus.specs.declared.faults.ReplayError.{ReplayError}
-use Rattle.planus.specs.declared.faults.ReplayError.TheVariants.{OutOfMemory, TooLarge, BadStep}
+use Rattle.planus.specs.declared.replaying.steps.Step as code
+use Rattle.planus.specs.declared.replaying.faults.Why.{Why}
+use Rattle.planus.specs.declared.replaying.finishes.Finished.{Finished}
+use Rattle.planus.specs.declared.replaying.faults.ReplayError.{ReplayError}
+use Rattle.planus.specs.declared.replaying.faults.ReplayError.TheVariants.{OutOfMemory, TooLarge, BadStep}
 
 abbrev pub AsMany : Result Read (ℕ × ReadFault) → Type 0
 AsMany (Ok read) = length read.numbers ≡ length read.commands

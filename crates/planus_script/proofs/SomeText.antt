@@ -7,8 +7,8 @@ use Rattle.planus_write.specs.Shared.{all_on}
 use Rattle.planus.specs.Runs.{Finish}
 use Rattle.planus.specs.Replays.{Replays, IsOutOfMemory}
 use Rattle.planus.specs.Texts.{why_text}
-use Rattle.planus.specs.declared.faults.ReplayError.{ReplayError}
-use Rattle.planus.specs.declared.faults.ReplayError.TheVariants.{OutOfMemory, TooLarge, BadStep}
+use Rattle.planus.specs.declared.replaying.faults.ReplayError.{ReplayError}
+use Rattle.planus.specs.declared.replaying.faults.ReplayError.TheVariants.{OutOfMemory, TooLarge, BadStep}
 use Rattle.planus.proofs.Answering.{an_answer_is_there}
 use Rattle.planus_script.specs.Script.{Read, script_of, lines_of}
 use Rattle.planus_script.specs.Printed.{PrintsRead, PrintsAnswer, ATextIsPrinted, greatest_script, line_of, fault_line, hex_line}

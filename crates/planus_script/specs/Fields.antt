@@ -2,9 +2,9 @@
 use Rattle.std.specs.Prelude.{ℕ, min, List, Option, Some, None, Result, Ok, Err, if◌then◌else◌}
 use Rattle.std.specs.Prelude.{codes}
 use Rattle.std.specs.Str.{bytes_eq}
-use Rattle.planus.specs.declared.steps.Field.{Field}
-use Rattle.planus.specs.declared.steps.FieldValue.{FieldValue}
-use Rattle.planus.specs.declared.steps.FieldValue.TheVariants as held
+use Rattle.planus.specs.declared.replaying.steps.Field.{Field}
+use Rattle.planus.specs.declared.replaying.steps.FieldValue.{FieldValue}
+use Rattle.planus.specs.declared.replaying.steps.FieldValue.TheVariants as held
 use Rattle.planus_script.specs.Words.{cut_at, number_of, items_of}
 use Rattle.planus_script.specs.declared.fields.FieldKind.{FieldKind}
 use Rattle.planus_script.specs.declared.fields.FieldKind.TheVariants.{Number, Ref, Tags, Values}

@@ -12,8 +12,8 @@ use Rattle.planus.specs.Replays.{Replays}
 use Rattle.planus.specs.Texts.{why_text}
 use Rattle.planus_script.specs.Texts.{read_fault_text}
 use Rattle.planus_script.specs.declared.script.ReadFault.{ReadFault}
-use Rattle.planus.specs.declared.faults.ReplayError.{ReplayError}
-use Rattle.planus.specs.declared.faults.ReplayError.TheVariants.{OutOfMemory, TooLarge, BadStep}
+use Rattle.planus.specs.declared.replaying.faults.ReplayError.{ReplayError}
+use Rattle.planus.specs.declared.replaying.faults.ReplayError.TheVariants.{OutOfMemory, TooLarge, BadStep}
 
 -- in bytes
 abbrev pub greatest_script : ℕ

@@ -9,7 +9,7 @@ use Rattle.std.specs.Str.{is_utf8, bytes_eq}
 use Rattle.planus.specs.Steps.{Step, text, bytes, numbers, refs, unions, struct, table, finish}
 use Rattle.planus.specs.Steps.{clear}
 use Rattle.planus.specs.Steps.{Front, front_of, bare_field}
-use Rattle.planus.specs.declared.steps.Field.{Field}
+use Rattle.planus.specs.declared.replaying.steps.Field.{Field}
 use Rattle.planus_script.specs.Words.{words_of, number_of, numbers_of}
 use Rattle.planus_script.specs.Fields.{fields_of}
 use Rattle.planus_script.specs.Unions.{unions_of}

@@ -8,8 +8,8 @@ use Rattle.planus.specs.Slots.{slot_fault, greatest_field}
 use Rattle.planus.specs.Runs.{fields_of}
 use Rattle.planus.specs.TableChecks.{table_fault}
 use Rattle.planus.specs.inner.Replaying.{values_listed, name_fault}
-use Rattle.planus.specs.declared.faults.Why.{Why}
-use Rattle.planus.specs.declared.replay_state.ReplayState.{ReplayState}
+use Rattle.planus.specs.declared.replaying.faults.Why.{Why}
+use Rattle.planus.specs.declared.replaying.state.ReplayState.{ReplayState}
 
 abbrev pub slots_of : List (ℕ × FieldStep) → List ℕ
 slots_of fields = map (λ entry. entry.0) fields

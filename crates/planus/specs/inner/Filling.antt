@@ -6,7 +6,7 @@ use Rattle.planus.specs.Slots.{greatest_field}
 use Rattle.planus.specs.Runs.{Listed, fields_of}
 use Rattle.planus.specs.inner.Names.{name_of, listed_from}
 use Rattle.planus.specs.inner.Prepared.{field_reach}
-use Rattle.planus.specs.declared.table_body.TableBody.{TableBody}
+use Rattle.planus.specs.declared.replaying.table_body.TableBody.{TableBody}
 
 abbrev pub fields_reach : List (ℕ × Field) → ℕ
 fields_reach [] = 0

@@ -8,9 +8,9 @@ use Rattle.planus_write.specs.declared.offset.Offset.{Offset}
 use Rattle.planus_write.specs.declared.union_vector_offset.UnionVectorOffset.{UnionVectorOffset}
 use Rattle.planus.specs.Kinds.{Kind, kind_named, naming_fault}
 use Rattle.planus.specs.Runs.{Listed, named_at}
-use Rattle.planus.specs.declared.faults.Why.{Why}
-use Rattle.planus.specs.declared.written.Written.{Written}
-use Rattle.planus.specs.declared.written.Written.TheVariants.{Value, Unions}
+use Rattle.planus.specs.declared.replaying.faults.Why.{Why}
+use Rattle.planus.specs.declared.replaying.written.Written.{Written}
+use Rattle.planus.specs.declared.replaying.written.Written.TheVariants.{Value, Unions}
 
 abbrev pub offset_named : {T : Type 0} → Offset T → Named
 offset_named offset = record { distance = offset.distance; tags = None }

@@ -11,10 +11,10 @@ use Rattle.planus.specs.Kinds.{a_value}
 use Rattle.planus.specs.Replays.{union_fault}
 use Rattle.planus.specs.TableChecks.{number_fault, content_fault}
 use Rattle.planus.specs.inner.Names.{Finds, fault_since, listed_from}
-use Rattle.planus.specs.declared.faults.Why.{Why}
-use Rattle.planus.specs.declared.prepared_field.PreparedField.{PreparedField}
-use Rattle.planus.specs.declared.prepared_field.PreparedField.TheVariants.{U8, U16, U32, U64}
-use Rattle.planus.specs.declared.prepared_field.PreparedField.TheVariants.{Reference, Tags, Values}
+use Rattle.planus.specs.declared.replaying.faults.Why.{Why}
+use Rattle.planus.specs.declared.replaying.prepared_field.PreparedField.{PreparedField}
+use Rattle.planus.specs.declared.replaying.prepared_field.PreparedField.TheVariants.{U8, U16, U32, U64}
+use Rattle.planus.specs.declared.replaying.prepared_field.PreparedField.TheVariants.{Reference, Tags, Values}
 
 abbrev pub field_is : PreparedField → Field
 field_is (U8 number) = plain (record { bytes = to_le_bytes w8 number; alignment = 1 })

@@ -21,11 +21,11 @@ use Rattle.planus.specs.Runs.{value_at, union_of, struct_width}
 use Rattle.planus.specs.Runs.{all_of}
 use Rattle.planus.specs.Replays.{finish_given, check_by, first_fault, union_fault, is_clear}
 use Rattle.planus.specs.inner.Names.{written_named, name_of, listed_from, fault_since, IsReached}
-use Rattle.planus.specs.declared.faults.Why.{Why}
-use Rattle.planus.specs.declared.faults.ReplayError.{ReplayError}
-use Rattle.planus.specs.declared.faults.ReplayError.TheVariants.{OutOfMemory, TooLarge, BadStep}
-use Rattle.planus.specs.declared.replay_state.ReplayState.{ReplayState}
-use Rattle.planus.specs.declared.written.Written.{Written}
+use Rattle.planus.specs.declared.replaying.faults.Why.{Why}
+use Rattle.planus.specs.declared.replaying.faults.ReplayError.{ReplayError}
+use Rattle.planus.specs.declared.replaying.faults.ReplayError.TheVariants.{OutOfMemory, TooLarge, BadStep}
+use Rattle.planus.specs.declared.replaying.state.ReplayState.{ReplayState}
+use Rattle.planus.specs.declared.replaying.written.Written.{Written}
 
 -- the name of what each step since the last clear wrote, if anything
 abbrev pub names : ReplayState → List (Option Named)

@@ -5,9 +5,9 @@ use Rattle.std.specs.String.{string_bytes}
 use Rattle.planus.specs.Runs.{Finish}
 use Rattle.planus_script.specs.Printed.{PrintsAnswer, PrintsOutOfMemory}
 use Rattle.planus_script.specs.declared.output.Output.{Output}
-use Rattle.planus.specs.declared.finishes.Finished.{Finished}
-use Rattle.planus.specs.declared.faults.ReplayError.{ReplayError}
-use Rattle.planus.specs.declared.faults.ReplayError.TheVariants.{OutOfMemory, TooLarge, BadStep}
+use Rattle.planus.specs.declared.replaying.finishes.Finished.{Finished}
+use Rattle.planus.specs.declared.replaying.faults.ReplayError.{ReplayError}
+use Rattle.planus.specs.declared.replaying.faults.ReplayError.TheVariants.{OutOfMemory, TooLarge, BadStep}
 
 abbrev pub is_clean : Output → Bool
 is_clean output = output.clean

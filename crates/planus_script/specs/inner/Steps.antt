@@ -4,7 +4,7 @@ use Rattle.std.specs.declared.alloc.Global.{Global}
 use Rattle.planus_script.specs.declared.script.ReadFault.TheVariants.{BadHex}
 use Rattle.planus.specs.Steps.{Step, bare_step}
 use Rattle.planus_script.specs.Script.{Read}
-use Rattle.planus.specs.declared.steps.Step as code
+use Rattle.planus.specs.declared.replaying.steps.Step as code
 use Rattle.planus_script.specs.declared.script.ReadFault.{ReadFault}
 use Rattle.planus_script.specs.declared.script.LineError.{LineError}
 use Rattle.planus_script.specs.declared.script.LineError.TheVariants as line

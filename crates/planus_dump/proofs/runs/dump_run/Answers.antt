@@ -7,7 +7,7 @@ use Rattle.planus.specs.Steps.{Step, bare_step, Front, root_first}
 use Rattle.planus.specs.Runs.{Finish}
 use Rattle.planus.specs.Replays.{Replays, finish_given}
 use Rattle.planus.specs.FinishHolds.{FinishHolds, AreFinishesOf, finishes_of, root_at}
-use Rattle.planus.specs.declared.finishes.Finished.{Finished}
+use Rattle.planus.specs.declared.replaying.finishes.Finished.{Finished}
 use Rattle.planus_dump.specs.Dumped.{Dumped}
 use Rattle.planus_dump.specs.Laws.{slice_of}
 use Rattle.planus_dump.specs.Runs.{DumpsFirst, DumpsFit}

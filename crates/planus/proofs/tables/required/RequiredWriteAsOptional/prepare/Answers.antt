@@ -1,4 +1,0 @@
-use Rattle.planus.proofs.tables.required.RequiredWriteAsOptional.prepare.Goals as goal
-
-pub returns : goal.returns
-returns g c = (λ none. none, c.in_ok-prepare.ensures)

@@ -1,9 +1,0 @@
-use Rattle.planus.specs.Accessors.{bytes_kind}
-use Rattle.planus.proofs.Accessors.{required_read}
-use Rattle.planus.proofs.ReadKinds.{byte_lists_read_back}
-use Rattle.planus.proofs.tables.text_fields.bytes_required.Goals as goal
-
-pub returns : goal.returns
-returns c =
-    required_read bytes_kind byte_lists_read_back c.args.table.now c.args.slot c.args.type_.now c.args.method.now
-    c.access_required.result c.access_required.ensures
