@@ -1,4 +1,3 @@
-pub mod PlainBodies
 pub mod Declaring
 pub mod Filling
 pub mod Names

@@ -8,7 +8,7 @@ ghost use Rattle.planus_write.specs.Unions.{WritesUnionVector, union_reach};
 ghost use Rattle.std.specs.List.{AllByRecursion};
 ghost use Rattle.std.specs.Prelude.{◌≤◌};
 ghost use Rattle.planus.specs.Steps.{bare_step, bare_field, front_of};
-ghost use Rattle.planus.specs.Runs.{nothing_written};
+ghost use Rattle.planus.specs.Runs as spec;
 ghost use Rattle.planus.specs.Replays.{place_of};
 ghost use Rattle.planus.specs.Kinds.{a_value};
 ghost use Rattle.planus.specs.inner.Names.{name_of, offset_named, vector_named, listed_from};
@@ -23,7 +23,6 @@ ghost use Rattle.planus.specs.declared.replaying.faults.ReplayError.TheVariants.
 ghost use Rattle.std.specs.Int.{Width, w16, w32, w64};
 ghost use Rattle.std.specs.List.{list_all};
 ghost use Rattle.std.specs.Prelude.{ℕ, true};
-ghost use Rattle.planus.specs.Runs.{fits_width, fits_alignment as fits_alignment_lem};
 ghost use Rattle.planus.specs.Steps as step;
 
 use crate::replaying::faults::{ReplayError, Why};
@@ -132,7 +131,7 @@ fn known_alignment(alignment: u8) -> Option<usize>
 
 fn fits_alignment(alignment: usize, bytes: &[u8]) -> bool
     requires { 0 < alignment }
-    ensures { result ≡ fits_alignment_lem alignment bytes.now }
+    ensures { result ≡ spec.fits_alignment alignment bytes.now }
 {
     !bytes.is_empty() && bytes.len() % alignment == 0
 }
@@ -141,7 +140,8 @@ impl ReplayState {
     pub(crate) fn new(alloc: Global, caches: Caches) -> Result<ReplayState, ReplayError>
         ensures history { IfOk result (λ replay. IsHistoryOf replay.builder no_history) }
         ensures settings { IfOk result (λ replay. replay.builder.settings ≡ settings_of caches) }
-        ensures nothing { IfOk result (λ replay. state_with replay no_history ≡ nothing_written) }
+        ensures nothing { IfOk result (λ replay. state_with replay no_history
+            ≡ spec.nothing_written) }
         ensures taken { IfOk result (λ replay. HasTaken replay []) }
         ensures error { IfErr result (λ error. error ≡ ReplayError.OutOfMemory) }
     {
@@ -243,7 +243,7 @@ impl ReplayState {
     }
 
     fn u64s(&mut self, items: &[u64]) -> Result<(), ReplayError>
-        requires { list_all (fits_width w64) items.now ≡ true }
+        requires { list_all (spec.fits_width w64) items.now ≡ true }
         ensures { Advanced self.old (step.numbers 8 items.now) result self.new }
     {
         self.write(&items)

@@ -7,7 +7,6 @@ mod field_parts;
 mod fields;
 mod group;
 mod group_chain;
-mod lines;
 mod or_default;
 mod required;
 mod trailing_field;

@@ -4,6 +4,7 @@ ghost use Rattle.std.specs.Int.{w32, to_le_bytes};
 mod back;
 mod caches;
 mod fields;
+mod lines;
 mod lists;
 mod primitives;
 mod sized;

@@ -1,12 +1,7 @@
-//! What [`fields`](crate::fields) and [`variant`](crate::variant) write.
+//! What `fields` and `variant` write. These functions are proved, and nothing calls them.
 ghost use Rattle.std.specs.Prelude.{◌≡◌};
 
-use crate::tables::line::field_at::FieldAt;
-use crate::tables::line::trailing_field::TrailingField;
-use crate::tables::line::union_at::UnionAt;
-use crate::tables::line::union_vector_at::UnionVectorAt;
-use crate::tables::line::variant::Variant;
-use crate::{fields, variant};
+use planus::{FieldAt, TrailingField, UnionAt, UnionVectorAt, Variant, fields, variant};
 use planus_write::{Offset, UnionOffset, UnionVectorOffset};
 
 type Two<const A: usize, PA, const B: usize, PB> = (FieldAt<A, PA, PA>, FieldAt<B, PB, PB>);
