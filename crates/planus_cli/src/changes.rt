@@ -1,13 +1,7 @@
 //! What is said of breaks.
 
 ghost use Rattle.std.specs.Prelude.{◌≡◌, IfOk};
-ghost use Rattle.planus_cli.specs.Changes.{hurts as hurts_lem, hurts_both as hurts_both_lem};
-ghost use Rattle.planus_cli.specs.Changes.{hurts_new as hurts_new_lem};
-ghost use Rattle.planus_cli.specs.Changes.{hurts_old as hurts_old_lem};
-ghost use Rattle.planus_cli.specs.Changes.{moved as moved_lem, removed as removed_lem};
-ghost use Rattle.planus_cli.specs.Changes.{retyped as retyped_lem, required as required_lem};
-ghost use Rattle.planus_cli.specs.Changes.{message_of as message_lem, saying_view};
-ghost use Rattle.planus_cli.specs.Changes.{saying_of as saying_lem};
+ghost use Rattle.planus_cli.specs.Changes as spec;
 
 use planus_conform::{Change, Place};
 use std::alloc::{AllocError, Global};
@@ -33,7 +27,7 @@ fn hurts(
     effect: &'static str,
     advice: &'static str,
 ) -> Saying
-    ensures { saying_view result ≡ hurts_lem hurt.now word.now effect.now advice.now }
+    ensures { spec.saying_view result ≡ spec.hurts hurt.now word.now effect.now advice.now }
 {
     Saying {
         word,
@@ -45,27 +39,27 @@ fn hurts(
 
 /// Of a change that breaks each way.
 fn hurts_both(word: &'static str, effect: &'static str, advice: &'static str) -> Saying
-    ensures { saying_view result ≡ hurts_both_lem word.now effect.now advice.now }
+    ensures { spec.saying_view result ≡ spec.hurts_both word.now effect.now advice.now }
 {
     hurts("both", word, effect, advice)
 }
 
 /// Of a change that breaks new code that reads old data.
 fn hurts_new(word: &'static str, effect: &'static str, advice: &'static str) -> Saying
-    ensures { saying_view result ≡ hurts_new_lem word.now effect.now advice.now }
+    ensures { spec.saying_view result ≡ spec.hurts_new word.now effect.now advice.now }
 {
     hurts("new", word, effect, advice)
 }
 
 /// Of a change that breaks old code that reads new data.
 fn hurts_old(word: &'static str, effect: &'static str, advice: &'static str) -> Saying
-    ensures { saying_view result ≡ hurts_old_lem word.now effect.now advice.now }
+    ensures { spec.saying_view result ≡ spec.hurts_old word.now effect.now advice.now }
 {
     hurts("old", word, effect, advice)
 }
 
 fn moved(place: Place) -> Saying
-    ensures { saying_view result ≡ moved_lem place }
+    ensures { spec.saying_view result ≡ spec.moved place }
 {
     match place {
         Place::Field(..) => {
@@ -100,7 +94,7 @@ fn moved(place: Place) -> Saying
 }
 
 fn removed(place: Place) -> Saying
-    ensures { saying_view result ≡ removed_lem place }
+    ensures { spec.saying_view result ≡ spec.removed place }
 {
     match place {
         Place::Part(..) => {
@@ -121,7 +115,7 @@ fn removed(place: Place) -> Saying
 }
 
 fn retyped(place: Place) -> Saying
-    ensures { saying_view result ≡ retyped_lem place }
+    ensures { spec.saying_view result ≡ spec.retyped place }
 {
     match place {
         Place::Part(..) => {
@@ -142,7 +136,7 @@ fn retyped(place: Place) -> Saying
 }
 
 fn required(required: bool) -> Saying
-    ensures { saying_view result ≡ required_lem required }
+    ensures { spec.saying_view result ≡ spec.required required }
 {
     if required {
         hurts_new(
@@ -161,7 +155,7 @@ fn required(required: bool) -> Saying
 
 /// Returns what is said of a change. `is_required`: whether the new field is.
 pub(crate) fn saying_of(change: Change, place: Place, is_required: bool) -> Saying
-    ensures { saying_view result ≡ saying_lem change place is_required }
+    ensures { spec.saying_view result ≡ spec.saying_of change place is_required }
 {
     match change {
         Change::Removed => {
@@ -292,7 +286,7 @@ pub(crate) fn saying_of(change: Change, place: Place, is_required: bool) -> Sayi
 
 /// Returns the message of a change of what has this name.
 pub(crate) fn message_of(alloc: Global, saying: Saying, name: &[u8]) -> Result<Vec<u8>, AllocError>
-    ensures { IfOk result (λ text. text.items ≡ message_lem (saying_view saying) name.now) }
+    ensures { IfOk result (λ text. text.items ≡ spec.message_of (spec.saying_view saying) name.now) }
 {
     let mut text = Vec::from_slice(alloc, b"`")?;
     text.extend_from_slice(name)?;

@@ -3,12 +3,8 @@
 ghost use Rattle.std.specs.Prelude.{◌≡◌, ◌<◌, length, map, IfOk, IfErr, OnOk};
 ghost use Rattle.std.specs.List.{All};
 ghost use Rattle.planus_resolve.specs.Names.{head_of};
-ghost use Rattle.planus_cli.specs.Checks.{AreReports, ResolvesFiles, FailsResolving, IsReport};
-ghost use Rattle.planus_cli.specs.Checks.{AreSpelled, IsReportAdded};
+ghost use Rattle.planus_cli.specs.Checks as spec;
 ghost use Rattle.planus_cli.specs.Outcomes.{HasTokens};
-ghost use Rattle.planus_cli.specs.Checks.{ends_word as ends_word_lem};
-ghost use Rattle.planus_cli.specs.Checks.{unquoted as unquoted_lem};
-ghost use Rattle.planus_cli.specs.Checks.{word_of as word_lem};
 
 use crate::placed::place_of;
 use crate::problem::message_text;
@@ -27,13 +23,13 @@ pub struct File {
 }
 
 fn ends_word(b: u8) -> bool
-    ensures { result ≡ ends_word_lem b }
+    ensures { result ≡ spec.ends_word b }
 {
     !matches!(b, b'A'..=b'Z' | b'a'..=b'z' | b'0'..=b'9' | b'_' | b'.')
 }
 
 fn unquoted(bytes: &[u8]) -> &[u8]
-    ensures { result.now ≡ unquoted_lem bytes.now }
+    ensures { result.now ≡ spec.unquoted bytes.now }
 {
     match bytes.split_first() {
         Some((b'"' | b'\'', rest)) => rest,
@@ -42,7 +38,7 @@ fn unquoted(bytes: &[u8]) -> &[u8]
 }
 
 fn word_of(bytes: &[u8]) -> &[u8]
-    ensures { result.now ≡ word_lem bytes.now }
+    ensures { result.now ≡ spec.word_of bytes.now }
 {
     let mut n = 0;
     'bytes: while n < bytes.len() && !ends_word(bytes[n]) {
@@ -58,7 +54,7 @@ fn fault_report(
     fault: Fault,
 ) -> Result<Vec<u8>, AllocError>
     requires { HasTokens file.now.text.items }
-    ensures { IfOk result (λ out. IsReport (map head_of heads.now) file.now fault out.items) }
+    ensures { IfOk result (λ out. spec.IsReport (map head_of heads.now) file.now fault out.items) }
 {
     let at = place_of(alloc, &file.text, fault.left)?;
     let word = word_of(unquoted(&file.text[at..]));
@@ -75,7 +71,7 @@ fn put_report(
 ) -> Result<(), AllocError>
     requires within { fault.file < length files.now }
     requires tokens { All (λ f. HasTokens f.text.items) files.now }
-    ensures { OnOk result (IsReportAdded (map head_of heads.now) files.now fault
+    ensures { OnOk result (spec.IsReportAdded (map head_of heads.now) files.now fault
         out.old.items out.new.items) }
 {
     let report = fault_report(alloc, heads, &files[fault.file], fault)?;
@@ -91,7 +87,8 @@ fn reports(
 ) -> Result<Vec<u8>, AllocError>
     requires within { All (λ f. f.file < length files.now) faults.now }
     requires tokens { All (λ f. HasTokens f.text.items) files.now }
-    ensures { IfOk result (λ out. AreReports (map head_of heads.now) files.now faults.now out.items) }
+    ensures { IfOk result (λ out. spec.AreReports (map head_of heads.now) files.now faults.now
+        out.items) }
 {
     let mut out = Vec::new(alloc);
     'faults: for fault in faults {
@@ -110,10 +107,10 @@ pub fn resolve_or_report<X: Write>(
     declarations: &[Vec<Declaration>],
     errors: &mut X,
 ) -> Result<Option<Schema>, RunError>
-    requires { AreSpelled files.now declarations.now }
-    ensures resolved { IfOk result (λ found. ResolvesFiles files.now declarations.now found
+    requires { spec.AreSpelled files.now declarations.now }
+    ensures resolved { IfOk result (λ found. spec.ResolvesFiles files.now declarations.now found
         (X.contents errors.old) (X.contents errors.new)) }
-    ensures failed { IfErr result (λ error. FailsResolving files.now declarations.now error
+    ensures failed { IfErr result (λ error. spec.FailsResolving files.now declarations.now error
         (X.contents errors.old) (X.contents errors.new)) }
 {
     match resolve(alloc, declarations) {

@@ -1,12 +1,9 @@
 //! Scripts by which shells complete calls.
 
 ghost use Rattle.std.specs.Prelude.{◌≡◌, ◌++◌, [], map, flat_map, IfOk, OnOk};
-ghost use Rattle.planus_cli.specs.Completions.{frame_of as frame_of_lem, frame_view, script_of};
-ghost use Rattle.planus_cli.specs.Completions.{script_in as script_in_lem};
-ghost use Rattle.planus_cli.specs.Completions.{shells as shells_lem, names as names_lem};
-ghost use Rattle.planus_cli.specs.Completions.{first_options as first_options_lem};
-ghost use Rattle.planus_cli.specs.Completions.{spaced, row_text, rows_text, other_rows};
-ghost use Rattle.planus_cli.specs.Completions.{option_words as option_words_lem};
+ghost use Rattle.planus_cli.specs.Completions as spec;
+ghost use Rattle.planus_cli.specs.Completions.{script_of};
+ghost use Rattle.planus_cli.specs.Completions.{row_text};
 
 use crate::arguments::{Command, Shell};
 use crate::said::option_words;
@@ -86,7 +83,7 @@ const FISH: Frame = Frame {
 };
 
 fn frame_of(shell: Shell) -> Frame
-    ensures { frame_view result ≡ frame_of_lem shell }
+    ensures { spec.frame_view result ≡ spec.frame_of shell }
 {
     match shell {
         Shell::Bash => BASH,
@@ -96,7 +93,7 @@ fn frame_of(shell: Shell) -> Frame
 }
 
 fn names() -> &'static [&'static str]
-    ensures { map (λ w. w.now) result.now ≡ names_lem }
+    ensures { map (λ w. w.now) result.now ≡ spec.names }
 {
     &[
         "check",
@@ -111,20 +108,21 @@ fn names() -> &'static [&'static str]
 }
 
 fn shells() -> &'static [&'static str]
-    ensures { map (λ w. w.now) result.now ≡ shells_lem }
+    ensures { map (λ w. w.now) result.now ≡ spec.shells }
 {
     &["bash", "zsh", "fish"]
 }
 
 fn first_options() -> &'static [&'static str]
-    ensures { map (λ w. w.now) result.now ≡ first_options_lem }
+    ensures { map (λ w. w.now) result.now ≡ spec.first_options }
 {
     &["--help", "-h", "--version", "-V"]
 }
 
 /// Adds words, each with a space after it.
 fn put_words(text: &mut Vec<u8>, words: &[&str]) -> Result<(), AllocError>
-    ensures { OnOk result (text.new.items ≡ text.old.items ++ spaced (map (λ w. w.now) words.now)) }
+    ensures { OnOk result (text.new.items ≡ text.old.items ++ spec.spaced (map
+        (λ w. w.now) words.now)) }
 {
     'words: for word in words {
         text.extend_from_slice(word.as_bytes())?;
@@ -142,7 +140,7 @@ fn put_row(
     options: &[&str],
     arguments: &[&str],
 ) -> Result<(), AllocError>
-    ensures { OnOk result (text.new.items ≡ text.old.items ++ row_text (frame_view frame.now)
+    ensures { OnOk result (text.new.items ≡ text.old.items ++ row_text (spec.frame_view frame.now)
         name.now (map (λ w. w.now) options.now) (map (λ w. w.now) arguments.now)) }
 {
     text.extend_from_slice(frame.before.as_bytes())?;
@@ -162,8 +160,8 @@ fn put_command(
     name: &str,
     command: Command,
 ) -> Result<(), AllocError>
-    ensures { OnOk result (text.new.items ≡ text.old.items ++ row_text (frame_view frame.now)
-        name.now (option_words_lem command) []) }
+    ensures { OnOk result (text.new.items ≡ text.old.items ++ row_text (spec.frame_view frame.now)
+        name.now (spec.option_words command) []) }
 {
     put_row(text, frame, name, option_words(command), &[])
 }
@@ -171,7 +169,7 @@ fn put_command(
 /// Adds the rows of `completions` and `help`.
 fn put_other_rows(text: &mut Vec<u8>, frame: &Frame) -> Result<(), AllocError>
     ensures { OnOk result (text.new.items
-        ≡ text.old.items ++ other_rows (frame_view frame.now)) }
+        ≡ text.old.items ++ spec.other_rows (spec.frame_view frame.now)) }
 {
     let options = option_words(Command::Completions);
     put_row(text, frame, "completions", options, shells())?;
@@ -179,7 +177,8 @@ fn put_other_rows(text: &mut Vec<u8>, frame: &Frame) -> Result<(), AllocError>
 }
 
 fn put_rows(text: &mut Vec<u8>, frame: &Frame) -> Result<(), AllocError>
-    ensures { OnOk result (text.new.items ≡ text.old.items ++ rows_text (frame_view frame.now)) }
+    ensures { OnOk result (text.new.items ≡ text.old.items ++ spec.rows_text
+        (spec.frame_view frame.now)) }
 {
     put_command(text, frame, "check", Command::Check)?;
     put_command(text, frame, "format", Command::Format)?;
@@ -192,21 +191,21 @@ fn put_rows(text: &mut Vec<u8>, frame: &Frame) -> Result<(), AllocError>
 
 /// Adds the options that a call may begin with.
 fn put_first_options(text: &mut Vec<u8>) -> Result<(), AllocError>
-    ensures { OnOk result (text.new.items ≡ text.old.items ++ spaced first_options_lem) }
+    ensures { OnOk result (text.new.items ≡ text.old.items ++ spec.spaced spec.first_options) }
 {
     put_words(text, first_options())
 }
 
 /// Adds the commands.
 fn put_names(text: &mut Vec<u8>) -> Result<(), AllocError>
-    ensures { OnOk result (text.new.items ≡ text.old.items ++ spaced names_lem) }
+    ensures { OnOk result (text.new.items ≡ text.old.items ++ spec.spaced spec.names) }
 {
     put_words(text, names())
 }
 
 #[tactic(auto, unfolding(crate::specs::Completions::script_in))]
 fn script_in(alloc: Global, frame: &Frame) -> Result<Vec<u8>, AllocError>
-    ensures { IfOk result (λ text. text.items ≡ script_in_lem (frame_view frame.now)) }
+    ensures { IfOk result (λ text. text.items ≡ spec.script_in (spec.frame_view frame.now)) }
 {
     let mut text = Vec::from_slice(alloc, frame.head.as_bytes())?;
     put_rows(&mut text, frame)?;

@@ -3,10 +3,8 @@
 ghost use Rattle.std.specs.Prelude.{◌≡◌, map, IfOk, OnOk};
 ghost use Rattle.planus_cli.specs.Arguments.{words_of};
 ghost use Rattle.planus_cli.specs.Checks.{AreSpelled};
-ghost use Rattle.planus_cli.specs.Conforming.{way_by as way_by_lem};
-ghost use Rattle.planus_cli.specs.Conforming.{IsRenameOf, AreRenamesOf, AreWritten, Compares};
-ghost use Rattle.planus_cli.specs.Conforming.{ConformsTo, ConformsPair, ConformsTwo};
-ghost use Rattle.planus_cli.specs.Conforming.{ConformsAgainst, ConformsFiles};
+ghost use Rattle.planus_cli.specs.Conforming as spec;
+ghost use Rattle.planus_cli.specs.Conforming.{Compares};
 ghost use Rattle.planus_cli.specs.Each.{RunsFiles};
 ghost use Rattle.planus_cli.specs.Loading.{places_of};
 
@@ -29,7 +27,7 @@ fn write_told<W: Write, X: Write>(
     writer: &mut W,
     errors: &mut X,
 ) -> Result<(), RunError>
-    ensures { OnOk result (AreWritten json out.now (W.contents writer.old)
+    ensures { OnOk result (spec.AreWritten json out.now (W.contents writer.old)
         (W.contents writer.new) (X.contents errors.old) (X.contents errors.new)) }
 {
     if json {
@@ -66,7 +64,7 @@ fn compare<W: Write, X: Write>(
 }
 
 fn way_by(backward: bool, forward: bool) -> Way
-    ensures { result ≡ way_by_lem backward forward }
+    ensures { result ≡ spec.way_by backward forward }
 {
     match (backward, forward) {
         (true, _) => Way::Backward,
@@ -76,7 +74,7 @@ fn way_by(backward: bool, forward: bool) -> Way
 }
 
 fn rename_of(alloc: Global, word: &str) -> Result<Rename, AllocError>
-    ensures { IfOk result (λ rename. IsRenameOf word.now rename) }
+    ensures { IfOk result (λ rename. spec.IsRenameOf word.now rename) }
 {
     let from = Vec::from_slice(alloc, before_equals(word.as_bytes()))?;
     let to = Vec::from_slice(alloc, after_equals(word.as_bytes()))?;
@@ -84,7 +82,7 @@ fn rename_of(alloc: Global, word: &str) -> Result<Rename, AllocError>
 }
 
 fn renames_of(alloc: Global, words: &[&str]) -> Result<Vec<Rename>, AllocError>
-    ensures { IfOk result (λ renames. AreRenamesOf (map (λ w. w.now) words.now) renames.items) }
+    ensures { IfOk result (λ renames. spec.AreRenamesOf (map (λ w. w.now) words.now) renames.items) }
 {
     let mut renames = Vec::new(alloc);
     'words: for word in words {
@@ -105,7 +103,7 @@ fn conform_to<F: Files, W: Write, X: Write>(
     errors: &mut X,
 ) -> Result<u8, RunError>
     requires { AreSpelled old.now.files.items old.now.declarations.items }
-    ensures { IfOk result (λ status. ConformsTo
+    ensures { IfOk result (λ status. spec.ConformsTo
         (places_of (F.disk files.now) words.now.folders.items) (words_of words.now) old.now word.now
         status (W.contents writer.old) (W.contents writer.new)
         (X.contents errors.old) (X.contents errors.new)) }
@@ -130,7 +128,7 @@ fn conform_pair<F: Files, W: Write, X: Write>(
     writer: &mut W,
     errors: &mut X,
 ) -> Result<u8, RunError>
-    ensures { IfOk result (λ status. ConformsPair
+    ensures { IfOk result (λ status. spec.ConformsPair
         (places_of (F.disk files.now) words.now.folders.items) (words_of words.now) old.now new.now
         status (W.contents writer.old) (W.contents writer.new)
         (X.contents errors.old) (X.contents errors.new)) }
@@ -152,7 +150,7 @@ fn conform_against<F: Files, W: Write, X: Write>(
     writer: &mut W,
     errors: &mut X,
 ) -> Result<u8, RunError>
-    ensures { IfOk result (λ status. ConformsAgainst
+    ensures { IfOk result (λ status. spec.ConformsAgainst
         (places_of (F.disk files.now) words.now.folders.items) (words_of words.now) folder.now
         word.now status (W.contents writer.old) (W.contents writer.new)
         (X.contents errors.old) (X.contents errors.new)) }
@@ -170,7 +168,7 @@ fn conform_each<F: Files, W: Write, X: Write>(
     writer: &mut W,
     errors: &mut X,
 ) -> Result<u8, RunError>
-    ensures { IfOk result (λ status. RunsFiles (ConformsAgainst
+    ensures { IfOk result (λ status. RunsFiles (spec.ConformsAgainst
         (places_of (F.disk files.now) words.now.folders.items) (words_of words.now) folder.now)
         (words_of words.now).files 0 status (W.contents writer.old) (W.contents writer.new)
         (X.contents errors.old) (X.contents errors.new)) }
@@ -191,7 +189,7 @@ fn conform_two<F: Files, W: Write, X: Write>(
     writer: &mut W,
     errors: &mut X,
 ) -> Result<u8, RunError>
-    ensures { IfOk result (λ status. ConformsTwo
+    ensures { IfOk result (λ status. spec.ConformsTwo
         (places_of (F.disk files.now) words.now.folders.items) (words_of words.now)
         (words_of words.now).files status
         (W.contents writer.old) (W.contents writer.new)
@@ -212,7 +210,7 @@ pub fn conform<F: Files, W: Write, X: Write>(
     writer: &mut W,
     errors: &mut X,
 ) -> Result<u8, RunError>
-    ensures { IfOk result (λ status. ConformsFiles
+    ensures { IfOk result (λ status. spec.ConformsFiles
         (places_of (F.disk files.now) words.now.folders.items) (words_of words.now) status
         (W.contents writer.old) (W.contents writer.new)
         (X.contents errors.old) (X.contents errors.new)) }

@@ -2,7 +2,7 @@
 
 ghost use Rattle.std.specs.Prelude.{◌≡◌, IfOk};
 ghost use Rattle.std.specs.Io.KnownBytes.{Appends};
-ghost use Rattle.planus_dot.specs.Graphs.{graph_text as graph_lem};
+ghost use Rattle.planus_dot.specs.Graphs as spec;
 ghost use Rattle.planus_cli.specs.Arguments.{words_of};
 ghost use Rattle.planus_cli.specs.Drawing.{DrawsNamed, DrawsFiles};
 ghost use Rattle.planus_cli.specs.Loading.{places_of};
@@ -20,7 +20,7 @@ use std::io::Write;
 /// Writes the graph of a schema. Returns the exit status.
 fn draw<W: Write>(alloc: Global, schema: &Schema, writer: &mut W) -> Result<u8, RunError>
     ensures { IfOk result (λ status. (status ≡ 0)
-        × Appends (W.contents writer.old) (W.contents writer.new) (graph_lem schema.now)) }
+        × Appends (W.contents writer.old) (W.contents writer.new) (spec.graph_text schema.now)) }
 {
     let text = graph_text(alloc, schema)?;
     write_out(writer, &text)?;

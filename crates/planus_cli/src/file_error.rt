@@ -1,7 +1,7 @@
 //! Why files aren't read or written.
 
 ghost use Rattle.std.specs.Prelude.{◌≡◌};
-ghost use Rattle.planus_cli.specs.Disks.{after_name as after_name_lem};
+ghost use Rattle.planus_cli.specs.Disks as spec;
 
 use std::io::ErrorKind;
 
@@ -37,7 +37,7 @@ impl FileError {
 
     /// Returns what is said after the file's name.
     pub fn after_name(self) -> &'static str
-        ensures { result.now ≡ after_name_lem self }
+        ensures { result.now ≡ spec.after_name self }
     {
         match self {
             FileError::OutOfMemory => ": memory is refused",

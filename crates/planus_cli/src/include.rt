@@ -4,22 +4,18 @@ ghost use Rattle.std.specs.Prelude.{◌≡◌, ◌+◌, map, reverse, length, If
 ghost use Rattle.std.specs.Str.{IsCharBoundary};
 ghost use Rattle.std.specs.Path.{rfind_below};
 ghost use Rattle.std.specs.String.{string_bytes};
-ghost use Rattle.planus_cli.specs.Including.{entered, walked, named as named_lem};
-ghost use Rattle.planus_cli.specs.Including.{stays as stays_lem, leaves as leaves_lem};
-ghost use Rattle.planus_cli.specs.Including.{normal as normal_lem, file_in as file_in_lem};
-ghost use Rattle.planus_cli.specs.Including.{file_beside as file_beside_lem};
-ghost use Rattle.planus_cli.specs.Including.{last_part as last_part_lem};
+ghost use Rattle.planus_cli.specs.Including as spec;
 
 use std::alloc::{AllocError, Global};
 
 fn stays(segment: &str) -> bool
-    ensures { result ≡ stays_lem segment.now }
+    ensures { result ≡ spec.stays segment.now }
 {
     segment == "" || segment == "."
 }
 
 fn leaves(segment: &str) -> bool
-    ensures { result ≡ leaves_lem segment.now }
+    ensures { result ≡ spec.leaves segment.now }
 {
     segment == ".."
 }
@@ -27,7 +23,7 @@ fn leaves(segment: &str) -> bool
 /// Goes into a folder, or out of the last one.
 fn enter<'a>(segments: &mut Vec<&'a str>, segment: &'a str) -> Result<(), AllocError>
     ensures { OnOk result (reverse (map (λ s. s.now) segments.new.items)
-        ≡ entered (reverse (map (λ s. s.now) segments.old.items)) segment.now) }
+        ≡ spec.entered (reverse (map (λ s. s.now) segments.old.items)) segment.now) }
 {
     let last_stays = match segments.last() {
         Some(last) => !leaves(*last),
@@ -44,7 +40,7 @@ fn enter<'a>(segments: &mut Vec<&'a str>, segment: &'a str) -> Result<(), AllocE
 /// Returns the folders that a path goes through.
 fn walk(alloc: Global, path: &str) -> Result<Vec<&str>, AllocError>
     ensures { IfOk result (λ segments. reverse (map (λ s. s.now) segments.items)
-        ≡ walked path.now) }
+        ≡ spec.walked path.now) }
 {
     let mut segments: Vec<&str> = Vec::new(alloc);
     'path: for segment in path.split('/') {
@@ -55,7 +51,7 @@ fn walk(alloc: Global, path: &str) -> Result<Vec<&str>, AllocError>
 
 fn named(alloc: Global, path: &str, name: String) -> Result<String, AllocError>
     ensures { IfOk result (λ named. string_bytes named
-        ≡ named_lem path.now (string_bytes name)) }
+        ≡ spec.named path.now (string_bytes name)) }
 {
     if path.starts_with('/') {
         return format!(in alloc; "/{name}");
@@ -69,7 +65,7 @@ fn named(alloc: Global, path: &str, name: String) -> Result<String, AllocError>
 /// One file must have one name: without `.` and without a folder that `..` leaves again. It is
 /// never `-`, which names standard input.
 pub fn normal(alloc: Global, path: &str) -> Result<String, AllocError>
-    ensures { IfOk result (λ name. string_bytes name ≡ normal_lem path.now) }
+    ensures { IfOk result (λ name. string_bytes name ≡ spec.normal path.now) }
 {
     let segments = walk(alloc, path)?;
     let name = segments.join(alloc, "/")?;
@@ -78,7 +74,7 @@ pub fn normal(alloc: Global, path: &str) -> Result<String, AllocError>
 
 /// Returns the name of a file in a folder.
 pub fn file_in(alloc: Global, folder: &str, path: &str) -> Result<String, AllocError>
-    ensures { IfOk result (λ name. string_bytes name ≡ file_in_lem folder.now path.now) }
+    ensures { IfOk result (λ name. string_bytes name ≡ spec.file_in folder.now path.now) }
 {
     let whole = format!(in alloc; "{folder}/{path}")?;
     normal(alloc, whole.as_str())
@@ -103,7 +99,7 @@ fn folder_length(name: &str) -> Option<usize>
 
 /// Returns the last part of a path.
 pub fn last_part(path: &str) -> &str
-    ensures { result.now ≡ last_part_lem path.now }
+    ensures { result.now ≡ spec.last_part path.now }
 {
     match folder_length(path) {
         Some(length) => &path[length + 1..],
@@ -113,7 +109,7 @@ pub fn last_part(path: &str) -> &str
 
 /// Returns the name of a file beside another one.
 pub fn file_beside(alloc: Global, name: &str, path: &str) -> Result<String, AllocError>
-    ensures { IfOk result (λ found. string_bytes found ≡ file_beside_lem name.now path.now) }
+    ensures { IfOk result (λ found. string_bytes found ≡ spec.file_beside name.now path.now) }
 {
     match folder_length(name) {
         Some(length) => file_in(alloc, &name[..length], path),

@@ -4,15 +4,14 @@ ghost use Rattle.std.specs.Prelude.{◌≡◌, ◌++◌, map, IfOk, OnOk};
 ghost use Rattle.std.specs.Fmt.{decimal};
 ghost use Rattle.std.specs.List.{flat_map};
 ghost use Rattle.std.specs.Option.{option_map};
-ghost use Rattle.planus_cli.specs.Json.{escaped, text_json, text_or_null};
-ghost use Rattle.planus_cli.specs.Json.{place_json as place_lem};
+ghost use Rattle.planus_cli.specs.Json as spec;
 
 use crate::report::last_line;
 use crate::shown::hex_digit;
 use std::alloc::{AllocError, Global};
 
 fn put_byte(out: &mut Vec<u8>, byte: u8) -> Result<(), AllocError>
-    ensures { OnOk result (out.new.items ≡ out.old.items ++ escaped byte) }
+    ensures { OnOk result (out.new.items ≡ out.old.items ++ spec.escaped byte) }
 {
     match byte {
         b'"' | b'\\' => out.extend_from_slice(&[b'\\', byte])?,
@@ -26,7 +25,7 @@ fn put_byte(out: &mut Vec<u8>, byte: u8) -> Result<(), AllocError>
 }
 
 fn put_bytes(out: &mut Vec<u8>, bytes: &[u8]) -> Result<(), AllocError>
-    ensures { OnOk result (out.new.items ≡ out.old.items ++ flat_map escaped bytes.now) }
+    ensures { OnOk result (out.new.items ≡ out.old.items ++ flat_map spec.escaped bytes.now) }
 {
     for b in bytes {
         put_byte(out, *b)?;
@@ -36,7 +35,7 @@ fn put_bytes(out: &mut Vec<u8>, bytes: &[u8]) -> Result<(), AllocError>
 
 /// Adds a text in UTF-8, in quotes.
 pub(crate) fn put_text(out: &mut Vec<u8>, text: &[u8]) -> Result<(), AllocError>
-    ensures { OnOk result (out.new.items ≡ out.old.items ++ text_json text.now) }
+    ensures { OnOk result (out.new.items ≡ out.old.items ++ spec.text_json text.now) }
 {
     out.push(b'"')?;
     put_bytes(out, text)?;
@@ -46,7 +45,7 @@ pub(crate) fn put_text(out: &mut Vec<u8>, text: &[u8]) -> Result<(), AllocError>
 
 pub(crate) fn put_text_or_null(out: &mut Vec<u8>, text: Option<&[u8]>) -> Result<(), AllocError>
     ensures { OnOk result (out.new.items
-        ≡ out.old.items ++ text_or_null (option_map (λ w. w.now) text.entry)) }
+        ≡ out.old.items ++ spec.text_or_null (option_map (λ w. w.now) text.entry)) }
 {
     match text {
         Some(text) => put_text(out, text)?,
@@ -65,7 +64,7 @@ fn put_number(alloc: Global, out: &mut Vec<u8>, number: usize) -> Result<(), All
 
 /// Returns the place after these bytes of a file: its line, and its column in bytes, from 1.
 pub(crate) fn place_json(alloc: Global, name: &str, before: &[u8]) -> Result<Vec<u8>, AllocError>
-    ensures { IfOk result (λ json. json.items ≡ place_lem name.now before.now) }
+    ensures { IfOk result (λ json. json.items ≡ spec.place_json name.now before.now) }
 {
     let (feeds, front) = last_line(before);
     let mut json = Vec::from_slice(alloc, b"{\"file\":")?;

@@ -1,7 +1,7 @@
 //! The libraries that Rattle has, whose names no other crate can have.
 
 ghost use Rattle.std.specs.Prelude.{◌≡◌};
-ghost use Rattle.planus_cli.specs.Printing.{is_library as is_library_lem};
+ghost use Rattle.planus_cli.specs.Printing as spec;
 
 use planus_schema::is_one_of;
 
@@ -170,7 +170,7 @@ const LIBRARIES: [&str; 160] = [
 
 /// Returns whether it is the name of a library that Rattle has.
 pub fn is_library(name: &[u8]) -> bool
-    ensures { result ≡ is_library_lem name.now }
+    ensures { result ≡ spec.is_library name.now }
 {
     is_one_of(&LIBRARIES, name)
 }

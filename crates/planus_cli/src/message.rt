@@ -1,15 +1,13 @@
 //! The messages of faults in texts.
 
 ghost use Rattle.std.specs.Prelude.{◌≡◌};
-ghost use Rattle.planus_cli.specs.Reports.{lex_message as lex_message_lem};
-ghost use Rattle.planus_cli.specs.Reports.{mark_message as mark_message_lem};
-ghost use Rattle.planus_cli.specs.Reports.{parse_message as parse_message_lem};
+ghost use Rattle.planus_cli.specs.Reports as spec;
 
 use planus_syntax::{LexFault, ParseFault};
 
 /// Returns the message of a fault in a text.
 pub fn lex_message(fault: LexFault) -> &'static str
-    ensures { result.now ≡ lex_message_lem fault }
+    ensures { result.now ≡ spec.lex_message fault }
 {
     match fault {
         LexFault::BadNumber => "the number that ends here is malformed",
@@ -23,7 +21,7 @@ pub fn lex_message(fault: LexFault) -> &'static str
 }
 
 fn mark_message(mark: u8) -> &'static str
-    ensures { result.now ≡ mark_message_lem mark }
+    ensures { result.now ≡ spec.mark_message mark }
 {
     match mark {
         b'{' => "expected `{`",
@@ -39,7 +37,7 @@ fn mark_message(mark: u8) -> &'static str
 
 /// Returns the message of a fault of tokens.
 pub fn parse_message(fault: ParseFault) -> &'static str
-    ensures { result.now ≡ parse_message_lem fault }
+    ensures { result.now ≡ spec.parse_message fault }
 {
     match fault {
         ParseFault::Mark(mark) => mark_message(mark),

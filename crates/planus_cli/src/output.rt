@@ -3,7 +3,7 @@
 ghost use Rattle.std.specs.Prelude.{◌≡◌, ◌||◌, ◌++◌, ◌∷◌, [], length};
 ghost use Rattle.std.specs.Io.{WritesAtMost};
 ghost use Rattle.std.specs.Io.KnownBytes.{Keeps, WriteAppends};
-ghost use Rattle.planus_cli.specs.Outputs.{breaks as breaks_lem, is_broken as is_broken_lem};
+ghost use Rattle.planus_cli.specs.Outputs as spec;
 
 use std::io;
 use std::io::{ErrorKind, Write};
@@ -17,14 +17,14 @@ pub struct Output<W> {
 }
 
 fn is_broken(kind: ErrorKind) -> bool
-    ensures { result ≡ is_broken_lem kind }
+    ensures { result ≡ spec.is_broken kind }
 {
     matches!(kind, ErrorKind::BrokenPipe)
 }
 
 /// Whether a call failed since what reads is gone.
 fn breaks<T>(outcome: &io::Result<T>) -> bool
-    ensures { result ≡ breaks_lem outcome.now }
+    ensures { result ≡ spec.breaks outcome.now }
 {
     match outcome {
         Ok(_) => false,
@@ -39,7 +39,7 @@ impl<W: Write> Write for Output<W> {
         ensures bound { WritesAtMost result buf.now }
         ensures bytes { WriteAppends (W.contents self.old.writer) (W.contents self.new.writer)
             result buf.now }
-        ensures closed { self.new.closed ≡ (self.old.closed || breaks_lem result) }
+        ensures closed { self.new.closed ≡ (self.old.closed || spec.breaks result) }
     {
         let written = self.writer.write(buf);
         self.closed = self.closed || breaks(&written);
@@ -48,7 +48,7 @@ impl<W: Write> Write for Output<W> {
 
     fn flush(&mut self) -> io::Result<()>
         ensures bytes { Keeps (W.contents self.old.writer) (W.contents self.new.writer) }
-        ensures closed { self.new.closed ≡ (self.old.closed || breaks_lem result) }
+        ensures closed { self.new.closed ≡ (self.old.closed || spec.breaks result) }
     {
         let flushed = self.writer.flush();
         self.closed = self.closed || breaks(&flushed);

@@ -2,26 +2,7 @@
 
 ghost use Rattle.std.specs.Prelude.{◌≡◌, position};
 ghost use Rattle.std.specs.Option.{option_map};
-ghost use Rattle.planus_cli.specs.Parts.{has_slot, has_distance, has_number, has_tag};
-ghost use Rattle.planus_cli.specs.Parts.{is_field, is_part, is_value, is_member};
-ghost use Rattle.planus_cli.specs.Parts.{part_at as part_at_lem};
-ghost use Rattle.planus_cli.specs.Parts.{part_named as part_named_lem};
-ghost use Rattle.planus_cli.specs.Parts.{part_name as part_name_lem};
-ghost use Rattle.planus_cli.specs.Parts.{is_required as is_required_lem};
-ghost use Rattle.planus_cli.specs.Parts.{declaration_in as declaration_in_lem};
-ghost use Rattle.planus_cli.specs.Parts.{declaration_after as declaration_after_lem};
-ghost use Rattle.planus_cli.specs.Parts.{part_if as part_if_lem, name_if as name_if_lem};
-ghost use Rattle.planus_cli.specs.Parts.{old_word as old_word_lem};
-ghost use Rattle.planus_cli.specs.Parts.{new_word as new_word_lem};
-ghost use Rattle.planus_cli.specs.Parts.{part_after as part_after_lem};
-ghost use Rattle.planus_cli.specs.Parts.{declared_name as declared_name_lem};
-ghost use Rattle.planus_cli.specs.Parts.{stated_name as stated_name_lem};
-ghost use Rattle.planus_cli.specs.Parts.{part_told as part_told_lem};
-ghost use Rattle.planus_cli.specs.Parts.{declaration_told as declaration_told_lem};
-ghost use Rattle.planus_cli.specs.Parts.{statement_told as statement_told_lem};
-ghost use Rattle.planus_cli.specs.Parts.{subject as subject_lem};
-ghost use Rattle.planus_cli.specs.Parts.{is_moved as is_moved_lem};
-ghost use Rattle.planus_cli.specs.Parts.{is_needed as is_needed_lem};
+ghost use Rattle.planus_cli.specs.Parts as spec;
 
 use planus_conform::{Break, Change, Place, Rename, body_if, named, renamed, same_number};
 use planus_schema::{
@@ -37,32 +18,32 @@ pub struct Word {
 }
 
 fn at_slot(fields: &[TableField], slot: usize) -> Option<usize>
-    ensures { result ≡ position (has_slot slot) fields.now }
+    ensures { result ≡ position (spec.has_slot slot) fields.now }
 {
     fields.iter().position(|f| f.slot == slot)
 }
 
 fn at_distance(fields: &[StructField], distance: usize) -> Option<usize>
-    ensures { result ≡ position (has_distance distance) fields.now }
+    ensures { result ≡ position (spec.has_distance distance) fields.now }
 {
     fields.iter().position(|f| f.distance == distance)
 }
 
 fn at_number(values: &[EnumValue], number: Number) -> Option<usize>
-    ensures { result ≡ position (has_number number) values.now }
+    ensures { result ≡ position (spec.has_number number) values.now }
 {
     values.iter().position(|v| same_number(v.number, number))
 }
 
 fn at_tag(members: &[UnionMember], tag: u8) -> Option<usize>
-    ensures { result ≡ position (has_tag tag) members.now }
+    ensures { result ≡ position (spec.has_tag tag) members.now }
 {
     members.iter().position(|m| m.tag == tag)
 }
 
 /// Returns the index of the part that has this place.
 fn part_at(body: &Body, place: Place) -> Option<usize>
-    ensures { result ≡ part_at_lem body.now place }
+    ensures { result ≡ spec.part_at body.now place }
 {
     match (body, place) {
         (Body::Table(table), Place::Field(_, slot)) => at_slot(&table.fields, slot),
@@ -74,32 +55,32 @@ fn part_at(body: &Body, place: Place) -> Option<usize>
 }
 
 fn field_named(fields: &[TableField], name: &[u8]) -> Option<usize>
-    ensures { result ≡ position (is_field name.now) fields.now }
+    ensures { result ≡ position (spec.is_field name.now) fields.now }
 {
     fields.iter().position(|f| f.name.as_slice() == name)
 }
 
 fn struct_field_named(fields: &[StructField], name: &[u8]) -> Option<usize>
-    ensures { result ≡ position (is_part name.now) fields.now }
+    ensures { result ≡ position (spec.is_part name.now) fields.now }
 {
     fields.iter().position(|f| f.name.as_slice() == name)
 }
 
 fn value_named(values: &[EnumValue], name: &[u8]) -> Option<usize>
-    ensures { result ≡ position (is_value name.now) values.now }
+    ensures { result ≡ position (spec.is_value name.now) values.now }
 {
     values.iter().position(|v| v.name.as_slice() == name)
 }
 
 fn member_named(members: &[UnionMember], name: &[u8]) -> Option<usize>
-    ensures { result ≡ position (is_member name.now) members.now }
+    ensures { result ≡ position (spec.is_member name.now) members.now }
 {
     members.iter().position(|m| m.name.as_slice() == name)
 }
 
 /// Returns the index of the part that has this name.
 fn part_named(body: &Body, name: &[u8]) -> Option<usize>
-    ensures { result ≡ part_named_lem body.now name.now }
+    ensures { result ≡ spec.part_named body.now name.now }
 {
     match body {
         Body::Table(table) => field_named(&table.fields, name),
@@ -110,7 +91,7 @@ fn part_named(body: &Body, name: &[u8]) -> Option<usize>
 }
 
 fn part_name(body: &Body, index: usize) -> Option<&[u8]>
-    ensures { option_map (λ w. w.now) result ≡ part_name_lem body.now index }
+    ensures { option_map (λ w. w.now) result ≡ spec.part_name body.now index }
 {
     match body {
         Body::Table(table) => match table.fields.get(index) {
@@ -133,7 +114,7 @@ fn part_name(body: &Body, index: usize) -> Option<&[u8]>
 }
 
 fn is_required(body: &Body, index: usize) -> bool
-    ensures { result ≡ is_required_lem body.now index }
+    ensures { result ≡ spec.is_required body.now index }
 {
     match body {
         Body::Table(table) => match table.fields.get(index) {
@@ -146,7 +127,7 @@ fn is_required(body: &Body, index: usize) -> bool
 
 /// Returns the declaration of the old schema that a place is in.
 fn declaration_in(place: Place) -> Option<usize>
-    ensures { result ≡ declaration_in_lem place }
+    ensures { result ≡ spec.declaration_in place }
 {
     match place {
         Place::Declaration(index)
@@ -165,7 +146,7 @@ fn declaration_after(
     new: &[Declared],
     index: Option<usize>,
 ) -> Option<usize>
-    ensures { result ≡ declaration_after_lem renames.now old.now new.now index }
+    ensures { result ≡ spec.declaration_after renames.now old.now new.now index }
 {
     match declared_name(old, index) {
         Some(name) => named(new, renamed(renames, name)),
@@ -174,7 +155,7 @@ fn declaration_after(
 }
 
 fn declared_name(declared: &[Declared], index: Option<usize>) -> Option<&[u8]>
-    ensures { option_map (λ w. w.now) result ≡ declared_name_lem declared.now index }
+    ensures { option_map (λ w. w.now) result ≡ spec.declared_name declared.now index }
 {
     match index {
         Some(index) => match declared.get(index) {
@@ -186,7 +167,7 @@ fn declared_name(declared: &[Declared], index: Option<usize>) -> Option<&[u8]>
 }
 
 fn part_if(body: Option<&Body>, place: Place) -> Option<usize>
-    ensures { result ≡ part_if_lem (option_map (λ b. b.now) body.entry) place }
+    ensures { result ≡ spec.part_if (option_map (λ b. b.now) body.entry) place }
 {
     match body {
         Some(body) => part_at(body, place),
@@ -197,7 +178,7 @@ fn part_if(body: Option<&Body>, place: Place) -> Option<usize>
 /// Returns the name of a part.
 fn name_if(body: Option<&Body>, part: Option<usize>) -> Option<&[u8]>
     ensures { option_map (λ w. w.now) result
-        ≡ name_if_lem (option_map (λ b. b.now) body.entry) part }
+        ≡ spec.name_if (option_map (λ b. b.now) body.entry) part }
 {
     match (body, part) {
         (Some(body), Some(part)) => part_name(body, part),
@@ -206,14 +187,14 @@ fn name_if(body: Option<&Body>, part: Option<usize>) -> Option<&[u8]>
 }
 
 fn is_moved(change: Change) -> bool
-    ensures { result ≡ is_moved_lem change }
+    ensures { result ≡ spec.is_moved change }
 {
     matches!(change, Change::Moved)
 }
 
 /// Returns what is to be reported in the old schema.
 pub(crate) fn old_word(old: &[Declared], one: Break) -> Word
-    ensures { result ≡ old_word_lem old.now one }
+    ensures { result ≡ spec.old_word old.now one }
 {
     let declaration = declaration_in(one.place);
     let part = part_if(body_if(old, declaration), one.place);
@@ -223,7 +204,7 @@ pub(crate) fn old_word(old: &[Declared], one: Break) -> Word
 /// Returns the part of the new declaration that is that of the old one: by its place, or by the name
 /// of what is moved.
 fn part_after(body: Option<&Body>, name: Option<&[u8]>, one: Break) -> Option<usize>
-    ensures { result ≡ part_after_lem (option_map (λ b. b.now) body.entry)
+    ensures { result ≡ spec.part_after (option_map (λ b. b.now) body.entry)
         (option_map (λ w. w.now) name.entry) one }
 {
     match (body, name) {
@@ -235,7 +216,7 @@ fn part_after(body: Option<&Body>, name: Option<&[u8]>, one: Break) -> Option<us
 
 /// Returns what is to be reported in the new schema.
 pub(crate) fn new_word(renames: &[Rename], old: &[Declared], new: &[Declared], one: Break) -> Word
-    ensures { result ≡ new_word_lem renames.now old.now new.now one }
+    ensures { result ≡ spec.new_word renames.now old.now new.now one }
 {
     let before = old_word(old, one);
     let name = name_if(body_if(old, before.declaration), before.part);
@@ -246,7 +227,7 @@ pub(crate) fn new_word(renames: &[Rename], old: &[Declared], new: &[Declared], o
 
 /// Returns what a statement says: the name of the root, or the identifier.
 fn stated_name(schema: &Schema, place: Place) -> Option<&[u8]>
-    ensures { option_map (λ w. w.now) result ≡ stated_name_lem schema.now place }
+    ensures { option_map (λ w. w.now) result ≡ spec.stated_name schema.now place }
 {
     match place {
         Place::Root => declared_name(&schema.declarations, schema.statements.root),
@@ -265,7 +246,7 @@ pub(crate) fn part_told<'a>(
     new: &'a Schema,
     after: Word,
 ) -> Option<&'a [u8]>
-    ensures { option_map (λ w. w.now) result ≡ part_told_lem old.now before new.now after }
+    ensures { option_map (λ w. w.now) result ≡ spec.part_told old.now before new.now after }
 {
     let old_body = body_if(&old.declarations, before.declaration);
     let new_body = body_if(&new.declarations, after.declaration);
@@ -279,7 +260,7 @@ pub(crate) fn declaration_told<'a>(
     new: &'a Schema,
     after: Word,
 ) -> Option<&'a [u8]>
-    ensures { option_map (λ w. w.now) result ≡ declaration_told_lem old.now before new.now after }
+    ensures { option_map (λ w. w.now) result ≡ spec.declaration_told old.now before new.now after }
 {
     declared_name(&new.declarations, after.declaration).or(declared_name(
         &old.declarations,
@@ -289,7 +270,7 @@ pub(crate) fn declaration_told<'a>(
 
 /// Returns what a statement says in the new schema, or else in the old one.
 fn statement_told<'a>(old: &'a Schema, new: &'a Schema, place: Place) -> Option<&'a [u8]>
-    ensures { option_map (λ w. w.now) result ≡ statement_told_lem old.now new.now place }
+    ensures { option_map (λ w. w.now) result ≡ spec.statement_told old.now new.now place }
 {
     stated_name(new, place).or(stated_name(old, place))
 }
@@ -303,7 +284,7 @@ pub(crate) fn subject<'a>(
     after: Word,
     place: Place,
 ) -> &'a [u8]
-    ensures { result.now ≡ subject_lem old.now before new.now after place }
+    ensures { result.now ≡ spec.subject old.now before new.now after place }
 {
     part_told(old, before, new, after)
         .or(declaration_told(old, before, new, after))
@@ -313,7 +294,7 @@ pub(crate) fn subject<'a>(
 
 /// Returns whether a word is a field that is `required`.
 pub(crate) fn is_needed(declared: &[Declared], word: Word) -> bool
-    ensures { result ≡ is_needed_lem declared.now word }
+    ensures { result ≡ spec.is_needed declared.now word }
 {
     match (body_if(declared, word.declaration), word.part) {
         (Some(body), Some(part)) => is_required(body, part),

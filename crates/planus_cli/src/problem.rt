@@ -1,21 +1,17 @@
 //! The messages of faults of meaning.
 
 ghost use Rattle.std.specs.Prelude.{◌≡◌, ◌++◌, map, slice_get, Some, IfOk, OnOk};
-ghost use Rattle.planus_cli.specs.Problems.{both_text as both_text_lem};
-ghost use Rattle.planus_cli.specs.Problems.{name_at as name_at_lem};
+ghost use Rattle.planus_cli.specs.Problems as spec;
 ghost use Rattle.std.specs.Option.{option_map};
 ghost use Rattle.planus_resolve.specs.Names.{head_of};
 ghost use Rattle.planus_cli.specs.Near.{hint_of};
-ghost use Rattle.planus_cli.specs.Problems.{message_text as message_text_lem};
-ghost use Rattle.planus_cli.specs.Problems.{after as after_lem, before as before_lem};
-ghost use Rattle.planus_cli.specs.Problems.{problem_text as problem_text_lem};
 
 use crate::near::nearest_type;
 use planus_resolve::{Head, Problem};
 use std::alloc::{AllocError, Global};
 
 fn before(problem: Problem) -> &'static str
-    ensures { result.now ≡ before_lem problem }
+    ensures { result.now ≡ spec.before problem }
 {
     match problem {
         Problem::UnknownType(_) => "unknown type ",
@@ -25,7 +21,7 @@ fn before(problem: Problem) -> &'static str
 }
 
 fn after(problem: Problem) -> &'static str
-    ensures { result.now ≡ after_lem problem }
+    ensures { result.now ≡ spec.after problem }
 {
     match problem {
         Problem::UnknownType(_) => "",
@@ -78,7 +74,7 @@ fn after(problem: Problem) -> &'static str
 }
 
 fn problem_text(alloc: Global, problem: Problem, word: &[u8]) -> Result<Vec<u8>, AllocError>
-    ensures { IfOk result (λ text. text.items ≡ problem_text_lem problem word.now) }
+    ensures { IfOk result (λ text. text.items ≡ spec.problem_text problem word.now) }
 {
     let mut text = Vec::from_slice(alloc, before(problem).as_bytes())?;
     text.push(b'`')?;
@@ -112,7 +108,7 @@ fn put_hint(alloc: Global, text: &mut Vec<u8>, name: Option<&[u8]>) -> Result<()
 }
 
 fn name_at<'a>(heads: &'a [Head], index: usize) -> &'a [u8]
-    ensures { result.now ≡ name_at_lem (slice_get (map head_of heads.now) index) }
+    ensures { result.now ≡ spec.name_at (slice_get (map head_of heads.now) index) }
 {
     match heads.get(index) {
         Some(head) => &head.name,
@@ -126,7 +122,7 @@ fn both_text(
     here: &[u8],
     elsewhere: &[u8],
 ) -> Result<Vec<u8>, AllocError>
-    ensures { IfOk result (λ text. text.items ≡ both_text_lem word.now here.now elsewhere.now) }
+    ensures { IfOk result (λ text. text.items ≡ spec.both_text word.now here.now elsewhere.now) }
 {
     let mut text = Vec::from_slice(alloc, b"`")?;
     text.extend_from_slice(word)?;
@@ -147,7 +143,7 @@ pub fn message_text(
     word: &[u8],
 ) -> Result<Vec<u8>, AllocError>
     ensures { IfOk result (λ text. text.items
-        ≡ message_text_lem (map head_of heads.now) problem word.now) }
+        ≡ spec.message_text (map head_of heads.now) problem word.now) }
 {
     if let Problem::TwoMeanings { here, elsewhere } = problem {
         return both_text(alloc, word, name_at(heads, here), name_at(heads, elsewhere));

@@ -2,9 +2,9 @@
 
 ghost use Rattle.std.specs.Prelude.{◌≡◌, map, IfOk};
 ghost use Rattle.std.specs.String.{string_bytes};
-ghost use Rattle.planus_cli.specs.Arguments.{request_of as request_lem};
-ghost use Rattle.planus_cli.specs.Arguments.{asked, words_of};
-ghost use Rattle.planus_cli.specs.Outputs.{ends_quietly as ends_quietly_lem, Ends};
+ghost use Rattle.planus_cli.specs.Arguments as spec;
+ghost use Rattle.planus_cli.specs.Arguments.{words_of};
+ghost use Rattle.planus_cli.specs.Outputs as outputs_spec;
 ghost use Rattle.planus_cli.specs.Each.{RunsFiles};
 ghost use Rattle.planus_cli.specs.Running.{RunsFile, Runs, SaysOrRuns};
 
@@ -73,7 +73,7 @@ fn run_request<F: Files, W: Write, X: Write>(
     writer: &mut W,
     errors: &mut X,
 ) -> Result<u8, RunError>
-    ensures { IfOk result (λ status. Runs (F.disk files.now) (asked request.now) status
+    ensures { IfOk result (λ status. Runs (F.disk files.now) (spec.asked request.now) status
         (W.contents writer.old) (W.contents writer.new)
         (X.contents errors.old) (X.contents errors.new)) }
 {
@@ -103,7 +103,7 @@ pub fn run_words<F: Files, W: Write, X: Write>(
     errors: &mut X,
 ) -> Result<u8, RunError>
     ensures { IfOk result (λ status. SaysOrRuns (F.disk files.now)
-        (request_lem (map string_bytes words.now)) status
+        (spec.request_of (map string_bytes words.now)) status
         (W.contents writer.old) (W.contents writer.new)
         (X.contents errors.old) (X.contents errors.new)) }
 {
@@ -139,14 +139,15 @@ fn run<W: Write, X: Write>(
 
 /// Whether nothing is said of the error, as what reads the output is gone.
 fn ends_quietly(error: RunError, closed: bool) -> bool
-    ensures { result ≡ ends_quietly_lem error closed }
+    ensures { result ≡ outputs_spec.ends_quietly error closed }
 {
     matches!(error, RunError::Write) && closed
 }
 
 /// Says why a call failed, or nothing where what reads the output is gone. Returns the exit status.
 fn end<X: Write>(error: RunError, closed: bool, errors: &mut X) -> u8
-    ensures { Ends error closed result (X.contents errors.old) (X.contents errors.new) }
+    ensures { outputs_spec.Ends error closed result (X.contents errors.old)
+        (X.contents errors.new) }
 {
     if ends_quietly(error, closed) {
         return CLEAN;

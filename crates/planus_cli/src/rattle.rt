@@ -4,17 +4,7 @@ ghost use Rattle.std.specs.Prelude.{◌≡◌, true, not, IfOk, OnOk, MatchOptio
 ghost use Rattle.std.specs.Io.KnownBytes.{Appends};
 ghost use Rattle.planus_cli.specs.Arguments.{words_of};
 ghost use Rattle.planus_cli.specs.Loading.{places_of};
-ghost use Rattle.planus_cli.specs.Printing.{crates_line, stands_on as stands_on_lem};
-ghost use Rattle.planus_cli.specs.Printing.{RefusesName, IsHeld};
-ghost use Rattle.planus_cli.specs.Printing.{TellsOther, PrintsBytes, PrintsFile, PrintsAll};
-ghost use Rattle.planus_cli.specs.Printing.{PrintsCrate, PrintsNamed};
-ghost use Rattle.planus_cli.specs.Printing.{PrintsCode};
-ghost use Rattle.planus_cli.specs.Printing.{is_small_letter as is_small_letter_lem};
-ghost use Rattle.planus_cli.specs.Printing.{is_in_name as is_in_name_lem};
-ghost use Rattle.planus_cli.specs.Printing.{is_word as is_word_lem};
-ghost use Rattle.planus_cli.specs.Printing.{is_of_planus as is_of_planus_lem};
-ghost use Rattle.planus_cli.specs.Printing.{name_fault as name_fault_lem};
-ghost use Rattle.planus_cli.specs.Printing.{is_crate_name as is_crate_name_lem};
+ghost use Rattle.planus_cli.specs.Printing as spec;
 
 use crate::arguments::Words;
 use crate::file_error::FileError;
@@ -47,19 +37,19 @@ fn last_word(path: &str) -> &str {
 }
 
 fn is_small_letter(b: u8) -> bool
-    ensures { result ≡ is_small_letter_lem b }
+    ensures { result ≡ spec.is_small_letter b }
 {
     matches!(b, b'a'..=b'z')
 }
 
 fn is_in_name(b: u8) -> bool
-    ensures { result ≡ is_in_name_lem b }
+    ensures { result ≡ spec.is_in_name b }
 {
     matches!(b, b'a'..=b'z' | b'0'..=b'9' | b'_')
 }
 
 fn is_word(word: &[u8]) -> bool
-    ensures { result ≡ is_word_lem word.now }
+    ensures { result ≡ spec.is_word word.now }
 {
     let Some((first, rest)) = word.split_first() else {
         return false;
@@ -73,20 +63,20 @@ fn is_word(word: &[u8]) -> bool
 }
 
 fn is_of_planus(word: &[u8]) -> bool
-    ensures { result ≡ is_of_planus_lem word.now }
+    ensures { result ≡ spec.is_of_planus word.now }
 {
     word.starts_with(b"planus")
 }
 
 fn is_crate_name(word: &[u8]) -> bool
-    ensures { result ≡ is_crate_name_lem word.now }
+    ensures { result ≡ spec.is_crate_name word.now }
 {
     is_word(word) && !(is_reserved(word) || is_library(word) || is_of_planus(word))
 }
 
 /// Returns why no crate can have a name, as it is said after it.
 fn name_fault(word: &[u8]) -> &'static str
-    ensures { result.now ≡ name_fault_lem word.now }
+    ensures { result.now ≡ spec.name_fault word.now }
 {
     if is_library(word) {
         "`: a library of Rattle has it; the folder after -o needs another name"
@@ -108,8 +98,8 @@ fn folder_or_report<'a, X: Write>(
     errors: &mut X,
 ) -> Result<Option<Folder<'a>>, RunError>
     ensures { IfOk result (λ found. MatchOption found
-        (RefusesName (X.contents errors.old) (X.contents errors.new))
-        (λ folder. (is_crate_name_lem folder.name.now ≡ true) × (folder.check ≡ check)
+        (spec.RefusesName (X.contents errors.old) (X.contents errors.new))
+        (λ folder. (spec.is_crate_name folder.name.now ≡ true) × (folder.check ≡ check)
         × (folder.verified ≡ verified) × (X.contents errors.new ≡ X.contents errors.old))) }
 {
     let path = path.trim_end_matches('/');
@@ -134,7 +124,7 @@ fn holds<F: Files>(
     name: &str,
     bytes: &[u8],
 ) -> Result<Result<bool, FileError>, AllocError>
-    ensures { IfOk result (λ found. IsHeld (F.disk files.now) name.now bytes.now found) }
+    ensures { IfOk result (λ found. spec.IsHeld (F.disk files.now) name.now bytes.now found) }
 {
     match files.read(alloc, name) {
         Ok(found) if found.len() > GREATEST_TEXT => Ok(Ok(false)),
@@ -152,7 +142,7 @@ fn tell_other<X: Write>(
     found: Result<bool, FileError>,
     errors: &mut X,
 ) -> Result<u8, RunError>
-    ensures { IfOk result (λ status. TellsOther name.now found status
+    ensures { IfOk result (λ status. spec.TellsOther name.now found status
         (X.contents errors.old) (X.contents errors.new)) }
 {
     let why = match found {
@@ -172,7 +162,8 @@ fn print_bytes<F: Files, X: Write>(
     check: bool,
     errors: &mut X,
 ) -> Result<u8, RunError>
-    ensures { IfOk result (λ status. PrintsBytes (F.disk files.now) name.now bytes.now check status
+    ensures { IfOk result (λ status. spec.PrintsBytes (F.disk files.now) name.now bytes.now check
+        status
         (X.contents errors.old) (X.contents errors.new)) }
 {
     let found = holds(files, alloc, name, bytes)?;
@@ -193,7 +184,7 @@ fn print_file<F: Files, X: Write>(
     file: &PrintedFile,
     errors: &mut X,
 ) -> Result<u8, RunError>
-    ensures { IfOk result (λ status. PrintsFile (F.disk files.now)
+    ensures { IfOk result (λ status. spec.PrintsFile (F.disk files.now)
         folder.entry.path.now folder.entry.check file.now status
         (X.contents errors.old) (X.contents errors.new)) }
 {
@@ -211,7 +202,8 @@ fn print_files<F: Files, X: Write>(
     printed: &[PrintedFile],
     errors: &mut X,
 ) -> Result<u8, RunError>
-    ensures { IfOk result (λ status. PrintsAll (F.disk files.now) folder.entry.path.now folder.entry.check
+    ensures { IfOk result (λ status. spec.PrintsAll (F.disk files.now) folder.entry.path.now
+        folder.entry.check
         printed.now 0 status (X.contents errors.old) (X.contents errors.new)) }
 {
     let mut worst = CLEAN;
@@ -241,7 +233,7 @@ fn say_unsupported<X: Write>(
 
 /// Returns the crates that printed code stands on, as they are said after its name.
 fn stands_on(schema: &Schema) -> &'static str
-    ensures { result.now ≡ stands_on_lem schema.now.declarations.items }
+    ensures { result.now ≡ spec.stands_on schema.now.declarations.items }
 {
     if have_key(&schema.declarations) {
         ": planus planus_keys planus_views`"
@@ -257,7 +249,7 @@ fn say_line<X: Write>(
     errors: &mut X,
 ) -> Result<(), RunError>
     ensures { OnOk result (Appends (X.contents errors.old) (X.contents errors.new)
-        (crates_line schema.now.declarations.items name.now)) }
+        (spec.crates_line schema.now.declarations.items name.now)) }
 {
     let crates = stands_on(schema);
     say(alloc, errors, "the line of crates.txt is `", name, crates)?;
@@ -272,8 +264,8 @@ fn print_to<F: Files, X: Write>(
     folder: Folder<'_>,
     errors: &mut X,
 ) -> Result<u8, RunError>
-    requires { is_crate_name_lem folder.name.now ≡ true }
-    ensures { IfOk result (λ status. status ≡ 0 → PrintsCrate (F.disk files.now)
+    requires { spec.is_crate_name folder.name.now ≡ true }
+    ensures { IfOk result (λ status. status ≡ 0 → spec.PrintsCrate (F.disk files.now)
         folder.entry.path.now folder.entry.name.now folder.entry.check
         folder.entry.verified schema.now (X.contents errors.old) (X.contents errors.new)) }
 {
@@ -306,9 +298,10 @@ fn print_named<F: Files, X: Write>(
     folder: Folder<'_>,
     errors: &mut X,
 ) -> Result<u8, RunError>
-    requires { is_crate_name_lem folder.name.now ≡ true }
-    ensures { IfOk result (λ status. status ≡ 0 → PrintsNamed
-        (places_of (F.disk files.now) folders.now) word.now folder.entry.path.now folder.entry.name.now folder.entry.check
+    requires { spec.is_crate_name folder.name.now ≡ true }
+    ensures { IfOk result (λ status. status ≡ 0 → spec.PrintsNamed
+        (places_of (F.disk files.now) folders.now) word.now folder.entry.path.now
+        folder.entry.name.now folder.entry.check
         folder.entry.verified (X.contents errors.old) (X.contents errors.new)) }
 {
     let found = schema_at(files, alloc, folders, word, errors)?;
@@ -325,7 +318,7 @@ pub fn print_code<F: Files, X: Write>(
     words: &Words<'_>,
     errors: &mut X,
 ) -> Result<u8, RunError>
-    ensures { IfOk result (λ status. status ≡ 0 → PrintsCode
+    ensures { IfOk result (λ status. status ≡ 0 → spec.PrintsCode
         (places_of (F.disk files.now) words.now.folders.items) words.now.check
         (not words.now.no_verified) (words_of words.now).files
         (X.contents errors.old) (X.contents errors.new)) }

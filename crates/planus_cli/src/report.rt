@@ -3,10 +3,8 @@
 ghost use Rattle.std.specs.Prelude.{◌≡◌, ◌≤◌, ◌++◌, count_by, length, IfOk, OnOk};
 ghost use Rattle.std.specs.List.{flat_map};
 ghost use Rattle.std.specs.String.{string_bytes};
-ghost use Rattle.planus_cli.specs.Reports.{below as below_lem, first_line as first_line_lem};
-ghost use Rattle.planus_cli.specs.Reports.{marked_text, place_text, is_feed as is_feed_lem};
-ghost use Rattle.planus_cli.specs.Reports.{last_line as last_line_lem, report_text};
-ghost use Rattle.planus_cli.specs.Reports.{ends_line as ends_line_lem, front_shown, rest_shown};
+ghost use Rattle.planus_cli.specs.Reports as spec;
+ghost use Rattle.planus_cli.specs.Reports.{front_shown};
 
 use crate::shown::put_shown;
 use std::alloc::{AllocError, Global};
@@ -15,15 +13,15 @@ use std::alloc::{AllocError, Global};
 const MOST_BESIDE: usize = 80;
 
 fn is_feed(b: u8) -> bool
-    ensures { result ≡ is_feed_lem b }
+    ensures { result ≡ spec.is_feed b }
 {
     b == b'\n'
 }
 
 /// The number of line feeds, and the last line.
 pub(crate) fn last_line(bytes: &[u8]) -> (usize, &[u8])
-    ensures feeds { result.0 ≡ count_by is_feed_lem bytes.now }
-    ensures line { result.1.now ≡ last_line_lem bytes.now }
+    ensures feeds { result.0 ≡ count_by spec.is_feed bytes.now }
+    ensures line { result.1.now ≡ spec.last_line bytes.now }
     ensures bound { result.0 ≤ length bytes.now }
     ensures within { length result.1.now ≤ length bytes.now }
 {
@@ -41,13 +39,13 @@ pub(crate) fn last_line(bytes: &[u8]) -> (usize, &[u8])
 }
 
 fn ends_line(b: u8) -> bool
-    ensures { result ≡ ends_line_lem b }
+    ensures { result ≡ spec.ends_line b }
 {
     b == b'\n' || b == b'\r'
 }
 
 fn first_line(bytes: &[u8]) -> &[u8]
-    ensures { result.now ≡ first_line_lem bytes.now }
+    ensures { result.now ≡ spec.first_line bytes.now }
 {
     let mut n = 0;
     'bytes: while n < bytes.len() && !ends_line(bytes[n]) {
@@ -69,7 +67,7 @@ fn put_front(out: &mut Vec<u8>, front: &[u8]) -> Result<(), AllocError>
 }
 
 fn put_rest(out: &mut Vec<u8>, rest: &[u8]) -> Result<(), AllocError>
-    ensures { OnOk result (out.new.items ≡ out.old.items ++ rest_shown rest.now) }
+    ensures { OnOk result (out.new.items ≡ out.old.items ++ spec.rest_shown rest.now) }
 {
     if rest.len() > MOST_BESIDE {
         let (beside, _) = rest.split_at(MOST_BESIDE);
@@ -82,7 +80,7 @@ fn put_rest(out: &mut Vec<u8>, rest: &[u8]) -> Result<(), AllocError>
 }
 
 fn put_space(out: &mut Vec<u8>, b: u8) -> Result<(), AllocError>
-    ensures { OnOk result (out.new.items ≡ out.old.items ++ below_lem b) }
+    ensures { OnOk result (out.new.items ≡ out.old.items ++ spec.below b) }
 {
     match b {
         b'\t' => out.push(b'\t')?,
@@ -93,7 +91,7 @@ fn put_space(out: &mut Vec<u8>, b: u8) -> Result<(), AllocError>
 }
 
 fn put_below(out: &mut Vec<u8>, bytes: &[u8]) -> Result<(), AllocError>
-    ensures { OnOk result (out.new.items ≡ out.old.items ++ flat_map below_lem bytes.now) }
+    ensures { OnOk result (out.new.items ≡ out.old.items ++ flat_map spec.below bytes.now) }
 {
     for b in bytes {
         put_space(out, *b)?;
@@ -102,7 +100,7 @@ fn put_below(out: &mut Vec<u8>, bytes: &[u8]) -> Result<(), AllocError>
 }
 
 fn head(alloc: Global, name: &str, before: &[u8]) -> Result<String, AllocError>
-    ensures { IfOk result (λ text. string_bytes text ≡ place_text name.now before.now) }
+    ensures { IfOk result (λ text. string_bytes text ≡ spec.place_text name.now before.now) }
 {
     let (feeds, front) = last_line(before);
     let line = feeds + 1;
@@ -111,7 +109,7 @@ fn head(alloc: Global, name: &str, before: &[u8]) -> Result<String, AllocError>
 }
 
 fn marked(alloc: Global, front: &[u8], rest: &[u8]) -> Result<Vec<u8>, AllocError>
-    ensures { IfOk result (λ out. out.items ≡ marked_text front.now rest.now) }
+    ensures { IfOk result (λ out. out.items ≡ spec.marked_text front.now rest.now) }
 {
     let mut front_shown = Vec::new(alloc);
     put_front(&mut front_shown, front)?;
@@ -133,7 +131,7 @@ pub fn report(
 ) -> Result<Vec<u8>, AllocError>
     requires { at ≤ length text.now }
     ensures { IfOk result (λ out. out.items
-        ≡ report_text name.now text.now at message.now) }
+        ≡ spec.report_text name.now text.now at message.now) }
 {
     let (before, rest) = text.split_at(at);
     let head = head(alloc, name, before)?;

@@ -8,15 +8,9 @@ ghost use Rattle.planus_cli.specs.Arguments.{unknown_command as unknown_command_
 ghost use Rattle.planus_cli.specs.Arguments.{unknown_option as unknown_option_asked};
 ghost use Rattle.planus_cli.specs.Arguments.{no_rename as no_rename_asked};
 ghost use Rattle.planus_cli.specs.Near.{nearest};
-ghost use Rattle.planus_cli.specs.Said.{command_words as command_words_lem, call_hint};
-ghost use Rattle.planus_cli.specs.Completions.{option_words as option_words_lem};
-ghost use Rattle.planus_cli.specs.Said.{help_of as help_of_lem, help_text, no_value_text};
-ghost use Rattle.planus_cli.specs.Completions.{script_of};
-ghost use Rattle.planus_cli.specs.Said.{empty_value_text, no_number_text, no_schema_text};
-ghost use Rattle.planus_cli.specs.Said.{several_schemas_text};
-ghost use Rattle.planus_cli.specs.Said.{usage_of as usage_of_lem, details_of as details_of_lem};
-ghost use Rattle.planus_cli.specs.Said.{said_text as said_text_lem};
-ghost use Rattle.planus_cli.specs.Said.{said_of as said_of_lem, said_view, Says};
+ghost use Rattle.planus_cli.specs.Said as spec;
+ghost use Rattle.planus_cli.specs.Completions as completions_spec;
+ghost use Rattle.planus_cli.specs.Said.{Says};
 ghost use Rattle.planus_cli.specs.Shown.{shown};
 ghost use Rattle.std.specs.Io.KnownBytes.{Appends, Keeps};
 
@@ -195,7 +189,7 @@ pub struct Said {
 }
 
 fn command_words() -> &'static [&'static str]
-    ensures { map (λ w. w.now) result.now ≡ command_words_lem }
+    ensures { map (λ w. w.now) result.now ≡ spec.command_words }
 {
     &[
         "check",
@@ -214,7 +208,7 @@ fn command_words() -> &'static [&'static str]
 }
 
 pub(crate) fn option_words(command: Command) -> &'static [&'static str]
-    ensures { map (λ w. w.now) result.now ≡ option_words_lem command }
+    ensures { map (λ w. w.now) result.now ≡ completions_spec.option_words command }
 {
     match command {
         Command::Check => &["-I", "--help", "-h"],
@@ -251,7 +245,7 @@ pub(crate) fn option_words(command: Command) -> &'static [&'static str]
 /// Returns what is said after a word that is none of these.
 fn hint(alloc: Global, words: &[&str], word: &[u8]) -> Result<Vec<u8>, AllocError>
     ensures { IfOk result (λ text. text.items
-        ≡ call_hint (nearest (map (λ w. w.now) words.now) word.now)) }
+        ≡ spec.call_hint (nearest (map (λ w. w.now) words.now) word.now)) }
 {
     let Some(near) = nearest_word(words, word) else {
         return Vec::from_slice(alloc, b"see planus help");
@@ -263,7 +257,7 @@ fn hint(alloc: Global, words: &[&str], word: &[u8]) -> Result<Vec<u8>, AllocErro
 }
 
 fn help() -> &'static str
-    ensures { result.now ≡ help_text }
+    ensures { result.now ≡ spec.help_text }
 {
     HELP
 }
@@ -271,7 +265,7 @@ fn help() -> &'static str
 /// Returns how a command is called, or the program.
 #[tactic(auto, unfolding(crate::specs::Said::usage_of))]
 fn usage_of(command: Option<Command>) -> &'static str
-    ensures { result.now ≡ usage_of_lem command }
+    ensures { result.now ≡ spec.usage_of command }
 {
     match command {
         None => PROGRAM_USAGE,
@@ -286,7 +280,7 @@ fn usage_of(command: Option<Command>) -> &'static str
 }
 
 fn details_of(command: Command) -> &'static str
-    ensures { result.now ≡ details_of_lem command }
+    ensures { result.now ≡ spec.details_of command }
 {
     match command {
         Command::Check => DETAILS_OF_CHECK,
@@ -300,7 +294,7 @@ fn details_of(command: Command) -> &'static str
 }
 
 fn no_value(choice: Choice) -> &'static str
-    ensures { result.now ≡ no_value_text choice }
+    ensures { result.now ≡ spec.no_value_text choice }
 {
     match choice {
         Choice::Root => "planus: no name follows --root\n",
@@ -314,7 +308,7 @@ fn no_value(choice: Choice) -> &'static str
 }
 
 fn empty_value(choice: Choice) -> &'static str
-    ensures { result.now ≡ empty_value_text choice }
+    ensures { result.now ≡ spec.empty_value_text choice }
 {
     match choice {
         Choice::Root => "planus: the name of --root is empty\n",
@@ -327,7 +321,7 @@ fn empty_value(choice: Choice) -> &'static str
 }
 
 fn no_number(choice: Choice) -> &'static str
-    ensures { result.now ≡ no_number_text choice }
+    ensures { result.now ≡ spec.no_number_text choice }
 {
     match choice {
         Choice::Lines => ", the value of --lines, is no number",
@@ -336,15 +330,15 @@ fn no_number(choice: Choice) -> &'static str
 }
 
 fn said_text(alloc: Global, wrong: bool, text: &str) -> Result<Option<Said>, AllocError>
-    ensures { IfOk result (λ said. option_map said_view said ≡ said_text_lem wrong text.now) }
+    ensures { IfOk result (λ said. option_map spec.said_view said ≡ spec.said_text wrong text.now) }
 {
     let text = Vec::from_slice(alloc, text.as_bytes())?;
     Ok(Some(Said { wrong, text }))
 }
 
 fn help_of(alloc: Global, command: Command) -> Result<Option<Said>, AllocError>
-    ensures { IfOk result (λ said. option_map said_view said
-        ≡ said_text_lem false (help_of_lem command)) }
+    ensures { IfOk result (λ said. option_map spec.said_view said
+        ≡ spec.said_text false (spec.help_of command)) }
 {
     let mut text = Vec::from_slice(alloc, usage_of(Some(command)).as_bytes())?;
     text.extend_from_slice(details_of(command).as_bytes())?;
@@ -352,8 +346,8 @@ fn help_of(alloc: Global, command: Command) -> Result<Option<Said>, AllocError>
 }
 
 fn wrong(alloc: Global, line: &str, command: Option<Command>) -> Result<Option<Said>, AllocError>
-    ensures { IfOk result (λ said. option_map said_view said
-        ≡ said_text_lem true (line.now ++ usage_of_lem command)) }
+    ensures { IfOk result (λ said. option_map spec.said_view said
+        ≡ spec.said_text true (line.now ++ spec.usage_of command)) }
 {
     let mut text = Vec::from_slice(alloc, line.as_bytes())?;
     text.extend_from_slice(usage_of(command).as_bytes())?;
@@ -368,9 +362,9 @@ fn about(
     hint: &[u8],
     command: Option<Command>,
 ) -> Result<Option<Said>, AllocError>
-    ensures { IfOk result (λ said. option_map said_view said ≡ said_text_lem true
+    ensures { IfOk result (λ said. option_map spec.said_view said ≡ spec.said_text true
         (codes "planus: " ++ (before.now ++ (codes "`" ++ (shown word.now ++ (codes "`"
-        ++ (after.now ++ (hint.now ++ (codes "\n" ++ usage_of_lem command))))))))) }
+        ++ (after.now ++ (hint.now ++ (codes "\n" ++ spec.usage_of command))))))))) }
 {
     let mut text = Vec::from_slice(alloc, b"planus: ")?;
     text.extend_from_slice(before.as_bytes())?;
@@ -385,7 +379,7 @@ fn about(
 }
 
 fn no_schema(command: Command) -> &'static str
-    ensures { result.now ≡ no_schema_text command }
+    ensures { result.now ≡ spec.no_schema_text command }
 {
     match command {
         Command::Completions => NO_SHELL,
@@ -394,7 +388,7 @@ fn no_schema(command: Command) -> &'static str
 }
 
 fn several_schemas(command: Command) -> &'static str
-    ensures { result.now ≡ several_schemas_text command }
+    ensures { result.now ≡ spec.several_schemas_text command }
 {
     match command {
         Command::Dot => SEVERAL_FOR_DOT,
@@ -403,23 +397,24 @@ fn several_schemas(command: Command) -> &'static str
 }
 
 fn script_said(alloc: Global, shell: Shell) -> Result<Option<Said>, AllocError>
-    ensures { IfOk result (λ said. option_map said_view said ≡ said_text_lem false (script_of shell)) }
+    ensures { IfOk result (λ said. option_map spec.said_view said ≡ spec.said_text false
+        (completions_spec.script_of shell)) }
 {
     let text = script(alloc, shell)?;
     Ok(Some(Said { wrong: false, text }))
 }
 
 fn unknown_command(alloc: Global, word: &str) -> Result<Option<Said>, AllocError>
-    ensures { IfOk result (λ said. option_map said_view said
-        ≡ said_of_lem (unknown_command_asked word.now)) }
+    ensures { IfOk result (λ said. option_map spec.said_view said
+        ≡ spec.said_of (unknown_command_asked word.now)) }
 {
     let hint = hint(alloc, command_words(), word.as_bytes())?;
     about(alloc, "unknown command ", word, "; ", &hint, None)
 }
 
 fn unknown_option(alloc: Global, command: Command, word: &str) -> Result<Option<Said>, AllocError>
-    ensures { IfOk result (λ said. option_map said_view said
-        ≡ said_of_lem (unknown_option_asked command word.now)) }
+    ensures { IfOk result (λ said. option_map spec.said_view said
+        ≡ spec.said_of (unknown_option_asked command word.now)) }
 {
     let near = before_equals(word.as_bytes());
     let hint = hint(alloc, option_words(command), near)?;
@@ -427,8 +422,8 @@ fn unknown_option(alloc: Global, command: Command, word: &str) -> Result<Option<
 }
 
 fn no_rename(alloc: Global, word: &str) -> Result<Option<Said>, AllocError>
-    ensures { IfOk result (λ said. option_map said_view said
-        ≡ said_of_lem (no_rename_asked word.now)) }
+    ensures { IfOk result (λ said. option_map spec.said_view said
+        ≡ spec.said_of (no_rename_asked word.now)) }
 {
     let after = ", the value of --rename, isn't OLD=NEW";
     about(alloc, "", word, after, b"", Some(Command::Conform))
@@ -436,7 +431,8 @@ fn no_rename(alloc: Global, word: &str) -> Result<Option<Said>, AllocError>
 
 /// Returns what is written of a request that names no schema.
 pub fn said_of(alloc: Global, request: &Request<'_>) -> Result<Option<Said>, AllocError>
-    ensures { IfOk result (λ said. option_map said_view said ≡ said_of_lem (asked request.now)) }
+    ensures { IfOk result (λ said. option_map spec.said_view said ≡ spec.said_of
+        (asked request.now)) }
 {
     match request {
         Request::Run { .. } => Ok(None),
@@ -482,7 +478,7 @@ pub fn say<W: Write, X: Write>(
     writer: &mut W,
     errors: &mut X,
 ) -> Result<Option<u8>, RunError>
-    ensures { IfOk result (λ status. Says (said_of_lem (asked request.now)) status
+    ensures { IfOk result (λ status. Says (spec.said_of (asked request.now)) status
         (W.contents writer.old) (W.contents writer.new)
         (X.contents errors.old) (X.contents errors.new)) }
 {

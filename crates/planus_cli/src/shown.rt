@@ -4,15 +4,13 @@ ghost use Rattle.std.specs.Prelude.{◌≡◌, ◌<◌, ◌++◌, OnOk};
 ghost use Rattle.std.specs.Char.{digit_char};
 ghost use Rattle.std.specs.List.{list_any};
 ghost use Rattle.std.specs.Str.{chars};
-ghost use Rattle.planus_cli.specs.Shown.{is_hidden as is_hidden_lem, width as width_lem, sign};
-ghost use Rattle.planus_cli.specs.Shown.{is_seen as is_seen_lem, seen_length as seen_length_lem};
-ghost use Rattle.planus_cli.specs.Shown.{kept_of as kept_of_lem, shown};
+ghost use Rattle.planus_cli.specs.Shown as spec;
 
 use std::alloc::AllocError;
 
 /// Whether it is a control character but a tab, or a mark of direction.
 fn is_hidden(c: char) -> bool
-    ensures { result ≡ is_hidden_lem c }
+    ensures { result ≡ spec.is_hidden c }
 {
     matches!(
         c,
@@ -22,13 +20,13 @@ fn is_hidden(c: char) -> bool
 }
 
 fn has_hidden(text: &str) -> bool
-    ensures { result ≡ list_any is_hidden_lem (chars text.now) }
+    ensures { result ≡ list_any spec.is_hidden (chars text.now) }
 {
     text.chars().any(|c| is_hidden(c))
 }
 
 fn is_seen(bytes: &[u8]) -> bool
-    ensures { result ≡ is_seen_lem bytes.now }
+    ensures { result ≡ spec.is_seen bytes.now }
 {
     match std::str::from_utf8(bytes) {
         Ok(text) => !has_hidden(text),
@@ -38,7 +36,7 @@ fn is_seen(bytes: &[u8]) -> bool
 
 /// How many bytes a character has that begins with this one.
 fn width(first: u8) -> usize
-    ensures { result ≡ width_lem first }
+    ensures { result ≡ spec.width first }
 {
     match first {
         0..=127 => 1,
@@ -50,7 +48,7 @@ fn width(first: u8) -> usize
 
 /// How many bytes the first character has; 0 where it isn't seen, or none begins here.
 fn seen_length(bytes: &[u8]) -> usize
-    ensures { result ≡ seen_length_lem bytes.now }
+    ensures { result ≡ spec.seen_length bytes.now }
 {
     let Some(first) = bytes.first() else {
         return 0;
@@ -64,7 +62,7 @@ fn seen_length(bytes: &[u8]) -> usize
 }
 
 fn kept_of(kept: usize, bytes: &[u8]) -> usize
-    ensures { result ≡ kept_of_lem kept bytes.now }
+    ensures { result ≡ spec.kept_of kept bytes.now }
 {
     if kept == 0 { seen_length(bytes) } else { kept }
 }
@@ -81,7 +79,7 @@ pub(crate) fn hex_digit(value: u8) -> u8
 }
 
 fn put_sign(out: &mut Vec<u8>, kept: usize, byte: u8) -> Result<(), AllocError>
-    ensures { OnOk result (out.new.items ≡ out.old.items ++ sign kept byte) }
+    ensures { OnOk result (out.new.items ≡ out.old.items ++ spec.sign kept byte) }
 {
     if kept > 0 {
         out.push(byte)?;
@@ -94,7 +92,7 @@ fn put_sign(out: &mut Vec<u8>, kept: usize, byte: u8) -> Result<(), AllocError>
 /// Adds bytes as a terminal may show them: its characters that are seen as they are, and each other
 /// byte as `\x` and two hexadecimal digits.
 pub fn put_shown(out: &mut Vec<u8>, bytes: &[u8]) -> Result<(), AllocError>
-    ensures { OnOk result (out.new.items ≡ out.old.items ++ shown bytes.now) }
+    ensures { OnOk result (out.new.items ≡ out.old.items ++ spec.shown bytes.now) }
 {
     let mut kept = 0;
     let mut rest = bytes;

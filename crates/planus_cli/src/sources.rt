@@ -7,12 +7,9 @@ ghost use Rattle.std.specs.String.{string_bytes};
 ghost use Rattle.planus_cli.specs.Outcomes.{HasTokens, IsSpelled};
 ghost use Rattle.planus_cli.specs.Files.{AreRead, EndsWith, IsTextOf};
 ghost use Rattle.planus_cli.specs.Files.{SaysUnread, FailsReading};
-ghost use Rattle.planus_cli.specs.Including.{IsFirstThere, tried, path_of};
-ghost use Rattle.planus_cli.specs.Including.{text_or_empty as text_or_empty_lem};
-ghost use Rattle.planus_cli.specs.Loading.{places_of, enter, IsSource, Begins, Adds, Once};
-ghost use Rattle.planus_cli.specs.Loading.{has_begun as has_begun_lem};
-ghost use Rattle.planus_cli.specs.Loading.{LoadsBy, Loads, Includes, IncludesAll, Refuses};
-ghost use Rattle.planus_cli.specs.Including.{file_named as file_named_lem};
+ghost use Rattle.planus_cli.specs.Including as including_spec;
+ghost use Rattle.planus_cli.specs.Loading as spec;
+ghost use Rattle.planus_cli.specs.Loading.{LoadsBy, Loads};
 ghost use Rattle.planus_cli.specs.Checks.{AreSpelled};
 ghost use Rattle.planus_cli.specs.Sources.{HasNoSchema, ChecksFile, HasMeaning, MeansAll};
 ghost use Rattle.std.specs.Io.KnownBytes.{Keeps};
@@ -50,20 +47,20 @@ struct Sources {
 
 impl Sources {
     fn has_begun(&self, name: &str) -> bool
-        ensures { result ≡ has_begun_lem name.now self.now }
+        ensures { result ≡ spec.has_begun name.now self.now }
     {
         file_index(&self.begun, name.as_bytes()).is_some()
     }
 
     fn begin(&mut self, alloc: Global, name: &str) -> Result<(), AllocError>
-        ensures { OnOk result (Begins name.now self.old self.new) }
+        ensures { OnOk result (spec.Begins name.now self.old self.new) }
     {
         self.begun.push(Vec::from_slice(alloc, name.as_bytes())?)?;
         Ok(())
     }
 
     fn add(&mut self, source: Source) -> Result<(), AllocError>
-        ensures { OnOk result (Adds source self.old self.new) }
+        ensures { OnOk result (spec.Adds source self.old self.new) }
     {
         self.files.push(source.file)?;
         self.declarations.push(source.declarations)?;
@@ -131,8 +128,8 @@ fn included<F: Files>(
     name: &str,
     path: &str,
 ) -> Result<Option<String>, AllocError>
-    ensures { IfOk result (λ found. IsFirstThere (F.disk files.now).There
-        (tried (map (λ folder. folder.now) folders.now) name.now path.now)
+    ensures { IfOk result (λ found. including_spec.IsFirstThere (F.disk files.now).There
+        (including_spec.tried (map (λ folder. folder.now) folders.now) name.now path.now)
         (option_map string_bytes found)) }
 {
     let beside = file_beside(alloc, name, path)?;
@@ -150,7 +147,7 @@ fn included<F: Files>(
 
 /// Returns bytes as a text, or the empty one where they aren't UTF-8.
 fn text_or_empty(bytes: &[u8]) -> &str
-    ensures { result.now ≡ text_or_empty_lem bytes.now }
+    ensures { result.now ≡ including_spec.text_or_empty bytes.now }
 {
     match std::str::from_utf8(bytes) {
         Ok(text) => text,
@@ -166,9 +163,9 @@ fn included_by<F: Files>(
     file: &File,
     string: &[u8],
 ) -> Result<Option<String>, AllocError>
-    ensures { IfOk result (λ found. IsFirstThere (F.disk files.now).There
-        (tried (map (λ folder. folder.now) folders.now) (string_bytes file.now.name)
-        (path_of string.now)) (option_map string_bytes found)) }
+    ensures { IfOk result (λ found. including_spec.IsFirstThere (F.disk files.now).There
+        (including_spec.tried (map (λ folder. folder.now) folders.now) (string_bytes file.now.name)
+        (including_spec.path_of string.now)) (option_map string_bytes found)) }
 {
     let text = string_text(alloc, string)?;
     included(
@@ -189,7 +186,8 @@ fn refuse<X: Write>(
     errors: &mut X,
 ) -> Result<u8, RunError>
     requires { HasTokens file.now.text.items }
-    ensures told { IfOk result (λ status. (sources : Sources) → Refuses message.now file.now left
+    ensures told { IfOk result (λ status. (sources : Sources) → spec.Refuses message.now file.now
+        left
         sources (X.contents errors.old) status sources (X.contents errors.new)) }
     ensures status { IfOk result (λ status. status ≡ 1) }
 {
@@ -206,7 +204,7 @@ fn read_file<F: Files, X: Write>(
     errors: &mut X,
 ) -> Result<Result<Source, u8>, RunError>
     ensures source { IfOk result (λ read. IfOk read (λ source.
-        IsSource (F.disk files.now).Holds name.now source)) }
+        spec.IsSource (F.disk files.now).Holds name.now source)) }
     ensures failed { IfOk result (λ read. IfErr read (λ status.
         FailsReading (F.disk files.now) name.now status
         (X.contents errors.old) (X.contents errors.new))) }
@@ -240,13 +238,14 @@ fn load<F: Files, X: Write>(
     sources: &mut Sources,
     errors: &mut X,
 ) -> Result<u8, RunError>
-    requires { AreRead (F.disk files.now).Holds sources.old.files.items sources.old.declarations.items }
+    requires { AreRead (F.disk files.now).Holds sources.old.files.items
+        sources.old.declarations.items }
     ensures read { OnOk result
         (AreRead (F.disk files.now).Holds sources.new.files.items sources.new.declarations.items) }
     ensures kept { IfOk result (λ status. status ≡ 0
         → Keeps (X.contents errors.old) (X.contents errors.new)) }
     ensures loads { IfOk result (λ status.
-        Once (Loads (places_of (F.disk files.now) folders.now) left) name.now
+        spec.Once (Loads (spec.places_of (F.disk files.now) folders.now) left) name.now
         sources.old (X.contents errors.old) status sources.new (X.contents errors.new)) }
 {
     if sources.has_begun(name) {
@@ -265,7 +264,8 @@ fn load_file<F: Files, X: Write>(
     sources: &mut Sources,
     errors: &mut X,
 ) -> Result<u8, RunError>
-    requires { AreRead (F.disk files.now).Holds sources.old.files.items sources.old.declarations.items }
+    requires { AreRead (F.disk files.now).Holds sources.old.files.items
+        sources.old.declarations.items }
     ensures read { OnOk result
         (AreRead (F.disk files.now).Holds sources.new.files.items sources.new.declarations.items) }
     ensures last { IfOk result (λ status. status ≡ 0
@@ -273,7 +273,7 @@ fn load_file<F: Files, X: Write>(
     ensures kept { IfOk result (λ status. status ≡ 0
         → Keeps (X.contents errors.old) (X.contents errors.new)) }
     ensures loads { IfOk result (λ status.
-        Loads (places_of (F.disk files.now) folders.now) left name.now
+        Loads (spec.places_of (F.disk files.now) folders.now) left name.now
         sources.old (X.contents errors.old) status sources.new (X.contents errors.new)) }
 {
     sources.begin(alloc, name)?;
@@ -305,9 +305,9 @@ fn load_includes<F: Files, X: Write>(
         (AreRead (F.disk files.now).Holds sources.new.files.items sources.new.declarations.items) }
     ensures kept { IfOk result (λ status. status ≡ 0
         → Keeps (X.contents errors.old) (X.contents errors.new)) }
-    ensures loads { IfOk result (λ status. IncludesAll
-        (Includes (places_of (F.disk files.now) folders.now)
-        (enter (places_of (F.disk files.now) folders.now) left)
+    ensures loads { IfOk result (λ status. spec.IncludesAll
+        (spec.Includes (spec.places_of (F.disk files.now) folders.now)
+        (spec.enter (spec.places_of (F.disk files.now) folders.now) left)
         source.now.file) source.now.declarations.items 0
         sources.old (X.contents errors.old) status sources.new (X.contents errors.new)) }
 {
@@ -344,9 +344,9 @@ fn include<F: Files, X: Write>(
         (AreRead (F.disk files.now).Holds sources.new.files.items sources.new.declarations.items) }
     ensures kept { IfOk result (λ status. status ≡ 0
         → Keeps (X.contents errors.old) (X.contents errors.new)) }
-    ensures loads { IfOk result (λ status. Includes
-        (places_of (F.disk files.now) folders.now)
-        (enter (places_of (F.disk files.now) folders.now) left)
+    ensures loads { IfOk result (λ status. spec.Includes
+        (spec.places_of (F.disk files.now) folders.now)
+        (spec.enter (spec.places_of (F.disk files.now) folders.now) left)
         source.now.file at string.now
         sources.old (X.contents errors.old) status sources.new (X.contents errors.new)) }
 {
@@ -384,12 +384,12 @@ fn meaning_of<F: Files, X: Write>(
     errors: &mut X,
 ) -> Result<Result<Meaning, u8>, RunError>
     ensures means { IfOk result (λ found. IfOk found (λ meaning.
-        HasMeaning (places_of (F.disk files.now) folders.now) name.now meaning
+        HasMeaning (spec.places_of (F.disk files.now) folders.now) name.now meaning
         (X.contents errors.old) (X.contents errors.new))) }
     ensures spelled { IfOk result (λ found. IfOk found (λ meaning.
         AreSpelled meaning.files.items meaning.declarations.items)) }
     ensures none { IfOk result (λ found. IfErr found (λ status.
-        HasNoSchema (places_of (F.disk files.now) folders.now) name.now status
+        HasNoSchema (spec.places_of (F.disk files.now) folders.now) name.now status
         (X.contents errors.old) (X.contents errors.new))) }
 {
     let mut sources = Sources {
@@ -421,10 +421,10 @@ pub fn schema_of<F: Files, X: Write>(
     errors: &mut X,
 ) -> Result<Result<Schema, u8>, RunError>
     ensures means { IfOk result (λ found. IfOk found (λ schema.
-        MeansAll (places_of (F.disk files.now) folders.now) name.now
+        MeansAll (spec.places_of (F.disk files.now) folders.now) name.now
         (Some schema) (X.contents errors.old) (X.contents errors.new))) }
     ensures none { IfOk result (λ found. IfErr found (λ status.
-        HasNoSchema (places_of (F.disk files.now) folders.now) name.now status
+        HasNoSchema (spec.places_of (F.disk files.now) folders.now) name.now status
         (X.contents errors.old) (X.contents errors.new))) }
 {
     match meaning_of(files, alloc, folders, name, errors)? {
@@ -449,7 +449,7 @@ pub fn check_file<F: Files, X: Write>(
     errors: &mut X,
 ) -> Result<u8, RunError>
     ensures { IfOk result (λ status. ChecksFile
-        (places_of (F.disk files.now) folders.now) name.now status
+        (spec.places_of (F.disk files.now) folders.now) name.now status
         (X.contents errors.old) (X.contents errors.new)) }
 {
     match schema_of(files, alloc, folders, name, errors)? {
@@ -460,7 +460,7 @@ pub fn check_file<F: Files, X: Write>(
 
 /// Returns the name of the file that a word of the call names.
 fn file_named(alloc: Global, word: &str) -> Result<String, AllocError>
-    ensures { IfOk result (λ name. string_bytes name ≡ file_named_lem word.now) }
+    ensures { IfOk result (λ name. string_bytes name ≡ including_spec.file_named word.now) }
 {
     if word == "-" {
         String::from_str(alloc, word)
@@ -478,10 +478,12 @@ pub fn schema_at<F: Files, X: Write>(
     errors: &mut X,
 ) -> Result<Result<Schema, u8>, RunError>
     ensures means { IfOk result (λ found. IfOk found (λ schema.
-        MeansAll (places_of (F.disk files.now) folders.now) (file_named_lem word.now)
+        MeansAll (spec.places_of (F.disk files.now) folders.now) (including_spec.file_named
+        word.now)
         (Some schema) (X.contents errors.old) (X.contents errors.new))) }
     ensures none { IfOk result (λ found. IfErr found (λ status.
-        HasNoSchema (places_of (F.disk files.now) folders.now) (file_named_lem word.now) status
+        HasNoSchema (spec.places_of (F.disk files.now) folders.now) (including_spec.file_named
+        word.now) status
         (X.contents errors.old) (X.contents errors.new))) }
 {
     let name = file_named(alloc, word)?;
@@ -497,12 +499,14 @@ pub(crate) fn meaning_at<F: Files, X: Write>(
     errors: &mut X,
 ) -> Result<Result<Meaning, u8>, RunError>
     ensures means { IfOk result (λ found. IfOk found (λ meaning.
-        HasMeaning (places_of (F.disk files.now) folders.now) (file_named_lem word.now) meaning
+        HasMeaning (spec.places_of (F.disk files.now) folders.now) (including_spec.file_named
+        word.now) meaning
         (X.contents errors.old) (X.contents errors.new))) }
     ensures spelled { IfOk result (λ found. IfOk found (λ meaning.
         AreSpelled meaning.files.items meaning.declarations.items)) }
     ensures none { IfOk result (λ found. IfErr found (λ status.
-        HasNoSchema (places_of (F.disk files.now) folders.now) (file_named_lem word.now) status
+        HasNoSchema (spec.places_of (F.disk files.now) folders.now) (including_spec.file_named
+        word.now) status
         (X.contents errors.old) (X.contents errors.new))) }
 {
     let name = file_named(alloc, word)?;
@@ -517,8 +521,9 @@ pub fn check_at<F: Files, X: Write>(
     word: &str,
     errors: &mut X,
 ) -> Result<u8, RunError>
-    ensures { IfOk result (λ status. ChecksFile (places_of (F.disk files.now) folders.now)
-        (file_named_lem word.now) status (X.contents errors.old) (X.contents errors.new)) }
+    ensures { IfOk result (λ status. ChecksFile (spec.places_of (F.disk files.now) folders.now)
+        (including_spec.file_named word.now) status (X.contents errors.old)
+        (X.contents errors.new)) }
 {
     let name = file_named(alloc, word)?;
     check_file(files, alloc, folders, name.as_str(), errors)

@@ -2,14 +2,7 @@
 
 ghost use Rattle.std.specs.Prelude.{◌≡◌, ◌<◌, map, IfSome};
 ghost use Rattle.planus_resolve.specs.Faults.{placed_of};
-ghost use Rattle.planus_cli.specs.Spots.{part_left as part_left_lem};
-ghost use Rattle.planus_cli.specs.Spots.{word_left as word_left_lem};
-ghost use Rattle.planus_cli.specs.Spots.{spot_if as spot_if_lem};
-ghost use Rattle.planus_cli.specs.Spots.{declared_spot as declared_spot_lem};
-ghost use Rattle.planus_cli.specs.Spots.{is_stated as is_stated_lem};
-ghost use Rattle.planus_cli.specs.Spots.{stated_left as stated_left_lem};
-ghost use Rattle.planus_cli.specs.Spots.{stated_spot as stated_spot_lem};
-ghost use Rattle.planus_cli.specs.Spots.{spot_of as spot_of_lem};
+ghost use Rattle.planus_cli.specs.Spots as spec;
 
 use crate::parts::Word;
 use planus_conform::Place;
@@ -25,7 +18,7 @@ pub struct Spot {
 
 /// Returns where a field, a value or a member is.
 fn part_left(item: &Item, index: usize) -> Option<usize>
-    ensures { result ≡ part_left_lem item.now index }
+    ensures { result ≡ spec.part_left item.now index }
 {
     match item {
         Item::Table(record) | Item::Struct(record) => match record.fields.get(index) {
@@ -46,7 +39,7 @@ fn part_left(item: &Item, index: usize) -> Option<usize>
 
 /// Returns where the part of a declaration is, or else its name, the word after its first.
 fn word_left(declaration: &Declaration, part: Option<usize>) -> usize
-    ensures { result ≡ word_left_lem declaration.now part }
+    ensures { result ≡ spec.word_left declaration.now part }
 {
     let name = declaration.left.saturating_sub(1);
     match part {
@@ -60,7 +53,7 @@ fn word_left(declaration: &Declaration, part: Option<usize>) -> usize
 
 /// Returns the spot, if there are more files than its index.
 fn spot_if(count: usize, file: usize, left: usize) -> Option<Spot>
-    ensures { result ≡ spot_if_lem count file left }
+    ensures { result ≡ spec.spot_if count file left }
 {
     if file < count {
         Some(Spot { file, left })
@@ -70,7 +63,7 @@ fn spot_if(count: usize, file: usize, left: usize) -> Option<Spot>
 }
 
 fn declared_spot(count: usize, heads: &[Head<'_>], word: Word) -> Option<Spot>
-    ensures { result ≡ declared_spot_lem count (map placed_of heads.now) word }
+    ensures { result ≡ spec.declared_spot count (map placed_of heads.now) word }
 {
     match word.declaration {
         Some(index) => match heads.get(index) {
@@ -83,7 +76,7 @@ fn declared_spot(count: usize, heads: &[Head<'_>], word: Word) -> Option<Spot>
 
 /// Whether an item is the statement that a place names.
 fn is_stated(place: Place, item: &Item) -> bool
-    ensures { result ≡ is_stated_lem place item.now }
+    ensures { result ≡ spec.is_stated place item.now }
 {
     match (place, item) {
         (Place::Root, Item::RootType(_)) => true,
@@ -94,7 +87,7 @@ fn is_stated(place: Place, item: &Item) -> bool
 
 /// Returns where the last such statement is: the word after its first.
 fn stated_left(place: Place, declarations: &[Declaration]) -> Option<usize>
-    ensures { result ≡ stated_left_lem place declarations.now }
+    ensures { result ≡ spec.stated_left place declarations.now }
 {
     let mut found = None;
     'declarations: for declaration in declarations {
@@ -107,7 +100,7 @@ fn stated_left(place: Place, declarations: &[Declaration]) -> Option<usize>
 
 /// Returns where the last file has the statement.
 fn stated_spot(count: usize, files: &[Vec<Declaration>], place: Place) -> Option<Spot>
-    ensures { result ≡ stated_spot_lem count files.now place }
+    ensures { result ≡ spec.stated_spot count files.now place }
 {
     let file = files.len().saturating_sub(1);
     match files.get(file) {
@@ -127,7 +120,7 @@ pub(crate) fn spot_of(
     word: Word,
     place: Place,
 ) -> Option<Spot>
-    ensures spot { result ≡ spot_of_lem count files.now (map placed_of heads.now) word place }
+    ensures spot { result ≡ spec.spot_of count files.now (map placed_of heads.now) word place }
     ensures within { IfSome result (λ spot. spot.file < count) }
 {
     match declared_spot(count, heads, word) {

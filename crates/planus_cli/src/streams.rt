@@ -3,7 +3,7 @@
 ghost use Rattle.std.specs.Prelude.{◌≡◌, ◌+◌, take, IfOk, IfErr, IfSome, OnOk, OnErr};
 ghost use Rattle.std.specs.Io.KnownBytes.{Appends};
 ghost use Rattle.planus_dump.specs.Writing.{WritesBeginning};
-ghost use Rattle.planus_cli.specs.Outcomes.{greatest_text, line_of, reason_of as reason_lem};
+ghost use Rattle.planus_cli.specs.Outcomes as spec;
 
 use crate::file_error::FileError;
 use crate::shown::put_shown;
@@ -43,7 +43,7 @@ impl From<AllocError> for RunError {
 /// Returns the bytes of a text, at most one more than [`GREATEST_TEXT`].
 pub fn read_all<R: Read>(alloc: Global, reader: &mut R) -> Result<Vec<u8>, FileError>
     ensures { IfOk result (λ text. IfSome (R.remaining reader.old)
-        (λ bytes. text.items ≡ take (greatest_text + 1) bytes)) }
+        (λ bytes. text.items ≡ take (spec.greatest_text + 1) bytes)) }
 {
     let mut text = Vec::new(alloc);
     match reader.take(MOST_READ).read_to_end(&mut text) {
@@ -67,7 +67,7 @@ pub fn write_out<W: Write>(writer: &mut W, bytes: &[u8]) -> Result<(), RunError>
 }
 
 fn line(alloc: Global, before: &str, name: &str, after: &str) -> Result<Vec<u8>, AllocError>
-    ensures { IfOk result (λ line. line.items ≡ line_of before.now name.now after.now) }
+    ensures { IfOk result (λ line. line.items ≡ spec.line_of before.now name.now after.now) }
 {
     let mut line = Vec::from_slice(alloc, b"planus: ")?;
     line.extend_from_slice(before.as_bytes())?;
@@ -86,8 +86,8 @@ pub fn say<X: Write>(
     after: &str,
 ) -> Result<(), RunError>
     ensures said { OnOk result (Appends (X.contents errors.old) (X.contents errors.new)
-        (line_of before.now name.now after.now)) }
-    ensures begun { OnErr result (WritesBeginning (line_of before.now name.now after.now)
+        (spec.line_of before.now name.now after.now)) }
+    ensures begun { OnErr result (WritesBeginning (spec.line_of before.now name.now after.now)
         (X.contents errors.old) (X.contents errors.new)) }
 {
     let line = line(alloc, before, name, after)?;
@@ -97,7 +97,7 @@ pub fn say<X: Write>(
 
 /// Returns what is written where a call fails.
 pub fn reason_of(error: RunError) -> &'static str
-    ensures { result.now ≡ reason_lem error }
+    ensures { result.now ≡ spec.reason_of error }
 {
     match error {
         RunError::OutOfMemory => "planus: out of memory\n",

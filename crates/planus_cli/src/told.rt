@@ -7,14 +7,8 @@ ghost use Rattle.planus_resolve.specs.Faults.{placed_of, placed_from};
 ghost use Rattle.planus_cli.specs.Changes.{saying_view};
 ghost use Rattle.planus_cli.specs.Checks.{AreSpelled};
 ghost use Rattle.planus_cli.specs.Outcomes.{HasTokens};
-ghost use Rattle.planus_cli.specs.Spots.{spot_of_word as spot_of_word_lem};
-ghost use Rattle.planus_cli.specs.Telling.{saying_at as saying_at_lem};
-ghost use Rattle.planus_cli.specs.Telling.{message_at as message_at_lem};
-ghost use Rattle.planus_cli.specs.Telling.{kind_json, names_json, texts_json};
-ghost use Rattle.planus_cli.specs.Telling.{places_json, change_json as change_json_lem};
-ghost use Rattle.planus_cli.specs.Telling.{change_at as change_at_lem, text_of as text_of_lem};
-ghost use Rattle.planus_cli.specs.Telling.{ReportsIn, ReportsBoth, IsPlaceIn, IsPlaceOrNull};
-ghost use Rattle.planus_cli.specs.Telling.{IsLine, TellsAt, TellsBreak, TellsBreaks};
+ghost use Rattle.planus_cli.specs.Spots as spots_spec;
+ghost use Rattle.planus_cli.specs.Telling as spec;
 
 use crate::changes::{BEFORE, Saying, message_of, saying_of};
 use crate::check::File;
@@ -36,7 +30,7 @@ fn spot_report(
 ) -> Result<Vec<u8>, AllocError>
     requires within { spot.file < length files.now }
     requires tokens { All (λ f. HasTokens f.text.items) files.now }
-    ensures { IfOk result (λ out. ReportsIn files.now spot message.now out.items) }
+    ensures { IfOk result (λ out. spec.ReportsIn files.now spot message.now out.items) }
 {
     let file = &files[spot.file];
     placed_report(alloc, file.name.as_str(), &file.text, spot.left, message)
@@ -55,7 +49,7 @@ fn both_reports(
     requires old { All (λ f. HasTokens f.text.items) old.now }
     requires after { after.file < length new.now }
     requires new { All (λ f. HasTokens f.text.items) new.now }
-    ensures { IfOk result (λ out. ReportsBoth old.now (Some before) new.now (Some after)
+    ensures { IfOk result (λ out. spec.ReportsBoth old.now (Some before) new.now (Some after)
         message.now out.items) }
 {
     let mut out = spot_report(alloc, new, after, message)?;
@@ -85,7 +79,8 @@ fn spots_report(
     requires old { All (λ f. HasTokens f.text.items) old.now }
     requires after { IfSome after (λ spot. spot.file < length new.now) }
     requires new { All (λ f. HasTokens f.text.items) new.now }
-    ensures { IfOk result (λ out. ReportsBoth old.now before new.now after message.now out.items) }
+    ensures { IfOk result (λ out. spec.ReportsBoth old.now before new.now after message.now
+        out.items) }
 {
     match (before, after) {
         (Some(before), Some(after)) => both_reports(alloc, old, before, new, after, message),
@@ -97,7 +92,7 @@ fn spots_report(
 
 /// Returns what is said of a break whose word in the new schema is this.
 fn saying_at(new: &Schema, after: Word, one: Break) -> Saying
-    ensures { saying_view result ≡ saying_at_lem new.now after one }
+    ensures { saying_view result ≡ spec.saying_at new.now after one }
 {
     saying_of(one.change, one.place, is_needed(&new.declarations, after))
 }
@@ -111,7 +106,7 @@ fn message_at(
     after: Word,
     one: Break,
 ) -> Result<Vec<u8>, AllocError>
-    ensures { IfOk result (λ text. text.items ≡ message_at_lem old.now before new.now after one) }
+    ensures { IfOk result (λ text. text.items ≡ spec.message_at old.now before new.now after one) }
 {
     let name = subject(old, before, new, after, one.place);
     message_of(alloc, saying_at(new, after, one), name)
@@ -119,7 +114,7 @@ fn message_at(
 
 fn spot_of_word(meaning: &Meaning, heads: &[Head<'_>], word: Word, place: Place) -> Option<Spot>
     requires { map placed_of heads.now ≡ placed_from 0 meaning.now.declarations.items }
-    ensures spot { result ≡ spot_of_word_lem meaning.now word place }
+    ensures spot { result ≡ spots_spec.spot_of_word meaning.now word place }
     ensures within { IfSome result (λ spot. spot.file < length meaning.now.files.items) }
 {
     spot_of(
@@ -135,7 +130,7 @@ fn spot_of_word(meaning: &Meaning, heads: &[Head<'_>], word: Word, place: Place)
 fn spot_json(alloc: Global, files: &[File], spot: Spot) -> Result<Vec<u8>, AllocError>
     requires within { spot.file < length files.now }
     requires tokens { All (λ f. HasTokens f.text.items) files.now }
-    ensures { IfOk result (λ json. IsPlaceIn files.now spot json.items) }
+    ensures { IfOk result (λ json. spec.IsPlaceIn files.now spot json.items) }
 {
     let file = &files[spot.file];
     let at = place_of(alloc, &file.text, spot.left)?;
@@ -145,7 +140,7 @@ fn spot_json(alloc: Global, files: &[File], spot: Spot) -> Result<Vec<u8>, Alloc
 fn spot_or_null(alloc: Global, files: &[File], spot: Option<Spot>) -> Result<Vec<u8>, AllocError>
     requires within { IfSome spot (λ spot. spot.file < length files.now) }
     requires tokens { All (λ f. HasTokens f.text.items) files.now }
-    ensures { IfOk result (λ json. IsPlaceOrNull files.now spot json.items) }
+    ensures { IfOk result (λ json. spec.IsPlaceOrNull files.now spot json.items) }
 {
     match spot {
         Some(spot) => spot_json(alloc, files, spot),
@@ -154,7 +149,7 @@ fn spot_or_null(alloc: Global, files: &[File], spot: Option<Spot>) -> Result<Vec
 }
 
 fn put_kind(json: &mut Vec<u8>, saying: Saying) -> Result<(), AllocError>
-    ensures { OnOk result (json.new.items ≡ json.old.items ++ kind_json (saying_view saying)) }
+    ensures { OnOk result (json.new.items ≡ json.old.items ++ spec.kind_json (saying_view saying)) }
 {
     json.extend_from_slice(b"{\"change\":")?;
     put_text(json, saying.word.as_bytes())?;
@@ -167,7 +162,7 @@ fn put_names(
     declaration: Option<&[u8]>,
     part: Option<&[u8]>,
 ) -> Result<(), AllocError>
-    ensures { OnOk result (json.new.items ≡ json.old.items ++ names_json
+    ensures { OnOk result (json.new.items ≡ json.old.items ++ spec.names_json
         (option_map (λ w. w.now) declaration.entry) (option_map (λ w. w.now) part.entry)) }
 {
     json.extend_from_slice(b",\"declaration\":")?;
@@ -177,7 +172,8 @@ fn put_names(
 }
 
 fn put_texts(json: &mut Vec<u8>, message: &[u8], advice: &str) -> Result<(), AllocError>
-    ensures { OnOk result (json.new.items ≡ json.old.items ++ texts_json message.now advice.now) }
+    ensures { OnOk result (json.new.items ≡ json.old.items ++ spec.texts_json message.now
+        advice.now) }
 {
     json.extend_from_slice(b",\"message\":")?;
     put_text(json, message)?;
@@ -186,7 +182,7 @@ fn put_texts(json: &mut Vec<u8>, message: &[u8], advice: &str) -> Result<(), All
 }
 
 fn put_places(json: &mut Vec<u8>, new: &[u8], old: &[u8]) -> Result<(), AllocError>
-    ensures { OnOk result (json.new.items ≡ json.old.items ++ places_json new.now old.now) }
+    ensures { OnOk result (json.new.items ≡ json.old.items ++ spec.places_json new.now old.now) }
 {
     json.extend_from_slice(b",\"new\":")?;
     json.extend_from_slice(new)?;
@@ -204,7 +200,7 @@ fn change_json(
     part: Option<&[u8]>,
     message: &[u8],
 ) -> Result<Vec<u8>, AllocError>
-    ensures { IfOk result (λ json. json.items ≡ change_json_lem (saying_view saying)
+    ensures { IfOk result (λ json. json.items ≡ spec.change_json (saying_view saying)
         (option_map (λ w. w.now) declaration.entry) (option_map (λ w. w.now) part.entry)
         message.now) }
 {
@@ -224,7 +220,7 @@ fn change_at(
     after: Word,
     one: Break,
 ) -> Result<Vec<u8>, AllocError>
-    ensures { IfOk result (λ json. json.items ≡ change_at_lem old.now before new.now after one) }
+    ensures { IfOk result (λ json. json.items ≡ spec.change_at old.now before new.now after one) }
 {
     let message = message_at(alloc, old, before, new, after, one)?;
     let declaration = declaration_told(old, before, new, after);
@@ -249,7 +245,7 @@ fn text_of(
     one: Break,
 ) -> Result<Vec<u8>, AllocError>
     ensures { IfOk result (λ text. text.items
-        ≡ text_of_lem json old.now before new.now after one) }
+        ≡ spec.text_of json old.now before new.now after one) }
 {
     if json {
         change_at(alloc, old, before, new, after, one)
@@ -271,7 +267,7 @@ fn spots_line(
     requires old { All (λ f. HasTokens f.text.items) old.now }
     requires after { IfSome after (λ spot. spot.file < length new.now) }
     requires new { All (λ f. HasTokens f.text.items) new.now }
-    ensures { IfOk result (λ out. IsLine old.now before new.now after change.now out.items) }
+    ensures { IfOk result (λ out. spec.IsLine old.now before new.now after change.now out.items) }
 {
     let mut line = Vec::from_slice(alloc, change)?;
     let new_place = spot_or_null(alloc, new, after)?;
@@ -294,7 +290,7 @@ fn spots_told(
     requires old { All (λ f. HasTokens f.text.items) old.now }
     requires after { IfSome after (λ spot. spot.file < length new.now) }
     requires new { All (λ f. HasTokens f.text.items) new.now }
-    ensures { IfOk result (λ out. TellsAt json old.now before new.now after text.now out.items) }
+    ensures { IfOk result (λ out. spec.TellsAt json old.now before new.now after text.now out.items) }
 {
     if json {
         spots_line(alloc, old, before, new, after, text)
@@ -318,7 +314,7 @@ fn break_told(
     requires new_heads { map placed_of new_heads.now ≡ placed_from 0 new.now.declarations.items }
     requires old { All (λ f. HasTokens f.text.items) old.now.files.items }
     requires new { All (λ f. HasTokens f.text.items) new.now.files.items }
-    ensures { IfOk result (λ out. TellsBreak json renames.now old.now new.now one out.items) }
+    ensures { IfOk result (λ out. spec.TellsBreak json renames.now old.now new.now one out.items) }
 {
     let before = old_word(&old.schema.declarations, one);
     let after = new_word(
@@ -348,7 +344,7 @@ fn all_told(
     requires new_heads { map placed_of new_heads.now ≡ placed_from 0 new.now.declarations.items }
     requires old { All (λ f. HasTokens f.text.items) old.now.files.items }
     requires new { All (λ f. HasTokens f.text.items) new.now.files.items }
-    ensures { IfOk result (λ out. TellsBreaks json renames.now old.now new.now breaks.now
+    ensures { IfOk result (λ out. spec.TellsBreaks json renames.now old.now new.now breaks.now
         out.items) }
 {
     let mut out = Vec::new(alloc);
@@ -371,7 +367,7 @@ pub(crate) fn told(
 ) -> Result<Vec<u8>, AllocError>
     requires old { AreSpelled old.now.files.items old.now.declarations.items }
     requires new { AreSpelled new.now.files.items new.now.declarations.items }
-    ensures { IfOk result (λ out. TellsBreaks json renames.now old.now new.now breaks.now
+    ensures { IfOk result (λ out. spec.TellsBreaks json renames.now old.now new.now breaks.now
         out.items) }
 {
     let old_heads = heads_of(alloc, &old.declarations)?;

@@ -3,21 +3,8 @@
 ghost use Rattle.std.specs.Prelude.{◌≡◌, ℕ, List, MatchOption, IfOk, IfErr, OnOk, OnErr, position};
 ghost use Rattle.std.specs.Option.{option_map};
 ghost use Rattle.std.specs.Io.KnownBytes.{Appends};
-ghost use Rattle.planus_cli.specs.Buffers.{is_table_named as is_table_named_lem};
-ghost use Rattle.planus_cli.specs.Buffers.{root_of as root_lem, no_root_text};
-ghost use Rattle.planus_cli.specs.Buffers.{has_identifier as has_identifier_lem};
-ghost use Rattle.planus_cli.specs.Buffers.{other_identifier_text, ChecksIdentifier, limit_of};
-ghost use Rattle.planus_cli.specs.Buffers.{look_of, ViewsOne, ViewsSized, ViewsBytes, ViewsBy};
-ghost use Rattle.planus_cli.specs.Buffers.{one_of as one_of_lem, cut_one as cut_one_lem};
-ghost use Rattle.planus_cli.specs.Buffers.{ViewsAlone, ViewsNext, FailsNext, header_text};
-ghost use Rattle.planus_cli.specs.Buffers.{ReadsRoot, ReadsFirst, Advises, FailsAdvising};
-ghost use Rattle.planus_cli.specs.Buffers.{Views, FailsViews, ViewsAdvised, FailsAdvised};
-ghost use Rattle.planus_cli.specs.Buffers.{advice_of as advice_of_lem};
-ghost use Rattle.planus_cli.specs.Buffers.{lead_view, lead_of, look_left};
-ghost use Rattle.planus_cli.specs.Buffers.{limit_reached as limit_reached_lem};
-ghost use Rattle.planus_cli.specs.Buffers.{limits_after as limits_after_lem};
-ghost use Rattle.planus_cli.specs.Buffers.{FailsIdentifier, FailsOne, FailsSized, FailsBytes};
-ghost use Rattle.planus_cli.specs.Buffers.{FailsBy};
+ghost use Rattle.planus_cli.specs.Buffers as spec;
+ghost use Rattle.planus_cli.specs.Buffers.{Views};
 ghost use Rattle.planus_dump.specs.Writing.{WritesBeginning};
 ghost use Rattle.planus_cli.specs.Arguments.{words_of};
 ghost use Rattle.planus_cli.specs.Running.{ViewsFile, ViewsPair, ViewsFiles};
@@ -46,7 +33,7 @@ const BYTES: usize = 1048576;
 const IDENTIFIER: usize = 4;
 
 fn limit(word: Option<&str>, otherwise: usize) -> usize
-    ensures { result ≡ limit_of (option_map (λ w. w.now) word.entry) otherwise }
+    ensures { result ≡ spec.limit_of (option_map (λ w. w.now) word.entry) otherwise }
 {
     match word {
         Some(word) => number_of(word).unwrap_or(otherwise),
@@ -55,13 +42,13 @@ fn limit(word: Option<&str>, otherwise: usize) -> usize
 }
 
 fn is_table_named(declared: &Declared, name: &str) -> bool
-    ensures { result ≡ is_table_named_lem name.now declared.now }
+    ensures { result ≡ spec.is_table_named name.now declared.now }
 {
     matches!(declared.body, Body::Table(_)) && declared.name.as_slice() == name.as_bytes()
 }
 
 fn table_named(declared: &[Declared], name: &str) -> Option<usize>
-    ensures { result ≡ position (is_table_named_lem name.now) declared.now }
+    ensures { result ≡ position (spec.is_table_named name.now) declared.now }
 {
     let mut n = 0;
     'declared: while n < declared.len() && !is_table_named(&declared[n], name) {
@@ -71,7 +58,7 @@ fn table_named(declared: &[Declared], name: &str) -> Option<usize>
 }
 
 fn root_of(schema: &Schema, root: Option<&str>) -> Option<usize>
-    ensures { result ≡ root_lem schema.now (option_map (λ name. name.now) root.entry) }
+    ensures { result ≡ spec.root_of schema.now (option_map (λ name. name.now) root.entry) }
 {
     match root {
         Some(name) => table_named(&schema.declarations, name),
@@ -81,9 +68,9 @@ fn root_of(schema: &Schema, root: Option<&str>) -> Option<usize>
 
 fn say_no_root<X: Write>(alloc: Global, root: Option<&str>, errors: &mut X) -> Result<(), RunError>
     ensures said { OnOk result (Appends (X.contents errors.old) (X.contents errors.new)
-        (no_root_text (option_map (λ name. name.now) root.entry))) }
+        (spec.no_root_text (option_map (λ name. name.now) root.entry))) }
     ensures begun { OnErr result (WritesBeginning
-        (no_root_text (option_map (λ name. name.now) root.entry))
+        (spec.no_root_text (option_map (λ name. name.now) root.entry))
         (X.contents errors.old) (X.contents errors.new)) }
 {
     match root {
@@ -93,7 +80,7 @@ fn say_no_root<X: Write>(alloc: Global, root: Option<&str>, errors: &mut X) -> R
 }
 
 fn has_identifier(bytes: &[u8], identifier: &[u8]) -> bool
-    ensures { result ≡ has_identifier_lem identifier.now bytes.now }
+    ensures { result ≡ spec.has_identifier identifier.now bytes.now }
 {
     match bytes.get(IDENTIFIER..IDENTIFIER + 4) {
         Some(found) => found == identifier,
@@ -103,7 +90,7 @@ fn has_identifier(bytes: &[u8], identifier: &[u8]) -> bool
 
 fn other_identifier(alloc: Global, name: &str, identifier: &[u8]) -> Result<Vec<u8>, AllocError>
     ensures { IfOk result (λ text. text.items
-        ≡ other_identifier_text name.now identifier.now) }
+        ≡ spec.other_identifier_text name.now identifier.now) }
 {
     let mut text = Vec::from_slice(alloc, b"planus: ")?;
     put_shown(&mut text, name.as_bytes())?;
@@ -120,10 +107,10 @@ fn check_identifier<X: Write>(
     bytes: &[u8],
     errors: &mut X,
 ) -> Result<bool, RunError>
-    ensures told { IfOk result (λ known. ChecksIdentifier
+    ensures told { IfOk result (λ known. spec.ChecksIdentifier
         (option_map (λ v. v.items) schema.now.statements.identifier) name.now bytes.now known
         (X.contents errors.old) (X.contents errors.new)) }
-    ensures failed { OnErr result (FailsIdentifier
+    ensures failed { OnErr result (spec.FailsIdentifier
         (option_map (λ v. v.items) schema.now.statements.identifier) name.now bytes.now
         (X.contents errors.old) (X.contents errors.new)) }
 {
@@ -166,7 +153,7 @@ struct One {
 }
 
 fn one_of(known: bool, seen: Seen) -> One
-    ensures { result ≡ one_of_lem known seen }
+    ensures { result ≡ spec.one_of known seen }
 {
     One {
         status: if known && is_clean(seen) {
@@ -189,10 +176,10 @@ fn view_one<W: Write, X: Write>(
     writer: &mut W,
     errors: &mut X,
 ) -> Result<One, RunError>
-    ensures views { IfOk result (λ one. ViewsOne (look_of view.now) bytes.now one
+    ensures views { IfOk result (λ one. spec.ViewsOne (spec.look_of view.now) bytes.now one
         (W.contents writer.old) (W.contents writer.new)
         (X.contents errors.old) (X.contents errors.new)) }
-    ensures failed { IfErr result (λ error. FailsOne (look_of view.now) bytes.now error
+    ensures failed { IfErr result (λ error. spec.FailsOne (spec.look_of view.now) bytes.now error
         (W.contents writer.old) (W.contents writer.new)
         (X.contents errors.old) (X.contents errors.new)) }
 {
@@ -208,10 +195,10 @@ fn view_alone<W: Write, X: Write>(
     writer: &mut W,
     errors: &mut X,
 ) -> Result<u8, RunError>
-    ensures views { IfOk result (λ status. ViewsAlone (look_of view.now) bytes.now status
+    ensures views { IfOk result (λ status. spec.ViewsAlone (spec.look_of view.now) bytes.now status
         (W.contents writer.old) (W.contents writer.new)
         (X.contents errors.old) (X.contents errors.new)) }
-    ensures failed { IfErr result (λ error. FailsOne (look_of view.now) bytes.now error
+    ensures failed { IfErr result (λ error. spec.FailsOne (spec.look_of view.now) bytes.now error
         (W.contents writer.old) (W.contents writer.new)
         (X.contents errors.old) (X.contents errors.new)) }
 {
@@ -223,7 +210,7 @@ fn view_alone<W: Write, X: Write>(
 
 /// Returns the line before a buffer, without its line feed.
 fn header(alloc: Global, number: usize, at: usize) -> Result<Vec<u8>, AllocError>
-    ensures { IfOk result (λ text. text.items ≡ header_text number at) }
+    ensures { IfOk result (λ text. text.items ≡ spec.header_text number at) }
 {
     let mut text = Vec::from_slice(alloc, b"buffer ")?;
     text.extend_from_slice(format!(in alloc; "{number}")?.as_bytes())?;
@@ -235,7 +222,7 @@ fn header(alloc: Global, number: usize, at: usize) -> Result<Vec<u8>, AllocError
 
 /// Returns which limit has no room for a line.
 fn limit_reached(limits: Limits, line: &[u8]) -> Option<End>
-    ensures { result ≡ limit_reached_lem limits line.now }
+    ensures { result ≡ spec.limit_reached limits line.now }
 {
     if limits.lines == 0 {
         Some(End::TooManyLines)
@@ -248,7 +235,7 @@ fn limit_reached(limits: Limits, line: &[u8]) -> Option<End>
 
 /// Returns what is left of the limits after a line.
 fn limits_after(limits: Limits, line: &[u8]) -> Limits
-    ensures { result ≡ limits_after_lem limits line.now }
+    ensures { result ≡ spec.limits_after limits line.now }
 {
     Limits {
         lines: limits.lines.saturating_sub(1),
@@ -268,7 +255,8 @@ struct Lead {
 
 /// Returns the line before a buffer, or why no more follows if it has no room.
 fn lead_before(alloc: Global, limits: Limits, number: usize, at: usize) -> Result<Lead, AllocError>
-    ensures { IfOk result (λ lead. lead_view lead ≡ lead_of limits (header_text number at)) }
+    ensures { IfOk result (λ lead. spec.lead_view lead ≡ spec.lead_of limits
+        (spec.header_text number at)) }
 {
     let mut text = header(alloc, number, at)?;
     if let Some(end) = limit_reached(limits, &text) {
@@ -298,10 +286,12 @@ fn view_next<W: Write, X: Write>(
     writer: &mut W,
     errors: &mut X,
 ) -> Result<One, RunError>
-    ensures views { IfOk result (λ one. ViewsNext (look_of view.now) (header_text number at)
+    ensures views { IfOk result (λ one. spec.ViewsNext (spec.look_of view.now)
+        (spec.header_text number at)
         bytes.now one (W.contents writer.old) (W.contents writer.new)
         (X.contents errors.old) (X.contents errors.new)) }
-    ensures failed { IfErr result (λ error. FailsNext (look_of view.now) (header_text number at)
+    ensures failed { IfErr result (λ error. spec.FailsNext (spec.look_of view.now)
+        (spec.header_text number at)
         bytes.now error (W.contents writer.old) (W.contents writer.new)
         (X.contents errors.old) (X.contents errors.new)) }
 {
@@ -315,7 +305,7 @@ fn view_next<W: Write, X: Write>(
 }
 
 fn cut_one(left: Limits) -> One
-    ensures { result ≡ cut_one_lem left }
+    ensures { result ≡ spec.cut_one left }
 {
     One {
         status: FAULTY,
@@ -325,7 +315,7 @@ fn cut_one(left: Limits) -> One
 }
 
 fn with_limits<'a>(view: &View<'a>, limits: Limits) -> View<'a>
-    ensures { look_of result ≡ look_left (look_of view.now) limits }
+    ensures { spec.look_of result ≡ spec.look_left (spec.look_of view.now) limits }
 {
     View {
         schema: view.schema,
@@ -343,11 +333,11 @@ fn view_sized<W: Write, X: Write>(
     errors: &mut X,
 ) -> Result<u8, RunError>
     ensures views { IfOk result (λ status. (buffers : List (List ℕ))
-        × ViewsSized (look_of view.now) 0 0 buffers bytes.now 0 status
+        × spec.ViewsSized (spec.look_of view.now) 0 0 buffers bytes.now 0 status
         (W.contents writer.old) (W.contents writer.new)
         (X.contents errors.old) (X.contents errors.new)) }
     ensures failed { IfErr result (λ error. (buffers : List (List ℕ))
-        × FailsSized (look_of view.now) 0 0 buffers bytes.now error
+        × spec.FailsSized (spec.look_of view.now) 0 0 buffers bytes.now error
         (W.contents writer.old) (W.contents writer.new)
         (X.contents errors.old) (X.contents errors.new)) }
 {
@@ -384,10 +374,11 @@ fn view_held<W: Write, X: Write>(
     writer: &mut W,
     errors: &mut X,
 ) -> Result<u8, RunError>
-    ensures views { IfOk result (λ status. Views prefixed (look_of view.now) bytes.now status
+    ensures views { IfOk result (λ status. Views prefixed (spec.look_of view.now) bytes.now status
         (W.contents writer.old) (W.contents writer.new)
         (X.contents errors.old) (X.contents errors.new)) }
-    ensures failed { IfErr result (λ error. FailsViews prefixed (look_of view.now) bytes.now error
+    ensures failed { IfErr result (λ error. spec.FailsViews prefixed (spec.look_of view.now)
+        bytes.now error
         (W.contents writer.old) (W.contents writer.new)
         (X.contents errors.old) (X.contents errors.new)) }
 {
@@ -400,7 +391,7 @@ fn view_held<W: Write, X: Write>(
 
 /// Returns whether a table can be read at the root.
 fn reads_root(alloc: Global, schema: &planus_dump::Schema, bytes: &[u8]) -> Result<bool, RunError>
-    ensures { IfOk result (λ reads. ReadsRoot schema.now bytes.now reads) }
+    ensures { IfOk result (λ reads. spec.ReadsRoot schema.now bytes.now reads) }
 {
     let mut first = Vec::new(alloc);
     let seen = view(alloc, schema, bytes, 1, usize::MAX, &mut first)?;
@@ -410,7 +401,7 @@ fn reads_root(alloc: Global, schema: &planus_dump::Schema, bytes: &[u8]) -> Resu
 /// Returns whether bytes begin with a size and a buffer of this size at whose root a table can be
 /// read.
 fn reads_first(alloc: Global, schema: &planus_dump::Schema, bytes: &[u8]) -> Result<bool, RunError>
-    ensures { IfOk result (λ reads. ReadsFirst schema.now bytes.now reads) }
+    ensures { IfOk result (λ reads. spec.ReadsFirst schema.now bytes.now reads) }
 {
     match split_sized(bytes) {
         Some((buffer, _)) => reads_root(alloc, schema, buffer),
@@ -419,7 +410,7 @@ fn reads_first(alloc: Global, schema: &planus_dump::Schema, bytes: &[u8]) -> Res
 }
 
 fn advice_of(prefixed: bool, whole: bool, first: bool) -> Option<&'static str>
-    ensures { option_map (λ w. w.now) result ≡ advice_of_lem prefixed whole first }
+    ensures { option_map (λ w. w.now) result ≡ spec.advice_of prefixed whole first }
 {
     match (prefixed, whole, first) {
         (false, false, true) => Some(" may hold buffers, each after its size; see --size-prefixed"),
@@ -436,9 +427,9 @@ fn advise<X: Write>(
     bytes: &[u8],
     errors: &mut X,
 ) -> Result<(), RunError>
-    ensures said { OnOk result (Advises (look_of view.now) prefixed bytes.now
+    ensures said { OnOk result (spec.Advises (spec.look_of view.now) prefixed bytes.now
         (X.contents errors.old) (X.contents errors.new)) }
-    ensures failed { OnErr result (FailsAdvising (look_of view.now) prefixed bytes.now
+    ensures failed { OnErr result (spec.FailsAdvising (spec.look_of view.now) prefixed bytes.now
         (X.contents errors.old) (X.contents errors.new)) }
 {
     let whole = reads_root(alloc, view.shown, bytes)?;
@@ -457,10 +448,12 @@ fn view_advised<W: Write, X: Write>(
     writer: &mut W,
     errors: &mut X,
 ) -> Result<u8, RunError>
-    ensures views { IfOk result (λ status. ViewsAdvised prefixed (look_of view.now) bytes.now status
+    ensures views { IfOk result (λ status. spec.ViewsAdvised prefixed (spec.look_of view.now)
+        bytes.now status
         (W.contents writer.old) (W.contents writer.new)
         (X.contents errors.old) (X.contents errors.new)) }
-    ensures failed { IfErr result (λ error. FailsAdvised prefixed (look_of view.now) bytes.now error
+    ensures failed { IfErr result (λ error. spec.FailsAdvised prefixed
+        (spec.look_of view.now) bytes.now error
         (W.contents writer.old) (W.contents writer.new)
         (X.contents errors.old) (X.contents errors.new)) }
 {
@@ -491,10 +484,10 @@ pub fn view_bytes<W: Write, X: Write>(
     writer: &mut W,
     errors: &mut X,
 ) -> Result<u8, RunError>
-    ensures views { IfOk result (λ status. ViewsBytes schema.now how name.now bytes.now status
+    ensures views { IfOk result (λ status. spec.ViewsBytes schema.now how name.now bytes.now status
         (W.contents writer.old) (W.contents writer.new)
         (X.contents errors.old) (X.contents errors.new)) }
-    ensures failed { IfErr result (λ error. FailsBytes schema.now how name.now bytes.now error
+    ensures failed { IfErr result (λ error. spec.FailsBytes schema.now how name.now bytes.now error
         (W.contents writer.old) (W.contents writer.new)
         (X.contents errors.old) (X.contents errors.new)) }
 {
@@ -519,10 +512,10 @@ pub fn view_by<W: Write, X: Write>(
     writer: &mut W,
     errors: &mut X,
 ) -> Result<u8, RunError>
-    ensures views { IfOk result (λ status. ViewsBy schema.now (words_of words.now) name.now
+    ensures views { IfOk result (λ status. spec.ViewsBy schema.now (words_of words.now) name.now
         bytes.now status (W.contents writer.old) (W.contents writer.new)
         (X.contents errors.old) (X.contents errors.new)) }
-    ensures failed { IfErr result (λ error. FailsBy schema.now (words_of words.now) name.now
+    ensures failed { IfErr result (λ error. spec.FailsBy schema.now (words_of words.now) name.now
         bytes.now error (W.contents writer.old) (W.contents writer.new)
         (X.contents errors.old) (X.contents errors.new)) }
 {

@@ -1,10 +1,7 @@
 //! Buffers, shown by a schema.
 
 ghost use Rattle.std.specs.Prelude.{◌≡◌, IfOk, IfErr};
-ghost use Rattle.planus_cli.specs.Viewing.{end_text as end_lem};
-ghost use Rattle.planus_cli.specs.Viewing.{is_clean as is_clean_lem, WritesView};
-ghost use Rattle.planus_cli.specs.Viewing.{is_cut as is_cut_lem};
-ghost use Rattle.planus_cli.specs.Viewing.{FailsViewing};
+ghost use Rattle.planus_cli.specs.Viewing as spec;
 
 use crate::streams::{RunError, write_out};
 use planus_dump::{End, Schema, Seen, ViewError, view};
@@ -22,9 +19,9 @@ pub struct Limits {
 
 impl From<ViewError> for RunError {
     ghost use Rattle.std.specs.Prelude.{◌≡◌};
-    ghost use Rattle.planus_cli.specs.Viewing.{run_error};
+    ghost use Rattle.planus_cli.specs.Viewing as spec;
 
-    ghost from_gives = { λ error e. e ≡ run_error error };
+    ghost from_gives = { λ error e. e ≡ spec.run_error error };
 
     fn from(error: ViewError) -> RunError {
         match error {
@@ -36,7 +33,7 @@ impl From<ViewError> for RunError {
 }
 
 pub(crate) fn end_text(end: End) -> &'static str
-    ensures { result.now ≡ end_lem end }
+    ensures { result.now ≡ spec.end_text end }
 {
     match end {
         End::Whole => "",
@@ -48,14 +45,14 @@ pub(crate) fn end_text(end: End) -> &'static str
 
 /// Whether all is shown and no line states an error.
 pub(crate) fn is_clean(seen: Seen) -> bool
-    ensures { result ≡ is_clean_lem seen.end seen.has_fault }
+    ensures { result ≡ spec.is_clean seen.end seen.has_fault }
 {
     matches!(seen.end, End::Whole) && !seen.has_fault
 }
 
 /// Whether a limit was reached.
 pub(crate) fn is_cut(end: End) -> bool
-    ensures { result ≡ is_cut_lem end }
+    ensures { result ≡ spec.is_cut end }
 {
     matches!(end, End::TooManyLines | End::TooManyBytes)
 }
@@ -72,9 +69,10 @@ pub fn view_buffer<W: Write>(
     limits: Limits,
     writer: &mut W,
 ) -> Result<Seen, RunError>
-    ensures shown { IfOk result (λ seen. WritesView schema.now bytes.now limits.lines limits.bytes
+    ensures shown { IfOk result (λ seen. spec.WritesView schema.now bytes.now limits.lines
+        limits.bytes
         seen (W.contents writer.old) (W.contents writer.new)) }
-    ensures failed { IfErr result (λ error. FailsViewing schema.now bytes.now limits.lines
+    ensures failed { IfErr result (λ error. spec.FailsViewing schema.now bytes.now limits.lines
         limits.bytes error (W.contents writer.old) (W.contents writer.new)) }
 {
     let seen = view(alloc, schema, bytes, limits.lines, limits.bytes, writer)?;

@@ -1,23 +1,11 @@
 //! The names that code has for what a schema declares.
 
 ghost use Rattle.std.specs.Prelude.{◌≡◌, length, map, true, IfOk};
-ghost use Rattle.planus_schema.specs.Spelling.{all_member_names, member_names, names_in, said_in};
+ghost use Rattle.planus_schema.specs.Spelling as spec;
 ghost use Rattle.std.specs.List.{list_any};
-ghost use Rattle.planus_schema.specs.Distinct.{items_of, is_in as is_in_lem};
-ghost use Rattle.planus_codegen.specs.Known.{modules_of};
-ghost use Rattle.planus_codegen.specs.Known.{is_around as is_around_lem};
-ghost use Rattle.planus_codegen.specs.Known.{is_held_module as is_held_module_lem};
-ghost use Rattle.planus_codegen.specs.Known.{allowed_module as allowed_module_lem};
-ghost use Rattle.planus_codegen.specs.Known.{module_word as module_word_lem};
-ghost use Rattle.planus_codegen.specs.Known.{module_names as module_names_lem};
-ghost use Rattle.planus_codegen.specs.Known.{type_word as type_word_lem};
-ghost use Rattle.planus_codegen.specs.Known.{type_names as type_names_lem};
-ghost use Rattle.planus_schema.specs.Spelling.{member_spelled as member_spelled_lem};
-ghost use Rattle.planus_schema.specs.Spelling.{member_word as member_word_lem};
-ghost use Rattle.planus_schema.specs.Names.{are_names as are_names_lem};
-ghost use Rattle.planus_schema.specs.Names.{are_scopes as are_scopes_lem};
-ghost use Rattle.planus_schema.specs.Names.{are_apart as are_apart_lem};
-ghost use Rattle.planus_schema.specs.Names.{are_apart_from as are_apart_from_lem};
+ghost use Rattle.planus_schema.specs.Distinct as distinct_spec;
+ghost use Rattle.planus_codegen.specs.Known as known_spec;
+ghost use Rattle.planus_schema.specs.Names as names_spec;
 
 use crate::context::{count_in, member_in};
 use crate::known::{is_known_module, is_known_type};
@@ -59,7 +47,7 @@ pub(crate) fn namespace_around(name: &[u8]) -> &[u8] {
 
 // The last word of a full name, as a type.
 fn type_word(alloc: Global, name: &[u8]) -> Result<Vec<u8>, AllocError>
-    ensures { IfOk result (λ v. v.items ≡ type_word_lem name.now) }
+    ensures { IfOk result (λ v. v.items ≡ known_spec.type_word name.now) }
 {
     let mut word = capital(alloc, last_word(name))?;
     if is_known_type(&word) || is_held(&word) {
@@ -69,7 +57,7 @@ fn type_word(alloc: Global, name: &[u8]) -> Result<Vec<u8>, AllocError>
 }
 
 fn type_names(alloc: Global, declared: &[Declared]) -> Result<Vec<Vec<u8>>, AllocError>
-    ensures { IfOk result (λ v. names_in v ≡ type_names_lem declared.now) }
+    ensures { IfOk result (λ v. spec.names_in v ≡ known_spec.type_names declared.now) }
 {
     let mut names = Vec::new(alloc);
     let mut rest = declared;
@@ -95,25 +83,26 @@ fn place_names(alloc: Global, declared: &[Declared]) -> Result<Vec<Vec<u8>>, All
 }
 
 fn is_around(namespace: &[u8], name: &[u8]) -> bool
-    ensures { result ≡ is_around_lem namespace.now name.now }
+    ensures { result ≡ known_spec.is_around namespace.now name.now }
 {
     name.starts_with(namespace) && matches!(name.get(namespace.len()), Some(b'.'))
 }
 
 fn is_outermost(declared: &[Declared], name: &[u8]) -> bool
-    ensures { result ≡ list_any (λ d. is_around_lem name.now d.name.items) declared.now }
+    ensures { result ≡ list_any (λ d. known_spec.is_around name.now d.name.items) declared.now }
 {
     declared.iter().any(|one| is_around(name, &one.name))
 }
 
 fn is_type(types: &[Vec<u8>], name: &[u8]) -> bool
-    ensures { result ≡ is_in_lem (items_of types.now) name.now }
+    ensures { result ≡ distinct_spec.is_in (distinct_spec.items_of types.now) name.now }
 {
     is_in(types, name)
 }
 
 fn is_held_module(types: &[Vec<u8>], declared: &[Declared], name: &[u8]) -> bool
-    ensures { result ≡ is_held_module_lem (items_of types.now) declared.now name.now }
+    ensures { result ≡ known_spec.is_held_module (distinct_spec.items_of types.now) declared.now
+        name.now }
 {
     is_type(types, name) || is_known_module(name) || is_outermost(declared, name)
 }
@@ -124,7 +113,7 @@ fn allowed_module(
     mut name: Vec<u8>,
 ) -> Result<Vec<u8>, AllocError>
     ensures { IfOk result (λ v. v.items
-        ≡ allowed_module_lem (items_of types.now) declared.now name.items) }
+        ≡ known_spec.allowed_module (distinct_spec.items_of types.now) declared.now name.items) }
 {
     if is_held_module(types, declared, &name) {
         name.push(b'_')?;
@@ -139,7 +128,7 @@ fn module_word(
     name: &[u8],
 ) -> Result<Vec<u8>, AllocError>
     ensures { IfOk result (λ v. v.items
-        ≡ module_word_lem (items_of types.now) declared.now name.now) }
+        ≡ known_spec.module_word (distinct_spec.items_of types.now) declared.now name.now) }
 {
     let word = snake(alloc, name)?;
     allowed_module(types, declared, word)
@@ -150,7 +139,8 @@ fn module_names(
     declared: &[Declared],
     types: &[Vec<u8>],
 ) -> Result<Vec<Vec<u8>>, AllocError>
-    ensures { IfOk result (λ v. names_in v ≡ modules_of (items_of types.now) declared.now) }
+    ensures { IfOk result (λ v. spec.names_in v ≡ known_spec.modules_of
+        (distinct_spec.items_of types.now) declared.now) }
 {
     let mut names = Vec::new(alloc);
     let mut rest = types;
@@ -163,7 +153,7 @@ fn module_names(
 }
 
 fn member_spelled(alloc: Global, body: &Body, name: &[u8]) -> Result<Vec<u8>, AllocError>
-    ensures { IfOk result (λ v. v.items ≡ member_spelled_lem body.now name.now) }
+    ensures { IfOk result (λ v. v.items ≡ spec.member_spelled body.now name.now) }
 {
     match body {
         Body::Table(_) | Body::Struct(_) => snake(alloc, name),
@@ -173,14 +163,14 @@ fn member_spelled(alloc: Global, body: &Body, name: &[u8]) -> Result<Vec<u8>, Al
 }
 
 fn member_word(alloc: Global, body: &Body, name: &[u8]) -> Result<Vec<u8>, AllocError>
-    ensures { IfOk result (λ v. v.items ≡ member_word_lem body.now name.now) }
+    ensures { IfOk result (λ v. v.items ≡ spec.member_word body.now name.now) }
 {
     let name = member_spelled(alloc, body, last_word(name))?;
     allowed(name)
 }
 
 fn members_of(alloc: Global, body: &Body) -> Result<Vec<Vec<u8>>, AllocError>
-    ensures { IfOk result (λ v. names_in v ≡ member_names body.now) }
+    ensures { IfOk result (λ v. spec.names_in v ≡ spec.member_names body.now) }
 {
     let mut names = Vec::new(alloc);
     'members: for place in 0..count_in(body) {
@@ -193,7 +183,7 @@ fn members_of(alloc: Global, body: &Body) -> Result<Vec<Vec<u8>>, AllocError>
 }
 
 fn all_members(alloc: Global, declared: &[Declared]) -> Result<Vec<Vec<Vec<u8>>>, AllocError>
-    ensures { IfOk result (λ v. map names_in v.items ≡ all_member_names declared.now) }
+    ensures { IfOk result (λ v. map spec.names_in v.items ≡ spec.all_member_names declared.now) }
 {
     let mut out = Vec::new(alloc);
     let mut rest = declared;
@@ -271,12 +261,13 @@ impl Places {
 }
 
 fn names_of(alloc: Global, declared: &[Declared]) -> Result<Names, AllocError>
-    ensures types { IfOk result (λ n. names_in n.types ≡ type_names_lem declared.now) }
-    ensures modules { IfOk result (λ n. names_in n.modules ≡ module_names_lem declared.now) }
-    ensures members { IfOk result (λ n. map names_in n.members.items
-        ≡ all_member_names declared.now) }
+    ensures types { IfOk result (λ n. spec.names_in n.types ≡ known_spec.type_names declared.now) }
+    ensures modules { IfOk result (λ n. spec.names_in n.modules ≡ known_spec.module_names
+        declared.now) }
+    ensures members { IfOk result (λ n. map spec.names_in n.members.items
+        ≡ spec.all_member_names declared.now) }
     ensures counts { IfOk result (λ n. map (λ m. length m.items) n.members.items
-        ≡ map (λ d. length (said_in d.body)) declared.now) }
+        ≡ map (λ d. length (spec.said_in d.body)) declared.now) }
 {
     let types = type_names(alloc, declared)?;
     let modules = module_names(alloc, declared, &types)?;
@@ -302,18 +293,20 @@ impl Names {
             ≡ length declared.now) }
         ensures counts_of_members { IfOk result (λ n. length n.members.items
             ≡ length declared.now) }
-        ensures types { IfOk result (λ n. are_names_lem n.types.items ≡ true) }
-        ensures modules { IfOk result (λ n. are_names_lem n.modules.items ≡ true) }
-        ensures apart { IfOk result (λ n. are_apart_from_lem n.types.items n.modules.items ≡ true) }
+        ensures types { IfOk result (λ n. names_spec.are_names n.types.items ≡ true) }
+        ensures modules { IfOk result (λ n. names_spec.are_names n.modules.items ≡ true) }
+        ensures apart { IfOk result (λ n. names_spec.are_apart_from n.types.items n.modules.items
+            ≡ true) }
         ensures counts_of_each { IfOk result (λ n. map (λ m. length m.items) n.members.items
-            ≡ map (λ d. length (said_in d.body)) declared.now) }
-        ensures types_named { IfOk result (λ n. names_in n.types ≡ type_names_lem declared.now) }
-        ensures modules_named { IfOk result (λ n. names_in n.modules
-            ≡ module_names_lem declared.now) }
-        ensures members_named { IfOk result (λ n. map names_in n.members.items
-            ≡ all_member_names declared.now) }
-        ensures members { IfOk result (λ n. are_scopes_lem n.members.items ≡ true) }
-        ensures places { IfOk result (λ n. are_apart_lem n.places.items ≡ true) }
+            ≡ map (λ d. length (spec.said_in d.body)) declared.now) }
+        ensures types_named { IfOk result (λ n. spec.names_in n.types ≡ known_spec.type_names
+            declared.now) }
+        ensures modules_named { IfOk result (λ n. spec.names_in n.modules
+            ≡ known_spec.module_names declared.now) }
+        ensures members_named { IfOk result (λ n. map spec.names_in n.members.items
+            ≡ spec.all_member_names declared.now) }
+        ensures members { IfOk result (λ n. names_spec.are_scopes n.members.items ≡ true) }
+        ensures places { IfOk result (λ n. names_spec.are_apart n.places.items ≡ true) }
     {
         let names = names_of(alloc, declared)?;
         let whole = names.types.len() == declared.len() && names.modules.len() == declared.len();

@@ -3,10 +3,7 @@
 ghost use Rattle.std.specs.Prelude.{◌≡◌, ◌++◌, [], IfOk, OnOk};
 ghost use Rattle.std.specs.Option.{option_map};
 ghost use Rattle.planus_conform.specs.Conforms.{Conforms};
-ghost use Rattle.planus_conform.specs.Breaks.{breaks_to, body_breaks, declared_breaks};
-ghost use Rattle.planus_conform.specs.Breaks.{breaks_from, breaks_by as breaks_by_lem};
-ghost use Rattle.planus_conform.specs.Breaks.{breaks_of as breaks_of_lem};
-ghost use Rattle.planus_conform.specs.Breaks.{body_if as body_if_lem};
+ghost use Rattle.planus_conform.specs.Breaks as spec;
 
 use crate::breaks::{Break, Change, Place, Way};
 use crate::enums::add_enum;
@@ -22,7 +19,7 @@ use std::alloc::{AllocError, Global};
 
 /// Returns what is declared at an index, if there is one.
 pub fn body_if(declared: &[Declared], index: Option<usize>) -> Option<&Body>
-    ensures { option_map (λ b. b.now) result ≡ body_if_lem declared.now index }
+    ensures { option_map (λ b. b.now) result ≡ spec.body_if declared.now index }
 {
     match index {
         Some(index) => match declared.get(index) {
@@ -42,7 +39,7 @@ fn add_kind(
     after: &Body,
 ) -> Result<(), AllocError>
     ensures { OnOk result (breaks.new.items
-        ≡ breaks.old.items ++ breaks_to way matches.now index before.now after.now) }
+        ≡ breaks.old.items ++ spec.breaks_to way matches.now index before.now after.now) }
 {
     match (before, after) {
         (Body::Table(before), Body::Table(after)) => {
@@ -68,7 +65,8 @@ fn add_body(
     after: Option<&Body>,
 ) -> Result<(), AllocError>
     ensures { OnOk result (breaks.new.items ≡ breaks.old.items
-        ++ body_breaks way matches.now index before.now (option_map (λ b. b.now) after.entry)) }
+        ++ spec.body_breaks way matches.now index before.now (option_map
+        (λ b. b.now) after.entry)) }
 {
     match after {
         Some(after) => add_kind(breaks, way, matches, index, before, after),
@@ -85,7 +83,7 @@ fn add_declared(
     one: &Declared,
 ) -> Result<(), AllocError>
     ensures { OnOk result (breaks.new.items
-        ≡ breaks.old.items ++ declared_breaks way matches.now new.now index one.now) }
+        ≡ breaks.old.items ++ spec.declared_breaks way matches.now new.now index one.now) }
 {
     let after = body_if(new, match_at(matches, index));
     add_body(breaks, way, matches, index, &one.body, after)
@@ -99,7 +97,7 @@ fn add_all(
     new: &[Declared],
 ) -> Result<(), AllocError>
     ensures { OnOk result (breaks.new.items
-        ≡ breaks.old.items ++ breaks_from way matches.now new.now 0 old.now) }
+        ≡ breaks.old.items ++ spec.breaks_from way matches.now new.now 0 old.now) }
 {
     let mut index = 0;
     'declared: for one in old {
@@ -116,7 +114,7 @@ fn breaks_by(
     old: &Schema,
     new: &Schema,
 ) -> Result<Vec<Break>, AllocError>
-    ensures { IfOk result (λ found. found.items ≡ breaks_by_lem way matches.now old.now new.now) }
+    ensures { IfOk result (λ found. found.items ≡ spec.breaks_by way matches.now old.now new.now) }
 {
     let mut breaks = Vec::new(alloc);
     add_all(
@@ -141,7 +139,7 @@ fn breaks_of(
     new: &Schema,
 ) -> Result<Vec<Break>, AllocError>
     ensures { IfOk result (λ found. found.items
-        ≡ breaks_of_lem way renames.now old.now new.now) }
+        ≡ spec.breaks_of way renames.now old.now new.now) }
 {
     let matches = matches_of(alloc, renames, &old.declarations, &new.declarations)?;
     breaks_by(alloc, way, &matches, old, new)
@@ -158,7 +156,7 @@ pub fn conforms(
     new: &Schema,
 ) -> Result<Vec<Break>, AllocError>
     ensures exact { IfOk result (λ found. found.items
-        ≡ breaks_of_lem way renames.now old.now new.now) }
+        ≡ spec.breaks_of way renames.now old.now new.now) }
     ensures conforms { IfOk result (λ found. found.items ≡ []
         → Conforms way renames.now old.now new.now) }
 {

@@ -2,19 +2,18 @@
 
 ghost use Rattle.std.specs.Prelude.{◌≡◌, Some};
 ghost use Rattle.std.specs.Option.{option_map};
-ghost use Rattle.planus_schema.specs.Numbers.{zero_number as zero_lem};
+ghost use Rattle.planus_schema.specs.Numbers as numbers_spec;
 ghost use Rattle.planus_resolve.specs.Defaults.{value_of, integer};
-ghost use Rattle.planus_resolve.specs.Tables.{is_number as is_number_lem};
-ghost use Rattle.planus_conform.specs.Reads.{is_nothing as is_nothing_lem, given, default_of};
-ghost use Rattle.planus_conform.specs.Defaults.{same_number as same_number_lem};
-ghost use Rattle.planus_conform.specs.Defaults.{same_value as same_value_lem};
-ghost use Rattle.planus_conform.specs.Defaults.{same_default as same_default_lem};
+ghost use Rattle.planus_resolve.specs.Tables as tables_spec;
+ghost use Rattle.planus_conform.specs.Reads as reads_spec;
+ghost use Rattle.planus_conform.specs.Reads.{default_of};
+ghost use Rattle.planus_conform.specs.Defaults as spec;
 
 use crate::types::same_truth;
 use planus_schema::{Base, FieldType, Number, TableField, Value};
 
 fn is_number(kind: FieldType) -> bool
-    ensures { result ≡ is_number_lem kind }
+    ensures { result ≡ tables_spec.is_number kind }
 {
     match kind.base {
         Base::Scalar(_) | Base::Enum(_) => !kind.vector,
@@ -23,7 +22,7 @@ fn is_number(kind: FieldType) -> bool
 }
 
 fn is_nothing(kind: FieldType, default: &Option<Value>) -> bool
-    ensures { result ≡ is_nothing_lem kind (option_map value_of default.now) }
+    ensures { result ≡ reads_spec.is_nothing kind (option_map value_of default.now) }
 {
     match default {
         None => !is_number(kind),
@@ -33,7 +32,7 @@ fn is_nothing(kind: FieldType, default: &Option<Value>) -> bool
 }
 
 fn zero() -> Number
-    ensures { result ≡ zero_lem }
+    ensures { result ≡ numbers_spec.zero_number }
 {
     Number {
         negative: false,
@@ -43,13 +42,13 @@ fn zero() -> Number
 
 /// Returns whether these are one number.
 pub fn same_number(a: Number, b: Number) -> bool
-    ensures { result ≡ same_number_lem a b }
+    ensures { result ≡ spec.same_number a b }
 {
     same_truth(a.negative, b.negative) && a.magnitude == b.magnitude
 }
 
 fn same_value(a: &Value, b: &Value) -> bool
-    ensures { result ≡ same_value_lem (value_of a.now) (value_of b.now) }
+    ensures { result ≡ spec.same_value (value_of a.now) (value_of b.now) }
 {
     match (a, b) {
         (Value::Absent, Value::Absent) => true,
@@ -62,8 +61,8 @@ fn same_value(a: &Value, b: &Value) -> bool
 }
 
 fn same_given(a: &Option<Value>, b: &Option<Value>) -> bool
-    ensures { result ≡ same_value_lem (given (option_map value_of a.now))
-        (given (option_map value_of b.now)) }
+    ensures { result ≡ spec.same_value (reads_spec.given (option_map value_of a.now))
+        (reads_spec.given (option_map value_of b.now)) }
 {
     let zero = Value::Integer(zero());
     match (a, b) {
@@ -76,7 +75,7 @@ fn same_given(a: &Option<Value>, b: &Option<Value>) -> bool
 
 /// Returns whether the fields have the same value where they are absent.
 pub(crate) fn same_default(f: &TableField, g: &TableField) -> bool
-    ensures { result ≡ same_default_lem f.now g.now }
+    ensures { result ≡ spec.same_default f.now g.now }
 {
     let f_nothing = is_nothing(f.kind, &f.default);
     let g_nothing = is_nothing(g.kind, &g.default);

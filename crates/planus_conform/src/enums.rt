@@ -1,11 +1,7 @@
 //! What breaks at enums.
 
 ghost use Rattle.std.specs.Prelude.{◌≡◌, ◌++◌, OnOk};
-ghost use Rattle.planus_conform.specs.Breaks.{has_number as has_number_lem};
-ghost use Rattle.planus_conform.specs.Breaks.{is_value_moved as is_value_moved_lem};
-ghost use Rattle.planus_conform.specs.Breaks.{value_change as value_change_lem};
-ghost use Rattle.planus_conform.specs.Breaks.{enum_change as enum_change_lem};
-ghost use Rattle.planus_conform.specs.Breaks.{value_breaks, added_values, enum_breaks};
+ghost use Rattle.planus_conform.specs.Breaks as spec;
 
 use crate::breaks::{Break, Change, Place, Way};
 use crate::defaults::same_number;
@@ -15,20 +11,20 @@ use planus_schema::{Enum, EnumValue, Number};
 use std::alloc::AllocError;
 
 fn has_number(values: &[EnumValue], number: Number) -> bool
-    ensures { result ≡ has_number_lem values.now number }
+    ensures { result ≡ spec.has_number values.now number }
 {
     values.iter().any(|value| same_number(number, value.number))
 }
 
 fn is_value_moved(values: &[EnumValue], v: &EnumValue) -> bool
-    ensures { result ≡ is_value_moved_lem values.now v.now }
+    ensures { result ≡ spec.is_value_moved values.now v.now }
 {
     values.iter().any(|u| u.name.as_slice() == v.name.as_slice()
         && !same_number(v.number, u.number))
 }
 
 fn value_change(met: bool, values: &[EnumValue], v: &EnumValue) -> Option<Change>
-    ensures { result ≡ value_change_lem met values.now v.now }
+    ensures { result ≡ spec.value_change met values.now v.now }
 {
     if is_value_moved(values, v) {
         Some(Change::Moved)
@@ -45,7 +41,7 @@ fn add_values(
     before: &[EnumValue],
 ) -> Result<(), AllocError>
     ensures { OnOk result (breaks.new.items ≡ breaks.old.items
-        ++ value_breaks met declaration values.now before.now) }
+        ++ spec.value_breaks met declaration values.now before.now) }
 {
     'values: for v in before {
         note(
@@ -65,7 +61,7 @@ fn add_added_values(
     values: &[EnumValue],
 ) -> Result<(), AllocError>
     ensures { OnOk result (breaks.new.items ≡ breaks.old.items
-        ++ added_values met declaration before.now values.now) }
+        ++ spec.added_values met declaration before.now values.now) }
 {
     'values: for u in values {
         note(
@@ -78,7 +74,7 @@ fn add_added_values(
 }
 
 fn enum_change(old: &Enum, new: &Enum) -> Option<Change>
-    ensures { result ≡ enum_change_lem old.now new.now }
+    ensures { result ≡ spec.enum_change old.now new.now }
 {
     if !same_scalar(old.scalar, new.scalar) {
         Some(Change::NumberTypeChanged)
@@ -95,7 +91,7 @@ pub(crate) fn add_enum(
     after: &Enum,
 ) -> Result<(), AllocError>
     ensures { OnOk result (breaks.new.items ≡ breaks.old.items
-        ++ enum_breaks way declaration before.now after.now) }
+        ++ spec.enum_breaks way declaration before.now after.now) }
 {
     note(
         breaks,

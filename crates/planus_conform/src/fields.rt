@@ -2,13 +2,8 @@
 
 ghost use Rattle.std.specs.Prelude.{◌≡◌, ◌++◌, OnOk};
 ghost use Rattle.std.specs.Option.{option_map};
-ghost use Rattle.planus_conform.specs.Reads.{field_in as field_in_lem};
-ghost use Rattle.planus_conform.specs.Breaks.{is_moved as is_moved_lem};
-ghost use Rattle.planus_conform.specs.Breaks.{may_require as may_require_lem};
-ghost use Rattle.planus_conform.specs.Breaks.{same_nested as same_nested_lem};
-ghost use Rattle.planus_conform.specs.Breaks.{kept_change as kept_change_lem};
-ghost use Rattle.planus_conform.specs.Breaks.{change_from as change_from_lem};
-ghost use Rattle.planus_conform.specs.Breaks.{field_change as field_change_lem, field_breaks};
+ghost use Rattle.planus_conform.specs.Reads as reads_spec;
+ghost use Rattle.planus_conform.specs.Breaks as spec;
 
 use crate::breaks::{Break, Change, Place, Way};
 use crate::defaults::same_default;
@@ -19,7 +14,7 @@ use planus_schema::TableField;
 use std::alloc::AllocError;
 
 fn field_in(fields: &[TableField], slot: usize) -> Option<&TableField>
-    ensures { option_map (λ f. f.now) result ≡ field_in_lem fields.now slot }
+    ensures { option_map (λ f. f.now) result ≡ reads_spec.field_in fields.now slot }
 {
     'fields: for field in fields {
         if field.slot == slot {
@@ -30,7 +25,7 @@ fn field_in(fields: &[TableField], slot: usize) -> Option<&TableField>
 }
 
 fn is_moved(fields: &[TableField], f: &TableField) -> bool
-    ensures { result ≡ is_moved_lem fields.now f.now }
+    ensures { result ≡ spec.is_moved fields.now f.now }
 {
     fields.iter().any(|g| g.name.as_slice() == f.name.as_slice()
         && !g.deprecated
@@ -38,7 +33,7 @@ fn is_moved(fields: &[TableField], f: &TableField) -> bool
 }
 
 fn may_require(way: Way, old: bool, new: bool) -> bool
-    ensures { result ≡ may_require_lem way old new }
+    ensures { result ≡ spec.may_require way old new }
 {
     match way {
         Way::Both => same_truth(old, new),
@@ -48,7 +43,7 @@ fn may_require(way: Way, old: bool, new: bool) -> bool
 }
 
 fn same_nested(matches: &[Option<usize>], old: Option<usize>, new: Option<usize>) -> bool
-    ensures { result ≡ same_nested_lem matches.now old new }
+    ensures { result ≡ spec.same_nested matches.now old new }
 {
     match (old, new) {
         (Some(old), Some(new)) => are_matched(matches, old, new),
@@ -62,7 +57,7 @@ fn kept_change(
     f: &TableField,
     g: &TableField,
 ) -> Option<Change>
-    ensures { result ≡ kept_change_lem way matches.now f.now g.now }
+    ensures { result ≡ spec.kept_change way matches.now f.now g.now }
 {
     if !same_type(matches, f.kind, g.kind) {
         Some(Change::TypeChanged)
@@ -84,7 +79,7 @@ fn change_from(
     f: &TableField,
     g: Option<&TableField>,
 ) -> Option<Change>
-    ensures { result ≡ change_from_lem way matches.now f.now (option_map (λ f. f.now) g.entry) }
+    ensures { result ≡ spec.change_from way matches.now f.now (option_map (λ f. f.now) g.entry) }
 {
     let Some(g) = g else {
         return Some(Change::FieldRemoved);
@@ -102,7 +97,7 @@ fn field_change(
     fields: &[TableField],
     f: &TableField,
 ) -> Option<Change>
-    ensures { result ≡ field_change_lem way matches.now fields.now f.now }
+    ensures { result ≡ spec.field_change way matches.now fields.now f.now }
 {
     if f.deprecated {
         None
@@ -122,7 +117,7 @@ pub(crate) fn add_fields(
     before: &[TableField],
 ) -> Result<(), AllocError>
     ensures { OnOk result (breaks.new.items ≡ breaks.old.items
-        ++ field_breaks way matches.now declaration fields.now before.now) }
+        ++ spec.field_breaks way matches.now declaration fields.now before.now) }
 {
     'fields: for f in before {
         note(

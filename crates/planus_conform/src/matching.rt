@@ -1,10 +1,8 @@
 //! Which declarations of two schemas belong together.
 
 ghost use Rattle.std.specs.Prelude.{◌≡◌, ◌==◌, IfOk};
-ghost use Rattle.planus_conform.specs.Matching.{named as named_lem, renamed as renamed_lem};
-ghost use Rattle.planus_conform.specs.Matching.{matches_of as matches_of_lem};
-ghost use Rattle.planus_conform.specs.Matching.{match_at as match_at_lem};
-ghost use Rattle.planus_conform.specs.Types.{are_matched as are_matched_lem};
+ghost use Rattle.planus_conform.specs.Matching as spec;
+ghost use Rattle.planus_conform.specs.Types as types_spec;
 
 use crate::rename::Rename;
 use planus_schema::Declared;
@@ -12,14 +10,14 @@ use std::alloc::{AllocError, Global};
 
 /// Returns the index of the first declaration of this name.
 pub fn named(declared: &[Declared], name: &[u8]) -> Option<usize>
-    ensures { result ≡ named_lem declared.now name.now }
+    ensures { result ≡ spec.named declared.now name.now }
 {
     declared.iter().position(|one| one.name.as_slice() == name)
 }
 
 /// Returns the name that the new schema has for this one.
 pub fn renamed<'a>(renames: &'a [Rename], name: &'a [u8]) -> &'a [u8]
-    ensures { result.now ≡ renamed_lem renames.now name.now }
+    ensures { result.now ≡ spec.renamed renames.now name.now }
 {
     'renames: for rename in renames {
         if rename.from.as_slice() == name {
@@ -36,7 +34,7 @@ pub(crate) fn matches_of(
     old: &[Declared],
     new: &[Declared],
 ) -> Result<Vec<Option<usize>>, AllocError>
-    ensures { IfOk result (λ matches. matches.items ≡ matches_of_lem renames.now old.now new.now) }
+    ensures { IfOk result (λ matches. matches.items ≡ spec.matches_of renames.now old.now new.now) }
 {
     let mut matches = Vec::new(alloc);
     'declared: for one in old {
@@ -47,7 +45,7 @@ pub(crate) fn matches_of(
 }
 
 pub(crate) fn match_at(matches: &[Option<usize>], index: usize) -> Option<usize>
-    ensures { result ≡ match_at_lem matches.now index }
+    ensures { result ≡ spec.match_at matches.now index }
 {
     match matches.get(index) {
         Some(found) => *found,
@@ -57,7 +55,7 @@ pub(crate) fn match_at(matches: &[Option<usize>], index: usize) -> Option<usize>
 
 /// Returns whether declaration `j` of the new schema is that of declaration `i` of the old one.
 pub(crate) fn are_matched(matches: &[Option<usize>], i: usize, j: usize) -> bool
-    ensures { result ≡ are_matched_lem matches.now i j }
+    ensures { result ≡ types_spec.are_matched matches.now i j }
 {
     match match_at(matches, i) {
         Some(found) => found == j,

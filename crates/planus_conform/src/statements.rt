@@ -1,8 +1,7 @@
 //! What breaks at the root and the file identifier.
 
 ghost use Rattle.std.specs.Prelude.{◌≡◌};
-ghost use Rattle.planus_conform.specs.Breaks.{root_change as root_change_lem};
-ghost use Rattle.planus_conform.specs.Breaks.{identifier_change as identifier_change_lem};
+ghost use Rattle.planus_conform.specs.Breaks as spec;
 
 use crate::breaks::{Change, Way};
 use crate::matching::are_matched;
@@ -13,7 +12,7 @@ pub(crate) fn root_change(
     old: Option<usize>,
     new: Option<usize>,
 ) -> Option<Change>
-    ensures { result ≡ root_change_lem matches.now old new }
+    ensures { result ≡ spec.root_change matches.now old new }
 {
     match (old, new) {
         (Some(old), Some(new)) => {
@@ -29,7 +28,7 @@ pub(crate) fn identifier_change(
     old: &Option<Vec<u8>>,
     new: &Option<Vec<u8>>,
 ) -> Option<Change>
-    ensures { result ≡ identifier_change_lem way old.now new.now }
+    ensures { result ≡ spec.identifier_change way old.now new.now }
 {
     match (old, new) {
         (Some(old), Some(new)) => {

@@ -2,11 +2,8 @@
 
 ghost use Rattle.std.specs.Prelude.{◌≡◌, ◌++◌, OnOk};
 ghost use Rattle.std.specs.Option.{option_map};
-ghost use Rattle.planus_conform.specs.Reads.{part_in as part_in_lem};
-ghost use Rattle.planus_conform.specs.Breaks.{is_part_moved as is_part_moved_lem};
-ghost use Rattle.planus_conform.specs.Breaks.{part_change_to as part_change_to_lem};
-ghost use Rattle.planus_conform.specs.Breaks.{part_change as part_change_lem};
-ghost use Rattle.planus_conform.specs.Breaks.{part_breaks, struct_breaks};
+ghost use Rattle.planus_conform.specs.Reads as reads_spec;
+ghost use Rattle.planus_conform.specs.Breaks as spec;
 
 use crate::breaks::{Break, Change, Place};
 use crate::types::same_part;
@@ -15,7 +12,7 @@ use planus_schema::{Struct, StructField};
 use std::alloc::AllocError;
 
 fn part_in(fields: &[StructField], distance: usize) -> Option<&StructField>
-    ensures { option_map (λ f. f.now) result ≡ part_in_lem fields.now distance }
+    ensures { option_map (λ f. f.now) result ≡ reads_spec.part_in fields.now distance }
 {
     'fields: for field in fields {
         if field.distance == distance {
@@ -26,7 +23,7 @@ fn part_in(fields: &[StructField], distance: usize) -> Option<&StructField>
 }
 
 fn is_part_moved(fields: &[StructField], f: &StructField) -> bool
-    ensures { result ≡ is_part_moved_lem fields.now f.now }
+    ensures { result ≡ spec.is_part_moved fields.now f.now }
 {
     fields.iter().any(|g| g.name.as_slice() == f.name.as_slice() && g.distance != f.distance)
 }
@@ -36,7 +33,7 @@ fn part_change_to(
     f: &StructField,
     g: Option<&StructField>,
 ) -> Option<Change>
-    ensures { result ≡ part_change_to_lem matches.now f.now (option_map (λ f. f.now) g.entry) }
+    ensures { result ≡ spec.part_change_to matches.now f.now (option_map (λ f. f.now) g.entry) }
 {
     match g {
         Some(g) => change_if(!same_part(matches, f, g), Change::TypeChanged),
@@ -45,7 +42,7 @@ fn part_change_to(
 }
 
 fn part_change(matches: &[Option<usize>], fields: &[StructField], f: &StructField) -> Option<Change>
-    ensures { result ≡ part_change_lem matches.now fields.now f.now }
+    ensures { result ≡ spec.part_change matches.now fields.now f.now }
 {
     if is_part_moved(fields, f) {
         Some(Change::Moved)
@@ -62,7 +59,7 @@ fn add_parts(
     before: &[StructField],
 ) -> Result<(), AllocError>
     ensures { OnOk result (breaks.new.items ≡ breaks.old.items
-        ++ part_breaks matches.now declaration fields.now before.now) }
+        ++ spec.part_breaks matches.now declaration fields.now before.now) }
 {
     'fields: for f in before {
         note(
@@ -82,7 +79,7 @@ pub(crate) fn add_struct(
     after: &Struct,
 ) -> Result<(), AllocError>
     ensures { OnOk result (breaks.new.items ≡ breaks.old.items
-        ++ struct_breaks matches.now declaration before.now after.now) }
+        ++ spec.struct_breaks matches.now declaration before.now after.now) }
 {
     add_parts(breaks, matches, declaration, &after.fields, &before.fields)?;
     note(

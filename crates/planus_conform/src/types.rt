@@ -1,18 +1,13 @@
 //! Whether types are the same.
 
 ghost use Rattle.std.specs.Prelude.{◌≡◌, ◌==◌};
-ghost use Rattle.planus_conform.specs.Types.{scalar_code as code_lem};
-ghost use Rattle.planus_conform.specs.Types.{same_base as same_base_lem};
-ghost use Rattle.planus_conform.specs.Types.{same_truth as same_truth_lem};
-ghost use Rattle.planus_conform.specs.Types.{same_type as same_type_lem};
-ghost use Rattle.planus_conform.specs.Types.{same_count as same_count_lem};
-ghost use Rattle.planus_conform.specs.Types.{same_part as same_part_lem};
+ghost use Rattle.planus_conform.specs.Types as spec;
 
 use crate::matching::are_matched;
 use planus_schema::{Base, FieldType, Scalar, StructField};
 
 fn scalar_code(scalar: Scalar) -> u8
-    ensures { result ≡ code_lem scalar }
+    ensures { result ≡ spec.scalar_code scalar }
 {
     match scalar {
         Scalar::Bool => 0,
@@ -30,13 +25,13 @@ fn scalar_code(scalar: Scalar) -> u8
 }
 
 pub(crate) fn same_scalar(a: Scalar, b: Scalar) -> bool
-    ensures { result ≡ (code_lem a == code_lem b) }
+    ensures { result ≡ (spec.scalar_code a == spec.scalar_code b) }
 {
     scalar_code(a) == scalar_code(b)
 }
 
 pub(crate) fn same_base(matches: &[Option<usize>], a: Base, b: Base) -> bool
-    ensures { result ≡ same_base_lem matches.now a b }
+    ensures { result ≡ spec.same_base matches.now a b }
 {
     match (a, b) {
         (Base::Scalar(s), Base::Scalar(t)) => same_scalar(s, t),
@@ -50,19 +45,19 @@ pub(crate) fn same_base(matches: &[Option<usize>], a: Base, b: Base) -> bool
 }
 
 pub(crate) fn same_truth(a: bool, b: bool) -> bool
-    ensures { result ≡ same_truth_lem a b }
+    ensures { result ≡ spec.same_truth a b }
 {
     if a { b } else { !b }
 }
 
 pub(crate) fn same_type(matches: &[Option<usize>], t: FieldType, u: FieldType) -> bool
-    ensures { result ≡ same_type_lem matches.now t u }
+    ensures { result ≡ spec.same_type matches.now t u }
 {
     same_truth(t.vector, u.vector) && same_base(matches, t.base, u.base)
 }
 
 fn same_count(a: Option<usize>, b: Option<usize>) -> bool
-    ensures { result ≡ same_count_lem a b }
+    ensures { result ≡ spec.same_count a b }
 {
     match (a, b) {
         (None, None) => true,
@@ -72,7 +67,7 @@ fn same_count(a: Option<usize>, b: Option<usize>) -> bool
 }
 
 pub(crate) fn same_part(matches: &[Option<usize>], f: &StructField, g: &StructField) -> bool
-    ensures { result ≡ same_part_lem matches.now f.now g.now }
+    ensures { result ≡ spec.same_part matches.now f.now g.now }
 {
     same_base(matches, f.base, g.base) && same_count(f.count, g.count)
 }

@@ -2,12 +2,8 @@
 
 ghost use Rattle.std.specs.Prelude.{◌≡◌, ◌++◌, OnOk};
 ghost use Rattle.std.specs.Option.{option_map};
-ghost use Rattle.planus_conform.specs.Values.{member_in as member_in_lem};
-ghost use Rattle.planus_conform.specs.Breaks.{is_member_moved as is_member_moved_lem};
-ghost use Rattle.planus_conform.specs.Breaks.{member_change_to as member_change_to_lem};
-ghost use Rattle.planus_conform.specs.Breaks.{member_change as member_change_lem};
-ghost use Rattle.planus_conform.specs.Breaks.{is_member, member_breaks, added_members};
-ghost use Rattle.planus_conform.specs.Breaks.{union_breaks};
+ghost use Rattle.planus_conform.specs.Values as values_spec;
+ghost use Rattle.planus_conform.specs.Breaks as spec;
 
 use crate::breaks::{Break, Change, Place, Way};
 use crate::types::same_base;
@@ -16,7 +12,7 @@ use planus_schema::{Union, UnionMember};
 use std::alloc::AllocError;
 
 fn member_in(members: &[UnionMember], tag: u8) -> Option<&UnionMember>
-    ensures { option_map (λ m. m.now) result ≡ member_in_lem members.now tag }
+    ensures { option_map (λ m. m.now) result ≡ values_spec.member_in members.now tag }
 {
     'members: for member in members {
         if member.tag == tag {
@@ -27,7 +23,7 @@ fn member_in(members: &[UnionMember], tag: u8) -> Option<&UnionMember>
 }
 
 fn has_tag(members: &[UnionMember], tag: u8) -> bool
-    ensures { result ≡ is_member (member_in_lem members.now tag) }
+    ensures { result ≡ spec.is_member (values_spec.member_in members.now tag) }
 {
     match member_in(members, tag) {
         Some(_) => true,
@@ -36,7 +32,7 @@ fn has_tag(members: &[UnionMember], tag: u8) -> bool
 }
 
 fn is_member_moved(members: &[UnionMember], a: &UnionMember) -> bool
-    ensures { result ≡ is_member_moved_lem members.now a.now }
+    ensures { result ≡ spec.is_member_moved members.now a.now }
 {
     members.iter().any(|b| b.name.as_slice() == a.name.as_slice() && b.tag != a.tag)
 }
@@ -48,7 +44,7 @@ fn member_change_to(
     b: Option<&UnionMember>,
 ) -> Option<Change>
     ensures { result
-        ≡ member_change_to_lem met matches.now a.now (option_map (λ m. m.now) b.entry) }
+        ≡ spec.member_change_to met matches.now a.now (option_map (λ m. m.now) b.entry) }
 {
     match b {
         Some(b) => change_if(!same_base(matches, a.base, b.base), Change::MemberChanged),
@@ -62,7 +58,7 @@ fn member_change(
     members: &[UnionMember],
     a: &UnionMember,
 ) -> Option<Change>
-    ensures { result ≡ member_change_lem met matches.now members.now a.now }
+    ensures { result ≡ spec.member_change met matches.now members.now a.now }
 {
     if is_member_moved(members, a) {
         Some(Change::Moved)
@@ -80,7 +76,7 @@ fn add_members(
     before: &[UnionMember],
 ) -> Result<(), AllocError>
     ensures { OnOk result (breaks.new.items ≡ breaks.old.items
-        ++ member_breaks met matches.now declaration members.now before.now) }
+        ++ spec.member_breaks met matches.now declaration members.now before.now) }
 {
     'members: for a in before {
         note(
@@ -100,7 +96,7 @@ fn add_added_members(
     members: &[UnionMember],
 ) -> Result<(), AllocError>
     ensures { OnOk result (breaks.new.items ≡ breaks.old.items
-        ++ added_members met declaration before.now members.now) }
+        ++ spec.added_members met declaration before.now members.now) }
 {
     'members: for b in members {
         note(
@@ -121,7 +117,7 @@ pub(crate) fn add_union(
     after: &Union,
 ) -> Result<(), AllocError>
     ensures { OnOk result (breaks.new.items ≡ breaks.old.items
-        ++ union_breaks way matches.now declaration before.now after.now) }
+        ++ spec.union_breaks way matches.now declaration before.now after.now) }
 {
     add_members(
         breaks,

@@ -1,16 +1,14 @@
 //! What each way asks for.
 
 ghost use Rattle.std.specs.Prelude.{◌≡◌, ◌++◌, OnOk};
-ghost use Rattle.planus_conform.specs.Breaks.{meets_old as meets_old_lem};
-ghost use Rattle.planus_conform.specs.Breaks.{meets_new as meets_new_lem};
-ghost use Rattle.planus_conform.specs.Breaks.{change_if as change_if_lem, noted};
+ghost use Rattle.planus_conform.specs.Breaks as spec;
 
 use crate::breaks::{Break, Change, Place, Way};
 use std::alloc::AllocError;
 
 /// Returns whether the new schema's code meets data of the old one's.
 pub(crate) fn meets_old(way: Way) -> bool
-    ensures { result ≡ meets_old_lem way }
+    ensures { result ≡ spec.meets_old way }
 {
     match way {
         Way::Both | Way::Backward => true,
@@ -20,7 +18,7 @@ pub(crate) fn meets_old(way: Way) -> bool
 
 /// Returns whether the old schema's code meets data of the new one's.
 pub(crate) fn meets_new(way: Way) -> bool
-    ensures { result ≡ meets_new_lem way }
+    ensures { result ≡ spec.meets_new way }
 {
     match way {
         Way::Both | Way::Forward => true,
@@ -29,7 +27,7 @@ pub(crate) fn meets_new(way: Way) -> bool
 }
 
 pub(crate) fn change_if(is_change: bool, change: Change) -> Option<Change>
-    ensures { result ≡ change_if_lem is_change change }
+    ensures { result ≡ spec.change_if is_change change }
 {
     if is_change { Some(change) } else { None }
 }
@@ -40,7 +38,7 @@ pub(crate) fn note(
     place: Place,
     change: Option<Change>,
 ) -> Result<(), AllocError>
-    ensures { OnOk result (breaks.new.items ≡ breaks.old.items ++ noted place change) }
+    ensures { OnOk result (breaks.new.items ≡ breaks.old.items ++ spec.noted place change) }
 {
     if let Some(change) = change {
         breaks.push(Break { change, place })?;

@@ -1,7 +1,7 @@
 //! The edges: a reference from a row of a declaration to another.
 
 ghost use Rattle.std.specs.Prelude.{◌≡◌, ◌++◌, ◌∷◌, [], map, OnOk};
-ghost use Rattle.planus_dot.specs.Rows.{row_view, declared_at as declared_at_lem};
+ghost use Rattle.planus_dot.specs.Rows as spec;
 ghost use Rattle.std.specs.Option.{option_map};
 ghost use Rattle.planus_dot.specs.Edges.{edge_line, edges_text, edge_of, row_edges, rows_edges, body_edges};
 ghost use Rattle.planus_dot.specs.Edges.{all_edges};
@@ -12,7 +12,7 @@ use planus_schema::Declared;
 use std::alloc::{AllocError, Global};
 
 fn declared_at(declarations: &[Declared], target: Option<usize>) -> Option<&Declared>
-    ensures { option_map (λ d. d.now) result ≡ declared_at_lem declarations.now target }
+    ensures { option_map (λ d. d.now) result ≡ spec.declared_at declarations.now target }
 {
     match target {
         Some(index) => declarations.get(index),
@@ -44,7 +44,7 @@ fn put_row_edge(
     row: &Row<'_>,
 ) -> Result<(), AllocError>
     ensures { OnOk result (text.new.items ≡ text.old.items
-        ++ edges_text (row_edges declarations.now from.now (row_view row.now))) }
+        ++ edges_text (row_edges declarations.now from.now (spec.row_view row.now))) }
 {
     match declared_at(declarations, row.target) {
         Some(to) => put_edge(text, from, &to.name, row.name),
@@ -73,7 +73,7 @@ fn put_rows_edges(
     rows: &[Row<'_>],
 ) -> Result<(), AllocError>
     ensures { OnOk result (text.new.items ≡ text.old.items
-        ++ edges_text (rows_edges declarations.now from.now (map row_view rows.now))) }
+        ++ edges_text (rows_edges declarations.now from.now (map spec.row_view rows.now))) }
 {
     'rows: for row in rows {
         put_row_edge(text, declarations, from, row)?;

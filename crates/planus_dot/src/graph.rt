@@ -1,7 +1,7 @@
 //! The text of a graph.
 
 ghost use Rattle.std.specs.Prelude.{◌≡◌, IfOk};
-ghost use Rattle.planus_dot.specs.Graphs.{graph_text as graph_lem};
+ghost use Rattle.planus_dot.specs.Graphs as spec;
 
 use crate::edges::put_edges;
 use crate::nodes::put_nodes;
@@ -12,7 +12,7 @@ use std::alloc::{AllocError, Global};
 /// and an edge for each field or member that refers to a declaration.
 #[tactic(auto, unfolding(crate::specs::Graphs::graph_text))]
 pub fn graph_text(alloc: Global, schema: &Schema) -> Result<Vec<u8>, AllocError>
-    ensures { IfOk result (λ text. text.items ≡ graph_lem schema.now) }
+    ensures { IfOk result (λ text. text.items ≡ spec.graph_text schema.now) }
 {
     let mut text = Vec::from_slice(
         alloc,

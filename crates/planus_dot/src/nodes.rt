@@ -4,9 +4,8 @@ ghost use Rattle.std.specs.Prelude.{◌≡◌, ◌++◌, ◌∷◌, [], map, IfO
 ghost use Rattle.std.specs.List.{flat_map};
 ghost use Rattle.std.specs.Option.{option_map};
 ghost use Rattle.planus_dot.specs.Rows.{row_view};
-ghost use Rattle.planus_dot.specs.Nodes.{word_of as word_lem, integer_of as integer_lem};
-ghost use Rattle.planus_dot.specs.Nodes.{kind_text, row_text, rows_text, title_text, label_text, node_line};
-ghost use Rattle.planus_dot.specs.Nodes.{nodes_text};
+ghost use Rattle.planus_dot.specs.Nodes as spec;
+ghost use Rattle.planus_dot.specs.Nodes.{label_text, node_line};
 
 use crate::row::Row;
 use crate::rows::rows_of;
@@ -16,7 +15,7 @@ use std::alloc::{AllocError, Global};
 
 /// Returns the word that declares it.
 fn word_of(body: &Body) -> &'static str
-    ensures { result.now ≡ word_lem body.now }
+    ensures { result.now ≡ spec.word_of body.now }
 {
     match body {
         Body::Table(_) => "table ",
@@ -28,7 +27,7 @@ fn word_of(body: &Body) -> &'static str
 
 /// Adds the integer type of an enum.
 fn put_integer(text: &mut Vec<u8>, body: &Body) -> Result<(), AllocError>
-    ensures { OnOk result (text.new.items ≡ text.old.items ++ integer_lem body.now) }
+    ensures { OnOk result (text.new.items ≡ text.old.items ++ spec.integer_of body.now) }
 {
     if let Body::Enum(body) = body {
         text.extend_from_slice(b": ")?;
@@ -44,7 +43,7 @@ fn put_kind(
     row: &Row<'_>,
 ) -> Result<(), AllocError>
     ensures { OnOk result (text.new.items
-        ≡ text.old.items ++ kind_text declarations.now row.now.kind row.now.count) }
+        ≡ text.old.items ++ spec.kind_text declarations.now row.now.kind row.now.count) }
 {
     if let Some(kind) = row.kind {
         text.extend_from_slice(b": ")?;
@@ -61,7 +60,7 @@ fn put_row(
     row: &Row<'_>,
 ) -> Result<(), AllocError>
     ensures { OnOk result (text.new.items
-        ≡ text.old.items ++ row_text declarations.now (row_view row.now)) }
+        ≡ text.old.items ++ spec.row_text declarations.now (row_view row.now)) }
 {
     text.extend_from_slice(row.name)?;
     put_kind(alloc, text, declarations, row)?;
@@ -76,7 +75,7 @@ fn put_rows(
     rows: &[Row<'_>],
 ) -> Result<(), AllocError>
     ensures { OnOk result (text.new.items
-        ≡ text.old.items ++ rows_text declarations.now (map row_view rows.now)) }
+        ≡ text.old.items ++ spec.rows_text declarations.now (map row_view rows.now)) }
 {
     'rows: for row in rows {
         put_row(alloc, text, declarations, row)?;
@@ -85,7 +84,7 @@ fn put_rows(
 }
 
 fn put_title(text: &mut Vec<u8>, declared: &Declared) -> Result<(), AllocError>
-    ensures { OnOk result (text.new.items ≡ text.old.items ++ title_text declared.now) }
+    ensures { OnOk result (text.new.items ≡ text.old.items ++ spec.title_text declared.now) }
 {
     text.extend_from_slice(word_of(&declared.body).as_bytes())?;
     text.extend_from_slice(&declared.name)?;
@@ -134,7 +133,7 @@ pub(crate) fn put_nodes(
     text: &mut Vec<u8>,
     declarations: &[Declared],
 ) -> Result<(), AllocError>
-    ensures { OnOk result (text.new.items ≡ text.old.items ++ nodes_text declarations.now) }
+    ensures { OnOk result (text.new.items ≡ text.old.items ++ spec.nodes_text declarations.now) }
 {
     'declarations: for declared in declarations {
         put_node(alloc, text, declarations, declared)?;

@@ -1,9 +1,7 @@
 //! The rows of a declaration.
 
 ghost use Rattle.std.specs.Prelude.{◌≡◌, map, IfOk};
-ghost use Rattle.planus_dot.specs.Rows.{target_of as target_lem, row_view, rows_of as rows_lem};
-ghost use Rattle.planus_dot.specs.Rows.{table_row as table_row_lem, struct_row as struct_row_lem};
-ghost use Rattle.planus_dot.specs.Rows.{value_row as value_row_lem, member_row as member_row_lem};
+ghost use Rattle.planus_dot.specs.Rows as spec;
 
 use crate::row::Row;
 use planus_schema::{Base, Body, EnumValue, FieldType, StructField, TableField, UnionMember};
@@ -11,7 +9,7 @@ use std::alloc::{AllocError, Global};
 
 /// Returns the index of the declaration that a type names.
 fn target_of(base: Base) -> Option<usize>
-    ensures { result ≡ target_lem base }
+    ensures { result ≡ spec.target_of base }
 {
     match base {
         Base::Scalar(_) | Base::Text => None,
@@ -23,7 +21,7 @@ fn target_of(base: Base) -> Option<usize>
 
 /// A buffer in a byte vector refers to its root's table.
 fn table_row(field: &TableField) -> Row<'_>
-    ensures { row_view result ≡ table_row_lem field.now }
+    ensures { spec.row_view result ≡ spec.table_row field.now }
 {
     Row {
         name: &field.name,
@@ -34,7 +32,7 @@ fn table_row(field: &TableField) -> Row<'_>
 }
 
 fn struct_row(field: &StructField) -> Row<'_>
-    ensures { row_view result ≡ struct_row_lem field.now }
+    ensures { spec.row_view result ≡ spec.struct_row field.now }
 {
     Row {
         name: &field.name,
@@ -48,7 +46,7 @@ fn struct_row(field: &StructField) -> Row<'_>
 }
 
 fn value_row(value: &EnumValue) -> Row<'_>
-    ensures { row_view result ≡ value_row_lem value.now }
+    ensures { spec.row_view result ≡ spec.value_row value.now }
 {
     Row {
         name: &value.name,
@@ -59,7 +57,7 @@ fn value_row(value: &EnumValue) -> Row<'_>
 }
 
 fn member_row(member: &UnionMember) -> Row<'_>
-    ensures { row_view result ≡ member_row_lem member.now }
+    ensures { spec.row_view result ≡ spec.member_row member.now }
 {
     Row {
         name: &member.name,
@@ -73,7 +71,7 @@ fn member_row(member: &UnionMember) -> Row<'_>
 }
 
 fn table_rows<'a>(alloc: Global, fields: &'a [TableField]) -> Result<Vec<Row<'a>>, AllocError>
-    ensures { IfOk result (λ rows. map row_view rows.items ≡ map table_row_lem fields.now) }
+    ensures { IfOk result (λ rows. map spec.row_view rows.items ≡ map spec.table_row fields.now) }
 {
     let mut rows = Vec::new(alloc);
     'fields: for field in fields {
@@ -83,7 +81,7 @@ fn table_rows<'a>(alloc: Global, fields: &'a [TableField]) -> Result<Vec<Row<'a>
 }
 
 fn struct_rows<'a>(alloc: Global, fields: &'a [StructField]) -> Result<Vec<Row<'a>>, AllocError>
-    ensures { IfOk result (λ rows. map row_view rows.items ≡ map struct_row_lem fields.now) }
+    ensures { IfOk result (λ rows. map spec.row_view rows.items ≡ map spec.struct_row fields.now) }
 {
     let mut rows = Vec::new(alloc);
     'fields: for field in fields {
@@ -93,7 +91,7 @@ fn struct_rows<'a>(alloc: Global, fields: &'a [StructField]) -> Result<Vec<Row<'
 }
 
 fn value_rows<'a>(alloc: Global, values: &'a [EnumValue]) -> Result<Vec<Row<'a>>, AllocError>
-    ensures { IfOk result (λ rows. map row_view rows.items ≡ map value_row_lem values.now) }
+    ensures { IfOk result (λ rows. map spec.row_view rows.items ≡ map spec.value_row values.now) }
 {
     let mut rows = Vec::new(alloc);
     'values: for value in values {
@@ -103,7 +101,7 @@ fn value_rows<'a>(alloc: Global, values: &'a [EnumValue]) -> Result<Vec<Row<'a>>
 }
 
 fn member_rows<'a>(alloc: Global, members: &'a [UnionMember]) -> Result<Vec<Row<'a>>, AllocError>
-    ensures { IfOk result (λ rows. map row_view rows.items ≡ map member_row_lem members.now) }
+    ensures { IfOk result (λ rows. map spec.row_view rows.items ≡ map spec.member_row members.now) }
 {
     let mut rows = Vec::new(alloc);
     'members: for member in members {
@@ -114,7 +112,7 @@ fn member_rows<'a>(alloc: Global, members: &'a [UnionMember]) -> Result<Vec<Row<
 
 /// Returns the rows of a declaration.
 pub(crate) fn rows_of(alloc: Global, body: &Body) -> Result<Vec<Row<'_>>, AllocError>
-    ensures { IfOk result (λ rows. map row_view rows.items ≡ rows_lem body.now) }
+    ensures { IfOk result (λ rows. map spec.row_view rows.items ≡ spec.rows_of body.now) }
 {
     match body {
         Body::Table(table) => table_rows(alloc, &table.fields),

@@ -1,15 +1,13 @@
 //! The names of types.
 
 ghost use Rattle.std.specs.Prelude.{◌≡◌, ◌++◌, OnOk};
-ghost use Rattle.planus_dot.specs.Types.{scalar_name as scalar_name_lem};
-ghost use Rattle.planus_dot.specs.Types.{name_at as name_at_lem, base_name as base_name_lem};
-ghost use Rattle.planus_dot.specs.Types.{count_text, type_text};
+ghost use Rattle.planus_dot.specs.Types as spec;
 
 use planus_schema::{Base, Declared, FieldType, Scalar};
 use std::alloc::{AllocError, Global};
 
 pub(crate) fn scalar_name(scalar: Scalar) -> &'static str
-    ensures { result.now ≡ scalar_name_lem scalar }
+    ensures { result.now ≡ spec.scalar_name scalar }
 {
     match scalar {
         Scalar::Bool => "bool",
@@ -28,7 +26,7 @@ pub(crate) fn scalar_name(scalar: Scalar) -> &'static str
 
 /// Returns the full name of the declaration of this index, or nothing.
 fn name_at(declarations: &[Declared], index: usize) -> &[u8]
-    ensures { result.now ≡ name_at_lem declarations.now index }
+    ensures { result.now ≡ spec.name_at declarations.now index }
 {
     match declarations.get(index) {
         Some(declared) => &declared.name,
@@ -37,7 +35,7 @@ fn name_at(declarations: &[Declared], index: usize) -> &[u8]
 }
 
 fn base_name(declarations: &[Declared], base: Base) -> &[u8]
-    ensures { result.now ≡ base_name_lem declarations.now base }
+    ensures { result.now ≡ spec.base_name declarations.now base }
 {
     match base {
         Base::Scalar(scalar) => scalar_name(scalar).as_bytes(),
@@ -50,7 +48,7 @@ fn base_name(declarations: &[Declared], base: Base) -> &[u8]
 
 /// Adds a colon and the number of an array's items.
 fn put_count(alloc: Global, text: &mut Vec<u8>, count: Option<usize>) -> Result<(), AllocError>
-    ensures { OnOk result (text.new.items ≡ text.old.items ++ count_text count) }
+    ensures { OnOk result (text.new.items ≡ text.old.items ++ spec.count_text count) }
 {
     if let Some(count) = count {
         text.extend_from_slice(format!(in alloc; ":{count}")?.as_bytes())?;
@@ -67,7 +65,7 @@ pub(crate) fn put_type(
     count: Option<usize>,
 ) -> Result<(), AllocError>
     ensures { OnOk result
-        (text.new.items ≡ text.old.items ++ type_text declarations.now kind count) }
+        (text.new.items ≡ text.old.items ++ spec.type_text declarations.now kind count) }
 {
     let name = base_name(declarations, kind.base);
     if kind.vector || count.is_some() {

@@ -2,13 +2,13 @@
 ghost use Rattle.std.specs.Prelude.{◌≡◌, IfOk};
 ghost use Rattle.std.specs.String.{string_bytes};
 ghost use Rattle.planus_dump.specs.Lines.{names_text};
-ghost use Rattle.planus_dump.specs.Events.{has_value as has_value_lem, names_in};
+ghost use Rattle.planus_dump.specs.Events as spec;
 
 use crate::schemas::EnumSchema;
 use std::alloc::{AllocError, Global};
 
 fn has_value(flags: bool, number: u64, value: u64) -> bool
-    ensures { result ≡ has_value_lem flags number value }
+    ensures { result ≡ spec.has_value flags number value }
 {
     if flags {
         value != 0 && number / value % 2 == 1
@@ -19,7 +19,7 @@ fn has_value(flags: bool, number: u64, value: u64) -> bool
 
 pub fn names_of(alloc: Global, shape: &EnumSchema, number: u64) -> Result<String, AllocError>
     ensures { IfOk result (λ text. string_bytes text ≡ names_text
-        (names_in shape.now.flags number shape.now.values.items)) }
+        (spec.names_in shape.now.flags number shape.now.values.items)) }
 {
     let mut text = String::new(alloc);
     for (value, name) in &shape.values {

@@ -5,11 +5,9 @@ ghost use Rattle.std.specs.Int.{byte_len, w32};
 ghost use Rattle.planus_read.specs.Places.{place_bytes, place_offset};
 ghost use Rattle.planus_read.specs.Slices.{slice_bytes};
 ghost use Rattle.planus_dump.specs.Answers.{bits_at, vector_at};
-ghost use Rattle.planus_dump.specs.Events.{number_leaf, number_width, enum_size, struct_size};
-ghost use Rattle.planus_dump.specs.Events.{leaf_events, enum_events, enum_at, answer_event};
-ghost use Rattle.planus_dump.specs.Events.{fixed_size as fixed_size_lem, fixed_events, structs};
-ghost use Rattle.planus_dump.specs.Events.{struct_events, value_events, led_events};
-ghost use Rattle.planus_dump.specs.Events.{fixed_list_events, values_events, counted_events};
+ghost use Rattle.planus_dump.specs.Events as spec;
+ghost use Rattle.planus_dump.specs.Events.{enum_size, struct_size};
+ghost use Rattle.planus_dump.specs.Events.{enum_at, answer_event};
 ghost use Rattle.planus_dump.specs.inner.Feeding.{Feeds};
 ghost use Rattle.std.specs.Prelude.{Some, [], ◌∷◌};
 
@@ -27,7 +25,7 @@ use planus::{Place, SliceWithStartOffset};
 const GREATEST_NESTING: usize = 64;
 
 fn leaf_of(number: Number) -> Leaf
-    ensures { result ≡ number_leaf number }
+    ensures { result ≡ spec.number_leaf number }
 {
     match number {
         Number::U8 => Leaf::U8,
@@ -42,7 +40,7 @@ fn leaf_of(number: Number) -> Leaf
 }
 
 fn number_size(number: Number) -> usize
-    ensures { result ≡ byte_len (number_width number) }
+    ensures { result ≡ byte_len (spec.number_width number) }
 {
     match number {
         Number::U8 | Number::I8 => 1,
@@ -53,7 +51,7 @@ fn number_size(number: Number) -> usize
 }
 
 fn fixed_size(schema: &Schema, fixed: Fixed) -> usize
-    ensures { result ≡ fixed_size_lem schema.now fixed }
+    ensures { result ≡ spec.fixed_size schema.now fixed }
 {
     match fixed {
         Fixed::Number(number) => number_size(number),
@@ -78,7 +76,8 @@ fn dump_leaf<L: Lines>(
     place: Place<'_>,
 ) -> Result<(), SinkError>
     ensures { Feeds L.takes L.breaks out.old
-        (leaf_events leaf (place_bytes place.entry) (place_offset place.entry) path.now) result out.new }
+        (spec.leaf_events leaf (place_bytes place.entry) (place_offset place.entry) path.now) result
+        out.new }
 {
     match value_at(place, leaf) {
         Ok(value) => out.put_value(path, value),
@@ -93,7 +92,7 @@ fn dump_enum<L: Lines>(
     place: Place<'_>,
 ) -> Result<(), SinkError>
     ensures { Feeds L.takes L.breaks out.old
-        (enum_events (Some shape.now)
+        (spec.enum_events (Some shape.now)
         (place_bytes place.entry) (place_offset place.entry) path.now) result out.new }
 {
     let value = match value_at(place, leaf_of(shape.number)) {
@@ -121,7 +120,7 @@ fn dump_fixed<L: Lines>(
     place: Place<'_>,
 ) -> Result<(), SinkError>
     ensures { Feeds L.takes L.breaks out.old
-        (fixed_events schema.now (structs schema.now left) fixed
+        (spec.fixed_events schema.now (spec.structs schema.now left) fixed
         (place_bytes place.entry) (place_offset place.entry) path.now) result out.new }
 {
     match fixed {
@@ -153,7 +152,7 @@ fn dump_struct<L: Lines>(
     place: Place<'_>,
 ) -> Result<(), SinkError>
     ensures { Feeds L.takes L.breaks out.old
-        (structs schema.now left index
+        (spec.structs schema.now left index
         (place_bytes place.entry) (place_offset place.entry) path.now) result out.new }
 {
     if left == 0 {
@@ -195,7 +194,7 @@ fn dump_fixed_items<L: Lines>(
     items: Items<'_>,
 ) -> Result<(), SinkError>
     ensures { Feeds L.takes L.breaks out.old
-        (values_events schema.now (structs schema.now left) items.entry.value
+        (spec.values_events schema.now (spec.structs schema.now left) items.entry.value
         (slice_bytes items.entry.slice) items.entry.first path.now items.entry.count 0)
         result out.new }
 {
@@ -221,7 +220,8 @@ fn dump_struct_field<L: Lines>(
     slice: SliceWithStartOffset<'_>,
 ) -> Result<(), SinkError>
     ensures { Feeds L.takes L.breaks out.old
-        (counted_events schema.now (structs schema.now left) field.now.count field.now.fixed
+        (spec.counted_events schema.now (spec.structs schema.now left) field.now.count
+        field.now.fixed
         (slice_bytes slice.entry) field.now.distance path.now) result out.new }
 {
     let value = field.fixed;
@@ -250,7 +250,7 @@ fn dump_struct_shape<L: Lines>(
     place: Place<'_>,
 ) -> Result<(), SinkError>
     ensures { Feeds L.takes L.breaks out.old
-        (struct_events schema.now (structs schema.now left) (Some shape.now)
+        (spec.struct_events schema.now (spec.structs schema.now left) (Some shape.now)
         (place_bytes place.entry) (place_offset place.entry) path.now) result out.new }
 {
     let slice = match slice_from(place, shape.size) {
@@ -276,7 +276,7 @@ pub fn dump_value<L: Lines>(
     place: Place<'_>,
 ) -> Result<(), SinkError>
     ensures { Feeds L.takes L.breaks out.old
-        (value_events schema.now fixed
+        (spec.value_events schema.now fixed
         (place_bytes place.entry) (place_offset place.entry) path.now) result out.new }
 {
     dump_fixed(schema, out, GREATEST_NESTING, path, fixed, place)
@@ -291,7 +291,8 @@ pub fn dump_led<L: Lines>(
     place: Place<'_>,
 ) -> Result<(), SinkError>
     ensures { Feeds L.takes L.breaks out.old
-        (led_events schema.now index (place_bytes place.entry) (place_offset place.entry) path.now
+        (spec.led_events schema.now index (place_bytes place.entry) (place_offset place.entry)
+        path.now
         (bits_at w32 (place_bytes place.entry) (place_offset place.entry))) result out.new }
 {
     match led_place(place) {
@@ -308,7 +309,8 @@ pub fn dump_values<L: Lines>(
     place: Place<'_>,
 ) -> Result<(), SinkError>
     ensures { Feeds L.takes L.breaks out.old
-        (fixed_list_events schema.now fixed path.now (vector_at (fixed_size_lem schema.now fixed)
+        (spec.fixed_list_events schema.now fixed path.now (vector_at (spec.fixed_size schema.now
+        fixed)
         (place_bytes place.entry) (place_offset place.entry))) result out.new }
 {
     let (slice, count) = match read_values(place, fixed_size(schema, fixed)) {

@@ -1,6 +1,6 @@
 //! Lines that are written as they come.
 ghost use Rattle.std.specs.Prelude.{◌≡◌, ◌||◌, ◌++◌, ◌∷◌, [], false, OnOk};
-ghost use Rattle.planus_dump.specs.FaultLines.{is_fault_line as is_fault_line_lem, begins_with};
+ghost use Rattle.planus_dump.specs.FaultLines as spec;
 ghost use Rattle.planus_dump.specs.inner.Writes.{Pushes, Writes, WritesPart};
 
 use crate::floats::line_text;
@@ -26,7 +26,7 @@ pub struct LineWriter<'w, W> {
 }
 
 fn begins_with_mark(bytes: &[u8]) -> bool
-    ensures { result ≡ begins_with 33 bytes.now }
+    ensures { result ≡ spec.begins_with 33 bytes.now }
 {
     match bytes.split_first() {
         Some((byte, _)) => *byte == b'!',
@@ -35,7 +35,7 @@ fn begins_with_mark(bytes: &[u8]) -> bool
 }
 
 fn is_fault_line(line: &[u8]) -> bool
-    ensures { result ≡ is_fault_line_lem line.now }
+    ensures { result ≡ spec.is_fault_line line.now }
 {
     let mut rest = line;
     while let Some((byte, after)) = rest.split_first() {
@@ -115,7 +115,7 @@ impl<'w, W: Write> LineWriter<'w, W> {
 
     fn note(&mut self, line: &[u8])
         ensures { self.new ≡ record self.old {
-          has_fault = self.old.has_fault || is_fault_line_lem line.now;
+          has_fault = self.old.has_fault || spec.is_fault_line line.now;
         } }
     {
         if is_fault_line(line) {

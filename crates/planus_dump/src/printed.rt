@@ -4,8 +4,7 @@ ghost use Rattle.std.specs.Char.{digit_char};
 ghost use Rattle.std.specs.List.{flat_map};
 ghost use Rattle.std.specs.Str.{chars};
 ghost use Rattle.std.specs.String.{string_bytes};
-ghost use Rattle.planus_dump.specs.Lines.{hex_of, is_unseen as is_unseen_lem, escaped, quoted};
-ghost use Rattle.planus_dump.specs.Lines.{bytes_text};
+ghost use Rattle.planus_dump.specs.Lines as spec;
 
 use std::alloc::AllocError;
 
@@ -22,7 +21,7 @@ fn hex_digit(value: u8) -> char
 
 /// Adds the two hexadecimal digits of a byte, in lower case.
 pub fn push_hex(text: &mut String, byte: u8) -> Result<(), AllocError>
-    ensures { OnOk result (string_bytes text.new ≡ string_bytes text.old ++ hex_of byte) }
+    ensures { OnOk result (string_bytes text.new ≡ string_bytes text.old ++ spec.hex_of byte) }
 {
     text.push(hex_digit(byte / 16))?;
     text.push(hex_digit(byte % 16))?;
@@ -31,7 +30,7 @@ pub fn push_hex(text: &mut String, byte: u8) -> Result<(), AllocError>
 
 fn push_digits(text: &mut String, bytes: &[u8]) -> Result<(), AllocError>
     ensures { OnOk result (string_bytes text.new
-        ≡ string_bytes text.old ++ flat_map hex_of bytes.now) }
+        ≡ string_bytes text.old ++ flat_map spec.hex_of bytes.now) }
 {
     for byte in bytes {
         push_hex(text, *byte)?;
@@ -40,7 +39,8 @@ fn push_digits(text: &mut String, bytes: &[u8]) -> Result<(), AllocError>
 }
 
 pub(crate) fn push_bytes(text: &mut String, bytes: &[u8]) -> Result<(), AllocError>
-    ensures { OnOk result (string_bytes text.new ≡ string_bytes text.old ++ bytes_text bytes.now) }
+    ensures { OnOk result (string_bytes text.new ≡ string_bytes text.old
+        ++ spec.bytes_text bytes.now) }
 {
     if bytes.is_empty() {
         return text.push_str("bytes");
@@ -50,7 +50,7 @@ pub(crate) fn push_bytes(text: &mut String, bytes: &[u8]) -> Result<(), AllocErr
 }
 
 pub(crate) fn bytes_size(bytes: &[u8]) -> usize
-    ensures { result ≡ min (length (bytes_text bytes.now)) usize.MAX }
+    ensures { result ≡ min (length (spec.bytes_text bytes.now)) usize.MAX }
 {
     if bytes.is_empty() {
         return 5;
@@ -59,7 +59,7 @@ pub(crate) fn bytes_size(bytes: &[u8]) -> usize
 }
 
 fn is_unseen(c: char) -> bool
-    ensures { result ≡ is_unseen_lem c }
+    ensures { result ≡ spec.is_unseen c }
 {
     matches!(
         c,
@@ -69,7 +69,7 @@ fn is_unseen(c: char) -> bool
 }
 
 fn push_escaped(text: &mut String, c: char) -> Result<(), AllocError>
-    ensures { OnOk result (string_bytes text.new ≡ string_bytes text.old ++ escaped c) }
+    ensures { OnOk result (string_bytes text.new ≡ string_bytes text.old ++ spec.escaped c) }
 {
     let code = c as u32;
     if code < 32 || code == 127 {
@@ -88,7 +88,7 @@ fn push_escaped(text: &mut String, c: char) -> Result<(), AllocError>
 }
 
 fn escaped_size(c: char) -> usize
-    ensures { result ≡ length (escaped c) }
+    ensures { result ≡ length (spec.escaped c) }
 {
     let code = c as u32;
     if code < 32 || code == 127 {
@@ -106,7 +106,7 @@ fn escaped_size(c: char) -> usize
 
 fn push_all_escaped(quotation: &mut String, text: &str) -> Result<(), AllocError>
     ensures { OnOk result (string_bytes quotation.new
-        ≡ string_bytes quotation.old ++ flat_map escaped (chars text.now)) }
+        ≡ string_bytes quotation.old ++ flat_map spec.escaped (chars text.now)) }
 {
     for c in text.chars() {
         push_escaped(quotation, c)?;
@@ -116,7 +116,7 @@ fn push_all_escaped(quotation: &mut String, text: &str) -> Result<(), AllocError
 
 pub(crate) fn push_quoted(quotation: &mut String, text: &str) -> Result<(), AllocError>
     ensures { OnOk result (string_bytes quotation.new
-        ≡ string_bytes quotation.old ++ quoted text.now) }
+        ≡ string_bytes quotation.old ++ spec.quoted text.now) }
 {
     quotation.push_str("\"")?;
     push_all_escaped(quotation, text)?;
@@ -124,7 +124,7 @@ pub(crate) fn push_quoted(quotation: &mut String, text: &str) -> Result<(), Allo
 }
 
 pub(crate) fn quoted_size(text: &str) -> usize
-    ensures { result ≡ min (length (quoted text.now)) usize.MAX }
+    ensures { result ≡ min (length (spec.quoted text.now)) usize.MAX }
 {
     let mut size = 2usize;
     for c in text.chars() {

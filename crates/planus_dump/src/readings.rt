@@ -5,8 +5,7 @@ ghost use Rattle.planus_read.specs.Bytes.{Num};
 ghost use Rattle.planus_read.specs.Places.{place_bytes, place_offset};
 ghost use Rattle.planus_read.specs.Tables.{table_object};
 ghost use Rattle.planus_dump.specs.Lines.{value_text};
-ghost use Rattle.planus_dump.specs.Answers.{leaf_at, bits_at, table_at, union_at, vector_at};
-ghost use Rattle.planus_dump.specs.Answers.{some_tag, lone_tag as lone_tag_lem};
+ghost use Rattle.planus_dump.specs.Answers as spec;
 ghost use Rattle.planus_dump.specs.Events.{TableEvents, leaf_events, number_width};
 ghost use Rattle.planus_dump.specs.ReadingViews.{answer_seen, table_seen};
 ghost use Rattle.planus_dump.specs.ReadingViews.{SeesUnion, SeesPlace, IsFound, found_events};
@@ -34,7 +33,7 @@ pub enum Found<'buf> {
 
 fn text_at<'buf>(place: Place<'buf>) -> Result<Value<'buf>, ErrorKind>
     ensures { answer_seen value_text result
-        ≡ leaf_at Leaf.Text (place_bytes place.entry) (place_offset place.entry) }
+        ≡ spec.leaf_at Leaf.Text (place_bytes place.entry) (place_offset place.entry) }
 {
     match place.read::<&'buf str>() {
         Ok(text) => Ok(Value::Text(text)),
@@ -44,7 +43,7 @@ fn text_at<'buf>(place: Place<'buf>) -> Result<Value<'buf>, ErrorKind>
 
 pub fn value_at<'buf>(place: Place<'buf>, leaf: Leaf) -> Result<Value<'buf>, ErrorKind>
     ensures { answer_seen value_text result
-        ≡ leaf_at leaf (place_bytes place.entry) (place_offset place.entry) }
+        ≡ spec.leaf_at leaf (place_bytes place.entry) (place_offset place.entry) }
 {
     match leaf {
         Leaf::U8 => Ok(Value::Unsigned(u64::from(place.read::<u8>()?))),
@@ -123,7 +122,7 @@ pub fn slice_from<'buf>(
 /// Returns the place to which the reference at a place leads.
 pub fn led_place<'buf>(place: Place<'buf>) -> Result<Place<'buf>, ErrorKind>
     ensures { SeesLed (place_bytes place.entry) (place_offset place.entry)
-        (bits_at w32 (place_bytes place.entry) (place_offset place.entry)) result }
+        (spec.bits_at w32 (place_bytes place.entry) (place_offset place.entry)) result }
 {
     let reference = place.read::<u32>()?;
     let position = place.read::<Position<'buf>>()?;
@@ -135,7 +134,7 @@ pub fn read_values<'buf>(
     size: usize,
 ) -> Result<(SliceWithStartOffset<'buf>, usize), ErrorKind>
     ensures { answer_seen values_seen result
-        ≡ vector_at size (place_bytes place.entry) (place_offset place.entry) }
+        ≡ spec.vector_at size (place_bytes place.entry) (place_offset place.entry) }
 {
     let position = place.read::<Position<'buf>>()?;
     let (slice, count) = array_from_buffer(position.slice, position.offset)?;
@@ -148,7 +147,7 @@ pub fn read_values<'buf>(
 
 pub fn read_bits(place: Place<'_>, number: Number) -> Result<u64, ErrorKind>
     ensures { answer_seen (λ bits. bits) result
-        ≡ bits_at (number_width number) (place_bytes place.entry) (place_offset place.entry) }
+        ≡ spec.bits_at (number_width number) (place_bytes place.entry) (place_offset place.entry) }
 {
     match number {
         Number::U8 | Number::I8 => Ok(u64::from(place.read::<u8>()?)),
@@ -159,14 +158,16 @@ pub fn read_bits(place: Place<'_>, number: Number) -> Result<u64, ErrorKind>
 }
 
 pub fn single_at(place: Place<'_>) -> Result<Bits, ErrorKind>
-    ensures { IsFloat Bits.F32 (bits_at w32 (place_bytes place.entry) (place_offset place.entry))
+    ensures { IsFloat Bits.F32 (spec.bits_at w32 (place_bytes place.entry)
+        (place_offset place.entry))
         result }
 {
     Ok(Bits::F32(place.read::<u32>()?))
 }
 
 pub fn double_at(place: Place<'_>) -> Result<Bits, ErrorKind>
-    ensures { IsFloat Bits.F64 (bits_at w64 (place_bytes place.entry) (place_offset place.entry))
+    ensures { IsFloat Bits.F64 (spec.bits_at w64 (place_bytes place.entry)
+        (place_offset place.entry))
         result }
 {
     Ok(Bits::F64(place.read::<u64>()?))
@@ -174,7 +175,7 @@ pub fn double_at(place: Place<'_>) -> Result<Bits, ErrorKind>
 
 pub fn read_table(place: Place<'_>) -> Result<Table<'_>, ErrorKind>
     ensures { answer_seen table_seen result
-        ≡ table_at (place_bytes place.entry) (place_offset place.entry) }
+        ≡ spec.table_at (place_bytes place.entry) (place_offset place.entry) }
 {
     place.read::<Table<'_>>()
 }
@@ -192,7 +193,8 @@ pub fn read_union<'buf>(
     table: Table<'buf>,
     slot: usize,
 ) -> Result<Option<TaggedPlace<'buf>>, ErrorKind>
-    ensures { SeesUnion (table_object table.entry) (union_at (table_seen table.entry) slot) result }
+    ensures { SeesUnion (table_object table.entry) (spec.union_at (table_seen table.entry) slot)
+        result }
 {
     match table.access_union::<TaggedPlace<'buf>>(slot, TYPE, METHOD) {
         Ok(tagged) => Ok(tagged),
@@ -201,7 +203,7 @@ pub fn read_union<'buf>(
 }
 
 fn tag_at(place: Place<'_>) -> Option<u8>
-    ensures { result ≡ some_tag (Num (place_bytes place.entry) (place_offset place.entry) w8) }
+    ensures { result ≡ spec.some_tag (Num (place_bytes place.entry) (place_offset place.entry) w8) }
 {
     match place.read::<u8>() {
         Ok(tag) if tag != 0 => Some(tag),
@@ -211,7 +213,7 @@ fn tag_at(place: Place<'_>) -> Option<u8>
 
 /// The tag of a union without a value.
 pub fn lone_tag(table: Table<'_>, slot: usize) -> Option<u8>
-    ensures { result ≡ lone_tag_lem (table_seen table.entry) slot }
+    ensures { result ≡ spec.lone_tag (table_seen table.entry) slot }
 {
     let offset = table.slot_offset(slot);
     if offset == 0 || table.slot_offset(slot + 1) != 0 {

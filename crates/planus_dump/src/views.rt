@@ -4,7 +4,7 @@ ghost use Rattle.std.specs.Result.{IsOk, IsErr};
 ghost use Rattle.std.specs.Io.KnownBytes.{Appends};
 ghost use Rattle.planus_dump.specs.Views.{WritesView, FailsView};
 ghost use Rattle.planus_dump.specs.Writing.{WritesBeginning};
-ghost use Rattle.planus_dump.specs.inner.Ends.{end_of as end_of_lem};
+ghost use Rattle.planus_dump.specs.inner.Ends as spec;
 
 use crate::dumps::walk_from_root;
 use crate::line_sink::{LineSink, Stop};
@@ -44,7 +44,7 @@ pub struct Seen {
 }
 
 fn end_of(stop: Stop) -> End
-    ensures { result ≡ end_of_lem stop }
+    ensures { result ≡ spec.end_of stop }
 {
     match stop {
         Stop::Going => End::Whole,

@@ -4,13 +4,9 @@
 ghost use Rattle.std.specs.Prelude.{◌≡◌, ◌-◌, IfOk, slice_get};
 ghost use Rattle.std.specs.String.{string_bytes};
 ghost use Rattle.planus_read.specs.Places.{place_bytes, place_offset, tagged_tag, tagged_place};
-ghost use Rattle.planus_dump.specs.Lines.{field_path as field_path_lem};
+ghost use Rattle.planus_dump.specs.Lines as lines_spec;
 ghost use Rattle.planus_dump.specs.Answers.{table_at, vector_at};
-ghost use Rattle.planus_dump.specs.Events.{events, kind_events, place_events, variant_of};
-ghost use Rattle.planus_dump.specs.Events.{absent_events, no_union_events, wrong_tag as wrong_tag_lem};
-ghost use Rattle.planus_dump.specs.Events.{field_label, buffer_events, stride_of as stride_lem};
-ghost use Rattle.planus_dump.specs.Events.{union_events, unions_events, list_events, table_events};
-ghost use Rattle.planus_dump.specs.Events.{member_events};
+ghost use Rattle.planus_dump.specs.Events as spec;
 ghost use Rattle.planus_dump.specs.ReadingViews.{table_seen, found_events, unions_seen};
 ghost use Rattle.planus_dump.specs.inner.Feeding.{Feeds};
 ghost use Rattle.std.specs.Prelude.{Some, Ok, false};
@@ -41,7 +37,7 @@ pub fn dump_table<L: Lines>(
     place: Place<'_>,
 ) -> Result<(), SinkError>
     ensures { Feeds L.takes L.breaks out.old
-        (events schema.now left index (place_bytes place.entry) (place_offset place.entry)
+        (spec.events schema.now left index (place_bytes place.entry) (place_offset place.entry)
         path.now) result out.new }
 {
     if left == 0 {
@@ -64,7 +60,7 @@ fn dump_shape<L: Lines>(
     place: Place<'_>,
 ) -> Result<(), SinkError>
     ensures { Feeds L.takes L.breaks out.old
-        (table_events (events schema.now left) schema.now shape.now path.now
+        (spec.table_events (spec.events schema.now left) schema.now shape.now path.now
         (table_at (place_bytes place.entry) (place_offset place.entry))) result out.new }
 {
     let table = match read_table(place) {
@@ -82,7 +78,7 @@ fn dump_shape<L: Lines>(
 }
 
 fn stride_of(item: Item) -> usize
-    ensures { result ≡ stride_lem item }
+    ensures { result ≡ spec.stride_of item }
 {
     match item {
         Item::Bool => 1,
@@ -94,7 +90,7 @@ fn stride_of(item: Item) -> usize
 
 fn field_path(alloc: Global, path: &str, field: &FieldSchema) -> Result<String, AllocError>
     ensures { IfOk result (λ text. string_bytes text
-        ≡ field_path_lem path.now (field_label field.now)) }
+        ≡ lines_spec.field_path path.now (spec.field_label field.now)) }
 {
     if field.deprecated {
         format!(in alloc; "{path}.{}(deprecated)", field.name)
@@ -113,9 +109,9 @@ fn dump_field<L: Lines>(
     field: &FieldSchema,
 ) -> Result<(), SinkError>
     ensures { Feeds L.takes L.breaks out.old
-        (kind_events (events schema.now left) schema.now field.now.required field.now.kind
+        (spec.kind_events (spec.events schema.now left) schema.now field.now.required field.now.kind
         field.now.slot (table_seen table.entry)
-        (field_path_lem path.now (field_label field.now))) result out.new }
+        (lines_spec.field_path path.now (spec.field_label field.now))) result out.new }
 {
     let path = field_path(out.alloc, path, field)?;
     dump_kind(schema, out, left, path.as_str(), table, field)
@@ -123,7 +119,7 @@ fn dump_field<L: Lines>(
 
 fn dump_absent<L: Lines>(out: &mut LineSink<L>, path: &str, required: bool) -> Result<(), SinkError>
     ensures { Feeds L.takes L.breaks out.old
-        (absent_events required path.now) result out.new }
+        (spec.absent_events required path.now) result out.new }
 {
     if required {
         out.put_fault(path, ErrorKind::MissingRequired)
@@ -133,7 +129,7 @@ fn dump_absent<L: Lines>(out: &mut LineSink<L>, path: &str, required: bool) -> R
 }
 
 fn wrong_tag(schema: &Schema, table: Table<'_>, slot: usize) -> Option<u8>
-    ensures { result ≡ wrong_tag_lem schema.now (table_seen table.entry) slot }
+    ensures { result ≡ spec.wrong_tag schema.now (table_seen table.entry) slot }
 {
     if schema.tags_need_values {
         lone_tag(table, slot)
@@ -150,8 +146,8 @@ fn dump_no_union<L: Lines>(
     field: &FieldSchema,
 ) -> Result<(), SinkError>
     ensures { Feeds L.takes L.breaks out.old
-        (no_union_events field.now.required path.now
-        (wrong_tag_lem schema.now (table_seen table.entry) field.now.slot)) result out.new }
+        (spec.no_union_events field.now.required path.now
+        (spec.wrong_tag schema.now (table_seen table.entry) field.now.slot)) result out.new }
 {
     match wrong_tag(schema, table, field.slot) {
         Some(tag) => out.put_lone_tag(path, tag),
@@ -169,7 +165,7 @@ fn dump_kind<L: Lines>(
     field: &FieldSchema,
 ) -> Result<(), SinkError>
     ensures { Feeds L.takes L.breaks out.old
-        (kind_events (events schema.now left) schema.now field.now.required field.now.kind
+        (spec.kind_events (spec.events schema.now left) schema.now field.now.required field.now.kind
         field.now.slot (table_seen table.entry) path.now) result out.new }
 {
     match field.kind {
@@ -203,7 +199,7 @@ fn dump_found<L: Lines>(
     found: Found<'_>,
 ) -> Result<(), SinkError>
     ensures { Feeds L.takes L.breaks out.old
-        (found_events (events schema.now left) path.now found.entry) result out.new }
+        (found_events (spec.events schema.now left) path.now found.entry) result out.new }
 {
     match found {
         Found::Value(value) => out.put_value(path, value),
@@ -222,7 +218,7 @@ fn dump_nested<L: Lines>(
     content: &[u8],
 ) -> Result<(), SinkError>
     ensures { Feeds L.takes L.breaks out.old
-        (buffer_events (events schema.now left) index path.now content.now
+        (spec.buffer_events (spec.events schema.now left) index path.now content.now
         (table_at content.now 0)) result out.new }
 {
     let root = Place::new(SliceWithStartOffset::new(content, 0), 0);
@@ -242,7 +238,7 @@ fn dump_place<L: Lines>(
     place: Place<'_>,
 ) -> Result<(), SinkError>
     ensures { Feeds L.takes L.breaks out.old
-        (place_events (events schema.now left) kind
+        (spec.place_events (spec.events schema.now left) kind
         (place_bytes place.entry) (place_offset place.entry) path.now) result out.new }
 {
     match kind {
@@ -269,8 +265,9 @@ fn dump_items<L: Lines>(
     place: Place<'_>,
 ) -> Result<(), SinkError>
     ensures { Feeds L.takes L.breaks out.old
-        (list_events (events schema.now left) item path.now
-        (vector_at (stride_lem item) (place_bytes place.entry) (place_offset place.entry))) result out.new }
+        (spec.list_events (spec.events schema.now left) item path.now
+        (vector_at (spec.stride_of item) (place_bytes place.entry) (place_offset place.entry)))
+        result out.new }
 {
     let stride = stride_of(item);
     let (slice, count) = match read_values(place, stride) {
@@ -299,7 +296,7 @@ fn dump_member<L: Lines>(
     place: Place<'_>,
 ) -> Result<(), SinkError>
     ensures { Feeds L.takes L.breaks out.old
-        (member_events (events schema.now left) schema.now kind
+        (spec.member_events (spec.events schema.now left) schema.now kind
         (place_bytes place.entry) (place_offset place.entry) path.now) result out.new }
 {
     match kind {
@@ -320,7 +317,7 @@ fn dump_union<L: Lines>(
 ) -> Result<(), SinkError>
     ensures { let place = tagged_place tagged.entry in
         Feeds L.takes L.breaks out.old
-        (union_events (events schema.now left) schema.now
+        (spec.union_events (spec.events schema.now left) schema.now
         (slice_get schema.now.unions.items index)
         (tagged_tag tagged.entry) (place_bytes place) (place_offset place) path.now) result out.new }
 {
@@ -348,7 +345,7 @@ fn dump_unions<L: Lines>(
     unions: Unions<'_>,
 ) -> Result<(), SinkError>
     ensures { Feeds L.takes L.breaks out.old
-        (unions_events (events schema.now left) schema.now false index path.now
+        (spec.unions_events (spec.events schema.now left) schema.now false index path.now
         (Ok (Some (unions_seen unions.entry)))) result out.new }
 {
     let count = unions.len();
@@ -368,7 +365,7 @@ fn dump_unions<L: Lines>(
 }
 
 fn variant_with(variants: &[VariantSchema], tag: u8) -> Option<&VariantSchema>
-    ensures { option_map (λ variant. variant.now) result ≡ variant_of variants.now tag }
+    ensures { option_map (λ variant. variant.now) result ≡ spec.variant_of variants.now tag }
 {
     for variant in variants {
         if variant.tag == tag {

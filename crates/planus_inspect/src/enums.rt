@@ -2,8 +2,7 @@
 ghost use Rattle.std.specs.Prelude.{◌≡◌, map, IfOk};
 ghost use Rattle.std.specs.String.{string_bytes};
 ghost use Rattle.planus_dump.specs.Shapes.{enum_shape};
-ghost use Rattle.planus_inspect.specs.Shown.{low_bytes as low_bytes_lem, bits_of as bits_lem};
-ghost use Rattle.planus_inspect.specs.Shown.{value_shown, enum_shown};
+ghost use Rattle.planus_inspect.specs.Shown as spec;
 
 use crate::kinds::scalar_number;
 use crate::names::shown_name;
@@ -12,7 +11,7 @@ use planus_schema::{Body, Declared, EnumValue, Number, Scalar};
 use std::alloc::{AllocError, Global};
 
 fn low_bytes(size: usize, number: u64) -> u64
-    ensures { result ≡ low_bytes_lem size number }
+    ensures { result ≡ spec.low_bytes size number }
 {
     if size == 1 {
         number % 256
@@ -26,7 +25,7 @@ fn low_bytes(size: usize, number: u64) -> u64
 }
 
 fn bits_of(size: usize, number: Number) -> u64
-    ensures { result ≡ bits_lem size number }
+    ensures { result ≡ spec.bits_of size number }
 {
     if number.negative && number.magnitude != 0 {
         low_bytes(size, u64::MAX - (number.magnitude - 1))
@@ -41,7 +40,7 @@ fn values_of(
     values: &[EnumValue],
 ) -> Result<Vec<(u64, String)>, AllocError>
     ensures { IfOk result (λ shown. map (λ value. (value.0, string_bytes value.1)) shown.items
-        ≡ map (value_shown scalar) values.now) }
+        ≡ map (spec.value_shown scalar) values.now) }
 {
     let mut shown = Vec::new(alloc);
     for value in values {
@@ -53,7 +52,7 @@ fn values_of(
 
 /// An enum with no values for any other declaration.
 pub(crate) fn enum_schema(alloc: Global, declared: &Declared) -> Result<EnumSchema, AllocError>
-    ensures { IfOk result (λ shown. enum_shape shown ≡ enum_shown declared.now) }
+    ensures { IfOk result (λ shown. enum_shape shown ≡ spec.enum_shown declared.now) }
 {
     match &declared.body {
         Body::Enum(body) => Ok(EnumSchema {

@@ -1,17 +1,12 @@
 //! Types as a dump reads them.
 ghost use Rattle.std.specs.Prelude.{◌≡◌};
-ghost use Rattle.planus_inspect.specs.Shown.{scalar_number as scalar_number_lem};
-ghost use Rattle.planus_inspect.specs.Shown.{scalar_fixed as scalar_fixed_lem};
-ghost use Rattle.planus_inspect.specs.Shown.{scalar_kind as scalar_kind_lem};
-ghost use Rattle.planus_inspect.specs.Shown.{scalar_list as scalar_list_lem};
-ghost use Rattle.planus_inspect.specs.Shown.{base_fixed as base_fixed_lem, kind_of as kind_lem};
-ghost use Rattle.planus_inspect.specs.Shown.{one_kind as one_kind_lem, list_kind as list_kind_lem};
+ghost use Rattle.planus_inspect.specs.Shown as spec;
 
 use planus_dump::{Fixed, Item, Kind, Number};
 use planus_schema::{Base, FieldType, Scalar};
 
 pub(crate) fn scalar_number(scalar: Scalar) -> Number
-    ensures { result ≡ scalar_number_lem scalar }
+    ensures { result ≡ spec.scalar_number scalar }
 {
     match scalar {
         Scalar::Bool | Scalar::UByte => Number::U8,
@@ -26,7 +21,7 @@ pub(crate) fn scalar_number(scalar: Scalar) -> Number
 }
 
 fn scalar_fixed(scalar: Scalar) -> Fixed
-    ensures { result ≡ scalar_fixed_lem scalar }
+    ensures { result ≡ spec.scalar_fixed scalar }
 {
     match scalar {
         Scalar::Bool => Fixed::Bool,
@@ -37,7 +32,7 @@ fn scalar_fixed(scalar: Scalar) -> Fixed
 }
 
 fn scalar_kind(scalar: Scalar) -> Kind
-    ensures { result ≡ scalar_kind_lem scalar }
+    ensures { result ≡ spec.scalar_kind scalar }
 {
     match scalar {
         Scalar::Bool => Kind::One(Item::Bool),
@@ -55,7 +50,7 @@ fn scalar_kind(scalar: Scalar) -> Kind
 }
 
 fn scalar_list(scalar: Scalar) -> Kind
-    ensures { result ≡ scalar_list_lem scalar }
+    ensures { result ≡ spec.scalar_list scalar }
 {
     match scalar {
         Scalar::Bool => Kind::List(Item::Bool),
@@ -73,7 +68,7 @@ fn scalar_list(scalar: Scalar) -> Kind
 }
 
 pub(crate) fn base_fixed(base: Base) -> Fixed
-    ensures { result ≡ base_fixed_lem base }
+    ensures { result ≡ spec.base_fixed base }
 {
     match base {
         Base::Scalar(scalar) => scalar_fixed(scalar),
@@ -84,7 +79,7 @@ pub(crate) fn base_fixed(base: Base) -> Fixed
 }
 
 fn one_kind(base: Base) -> Kind
-    ensures { result ≡ one_kind_lem base }
+    ensures { result ≡ spec.one_kind base }
 {
     match base {
         Base::Scalar(scalar) => scalar_kind(scalar),
@@ -97,7 +92,7 @@ fn one_kind(base: Base) -> Kind
 }
 
 fn list_kind(base: Base) -> Kind
-    ensures { result ≡ list_kind_lem base }
+    ensures { result ≡ spec.list_kind base }
 {
     match base {
         Base::Scalar(scalar) => scalar_list(scalar),
@@ -111,7 +106,7 @@ fn list_kind(base: Base) -> Kind
 
 /// `nested` is the index of the root's table, for a field that is a buffer.
 pub(crate) fn kind_of(kind: FieldType, nested: Option<usize>) -> Kind
-    ensures { result ≡ kind_lem kind nested }
+    ensures { result ≡ spec.kind_of kind nested }
 {
     match nested {
         Some(table) => Kind::Nested(table),

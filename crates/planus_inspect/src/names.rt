@@ -1,20 +1,19 @@
 //! Names in the lines of a dump.
 ghost use Rattle.std.specs.Prelude.{◌≡◌, IfOk, OnOk};
 ghost use Rattle.std.specs.String.{string_bytes};
-ghost use Rattle.planus_dump.specs.Schemas.{is_name_byte as is_name_byte_lem};
-ghost use Rattle.planus_inspect.specs.Shown.{after_dot, last_word as last_word_lem};
-ghost use Rattle.planus_inspect.specs.Shown.{shown_name as shown_name_lem};
+ghost use Rattle.planus_dump.specs.Schemas as schemas_spec;
+ghost use Rattle.planus_inspect.specs.Shown as spec;
 
 use std::alloc::{AllocError, Global};
 
 fn is_name_byte(byte: u8) -> bool
-    ensures { result ≡ is_name_byte_lem byte }
+    ensures { result ≡ schemas_spec.is_name_byte byte }
 {
     matches!(byte, b'A'..=b'Z' | b'a'..=b'z' | b'0'..=b'9' | b'_')
 }
 
 fn take_byte(word: &mut String, byte: u8) -> Result<(), AllocError>
-    ensures { OnOk result (string_bytes word.new ≡ after_dot (string_bytes word.old) byte) }
+    ensures { OnOk result (string_bytes word.new ≡ spec.after_dot (string_bytes word.old) byte) }
 {
     if byte == b'.' {
         word.clear();
@@ -27,7 +26,7 @@ fn take_byte(word: &mut String, byte: u8) -> Result<(), AllocError>
 }
 
 fn last_word(alloc: Global, name: &[u8]) -> Result<String, AllocError>
-    ensures { IfOk result (λ word. string_bytes word ≡ last_word_lem name.now) }
+    ensures { IfOk result (λ word. string_bytes word ≡ spec.last_word name.now) }
 {
     let mut word = String::new(alloc);
     for byte in name {
@@ -38,7 +37,7 @@ fn last_word(alloc: Global, name: &[u8]) -> Result<String, AllocError>
 
 /// The word after the last dot, and `_` for an empty one.
 pub(crate) fn shown_name(alloc: Global, name: &[u8]) -> Result<String, AllocError>
-    ensures { IfOk result (λ word. string_bytes word ≡ shown_name_lem name.now) }
+    ensures { IfOk result (λ word. string_bytes word ≡ spec.shown_name name.now) }
 {
     let mut word = last_word(alloc, name)?;
     if word.is_empty() {

@@ -1,8 +1,7 @@
 //! Tables as a dump reads them.
 ghost use Rattle.std.specs.Prelude.{◌≡◌, map, IfOk};
 ghost use Rattle.planus_dump.specs.Shapes.{field_shape, table_shape};
-ghost use Rattle.planus_inspect.specs.Shown.{first_slot as first_slot_lem, field_shown};
-ghost use Rattle.planus_inspect.specs.Shown.{fields_shown, table_shown};
+ghost use Rattle.planus_inspect.specs.Shown as spec;
 
 use crate::kinds::kind_of;
 use crate::names::shown_name;
@@ -11,7 +10,7 @@ use planus_schema::{Body, Declared, TableField, is_union};
 use std::alloc::{AllocError, Global};
 
 fn first_slot(field: &TableField) -> usize
-    ensures { result ≡ first_slot_lem field.now }
+    ensures { result ≡ spec.first_slot field.now }
 {
     if is_union(field.kind) {
         field.slot.saturating_sub(1)
@@ -21,7 +20,7 @@ fn first_slot(field: &TableField) -> usize
 }
 
 fn field_schema(alloc: Global, field: &TableField) -> Result<FieldSchema, AllocError>
-    ensures { IfOk result (λ shown. field_shape shown ≡ field_shown field.now) }
+    ensures { IfOk result (λ shown. field_shape shown ≡ spec.field_shown field.now) }
 {
     Ok(FieldSchema {
         slot: first_slot(field),
@@ -33,7 +32,7 @@ fn field_schema(alloc: Global, field: &TableField) -> Result<FieldSchema, AllocE
 }
 
 fn field_schemas(alloc: Global, fields: &[TableField]) -> Result<Vec<FieldSchema>, AllocError>
-    ensures { IfOk result (λ shown. map field_shape shown.items ≡ map field_shown fields.now) }
+    ensures { IfOk result (λ shown. map field_shape shown.items ≡ map spec.field_shown fields.now) }
 {
     let mut shown = Vec::new(alloc);
     for field in fields {
@@ -43,7 +42,7 @@ fn field_schemas(alloc: Global, fields: &[TableField]) -> Result<Vec<FieldSchema
 }
 
 fn fields_of(alloc: Global, body: &Body) -> Result<Vec<FieldSchema>, AllocError>
-    ensures { IfOk result (λ shown. map field_shape shown.items ≡ fields_shown body.now) }
+    ensures { IfOk result (λ shown. map field_shape shown.items ≡ spec.fields_shown body.now) }
 {
     match body {
         Body::Table(table) => field_schemas(alloc, &table.fields),
@@ -53,7 +52,7 @@ fn fields_of(alloc: Global, body: &Body) -> Result<Vec<FieldSchema>, AllocError>
 
 /// A table with no fields for any other declaration.
 pub(crate) fn table_schema(alloc: Global, declared: &Declared) -> Result<TableSchema, AllocError>
-    ensures { IfOk result (λ shown. table_shape shown ≡ table_shown declared.now) }
+    ensures { IfOk result (λ shown. table_shape shown ≡ spec.table_shown declared.now) }
 {
     Ok(TableSchema {
         name: shown_name(alloc, &declared.name)?,

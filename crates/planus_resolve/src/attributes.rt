@@ -3,15 +3,14 @@
 ghost use Rattle.std.specs.Prelude.{◌≡◌, map};
 ghost use Rattle.std.specs.Option.{option_map};
 ghost use Rattle.planus_syntax.specs.Values.{attribute_of};
-ghost use Rattle.planus_resolve.specs.Names.{setting as setting_lem, has as has_lem};
-ghost use Rattle.planus_resolve.specs.Names.{attribute_named};
+ghost use Rattle.planus_resolve.specs.Names as spec;
 
 use planus_syntax::{Attribute, label_is};
 
 pub(crate) fn setting<'a>(attributes: &'a [Attribute], word: &[u8]) -> Option<&'a Attribute>
     ensures said { option_map (λ a. attribute_of a.now) result
-        ≡ setting_lem word.now (map attribute_of attributes.now) }
-    ensures place { option_map (λ a. a.now) result ≡ attribute_named word.now attributes.now }
+        ≡ spec.setting word.now (map attribute_of attributes.now) }
+    ensures place { option_map (λ a. a.now) result ≡ spec.attribute_named word.now attributes.now }
 {
     let mut rest = attributes;
     'attributes: while let Some((first, after)) = rest.split_first() {
@@ -24,7 +23,7 @@ pub(crate) fn setting<'a>(attributes: &'a [Attribute], word: &[u8]) -> Option<&'
 }
 
 pub(crate) fn has(attributes: &[Attribute], word: &[u8]) -> bool
-    ensures { result ≡ has_lem word.now (map attribute_of attributes.now) }
+    ensures { result ≡ spec.has word.now (map attribute_of attributes.now) }
 {
     setting(attributes, word).is_some()
 }

@@ -5,12 +5,7 @@ ghost use Rattle.std.specs.Prelude.{◌≡◌, ◌++◌, ◌∷◌, [], List, If
 ghost use Rattle.planus_syntax.specs.Values.{Name, names_of};
 ghost use Rattle.planus_resolve.specs.inner.Index.{IsTaken};
 ghost use Rattle.planus_resolve.specs.Wrong.{Tells};
-ghost use Rattle.planus_resolve.specs.WrongServices.{built_in as built_in_lem};
-ghost use Rattle.planus_resolve.specs.WrongServices.{customs_in};
-ghost use Rattle.planus_resolve.specs.WrongServices.{known_attributes as known_attributes_lem};
-ghost use Rattle.planus_resolve.specs.WrongServices.{wrong_attributes};
-ghost use Rattle.planus_resolve.specs.WrongServices.{wrong_in_fields};
-ghost use Rattle.planus_resolve.specs.WrongServices.{wrong_method, wrong_methods, wrong_item};
+ghost use Rattle.planus_resolve.specs.WrongServices as spec;
 
 use crate::attribute_names::AttributeNames;
 use crate::fault::{Problem, Stop, or_return, wrong};
@@ -31,7 +26,7 @@ const BUILT_IN: &[u8] = b"bit_flags deprecated flexbuffer force_align hash id ke
 
 #[tactic(auto, unfolding(crate::specs::WrongServices::built_in))]
 fn built_in(alloc: Global) -> Result<Vec<Vec<u8>>, AllocError>
-    ensures { IfOk result (λ v. names_of v.items ≡ built_in_lem) }
+    ensures { IfOk result (λ v. names_of v.items ≡ spec.built_in) }
 {
     cut_words(alloc, BUILT_IN)
 }
@@ -42,7 +37,7 @@ fn add_customs(
     declarations: &[Declaration],
 ) -> Result<(), AllocError>
     ensures { OnOk result (names_of known.new.items
-        ≡ names_of known.old.items ++ customs_in declarations.now) }
+        ≡ names_of known.old.items ++ spec.customs_in declarations.now) }
 {
     'declarations: for declaration in declarations {
         if let Item::Attribute(label) = &declaration.item {
@@ -57,7 +52,7 @@ pub(crate) fn known_attributes(
     alloc: Global,
     files: &[Vec<Declaration>],
 ) -> Result<Vec<Vec<u8>>, AllocError>
-    ensures { IfOk result (λ v. names_of v.items ≡ known_attributes_lem files.now) }
+    ensures { IfOk result (λ v. names_of v.items ≡ spec.known_attributes files.now) }
 {
     let mut known = or_return!(built_in(alloc));
     'files: for declarations in files {
@@ -71,7 +66,7 @@ fn check_attributes(
     known: &AttributeNames,
     attributes: &[Attribute],
 ) -> Result<(), Stop>
-    ensures { Tells (wrong_attributes known.now attributes.now) result }
+    ensures { Tells (spec.wrong_attributes known.now attributes.now) result }
 {
     'attributes: for attribute in attributes {
         let label = &attribute.label;
@@ -84,7 +79,7 @@ fn check_attributes(
 }
 
 fn check_fields(alloc: Global, known: &AttributeNames, fields: &[Field]) -> Result<(), Stop>
-    ensures { Tells (wrong_in_fields known.now fields.now) result }
+    ensures { Tells (spec.wrong_in_fields known.now fields.now) result }
 {
     'fields: for field in fields {
         or_return!(check_attributes(alloc, known, &field.attributes));
@@ -101,7 +96,7 @@ fn check_method<'n>(
     ensures taken { (list : List Name) → IsTaken names.old list
         → OnOk result (IsTaken names.new (list ++ method.now.name.items ∷ [])) }
     ensures wrong { (list : List Name) → IsTaken names.old list
-        → Tells (wrong_method (scope_heads scope.now) (scope_space scope.now)
+        → Tells (spec.wrong_method (scope_heads scope.now) (scope_space scope.now)
         known.now list method.now) result }
 {
     let new = or_return!(take_key(names, &method.name), Stop::OutOfMemory);
@@ -115,7 +110,7 @@ fn check_method<'n>(
 }
 
 fn check_methods(scope: &Scope, known: &AttributeNames, methods: &[Method]) -> Result<(), Stop>
-    ensures { Tells (wrong_methods (scope_heads scope.now) (scope_space scope.now)
+    ensures { Tells (spec.wrong_methods (scope_heads scope.now) (scope_space scope.now)
         known.now [] methods.now) result }
 {
     let mut names = BTreeMap::new(scope.alloc);
@@ -126,7 +121,7 @@ fn check_methods(scope: &Scope, known: &AttributeNames, methods: &[Method]) -> R
 }
 
 pub(crate) fn check_item(scope: &Scope, known: &AttributeNames, item: &Item) -> Result<(), Stop>
-    ensures { Tells (wrong_item (scope_heads scope.now) (scope_space scope.now)
+    ensures { Tells (spec.wrong_item (scope_heads scope.now) (scope_space scope.now)
         known.now item.now) result }
 {
     match item {

@@ -4,34 +4,13 @@ ghost use Rattle.std.specs.Prelude.{◌≡◌, [], true, not, map, IfOk, Some, N
 ghost use Rattle.std.specs.Option.{option_map};
 ghost use Rattle.std.specs.List.{list_any};
 ghost use Rattle.planus_syntax.specs.Values.{path_of, literal_of, variant_of, enumeration_of};
-ghost use Rattle.planus_resolve.specs.Names.{head_of, item_at, is_set};
+ghost use Rattle.planus_resolve.specs.Names as names_spec;
 ghost use Rattle.planus_resolve.specs.Wrong.{Tells, when};
 ghost use Rattle.planus_resolve.specs.WrongTables.{wrong_default};
-ghost use Rattle.planus_resolve.specs.Defaults.{some_default};
-ghost use Rattle.planus_resolve.specs.Enums.{same_number as same_number_lem, numbers_said, variants_or_none};
-ghost use Rattle.planus_resolve.specs.Defaults.{value_of, float, number_default, as_flags, null_or};
-ghost use Rattle.planus_resolve.specs.Defaults.{lone_word as lone_word_lem, is_null as is_null_lem};
-ghost use Rattle.planus_resolve.specs.Defaults.{bool_number as bool_number_lem};
-ghost use Rattle.planus_resolve.specs.Defaults.{named_bool as named_bool_lem};
-ghost use Rattle.planus_resolve.specs.Defaults.{scalar_number as scalar_number_lem};
-ghost use Rattle.planus_resolve.specs.Defaults.{scalar_word as scalar_word_lem};
-ghost use Rattle.planus_resolve.specs.Defaults.{has_exponent as has_exponent_lem};
-ghost use Rattle.planus_resolve.specs.Defaults.{scalar_quoted as scalar_quoted_lem};
-ghost use Rattle.planus_resolve.specs.Defaults.{value_in as value_in_lem};
-ghost use Rattle.planus_resolve.specs.Defaults.{enum_quoted as enum_quoted_lem};
-ghost use Rattle.planus_resolve.specs.Enums.{integers_of};
-ghost use Rattle.planus_resolve.specs.Names.{cut_words as cut_words_lem};
+ghost use Rattle.planus_resolve.specs.Defaults as spec;
+ghost use Rattle.planus_resolve.specs.Enums as enums_spec;
+ghost use Rattle.planus_resolve.specs.Defaults.{value_of};
 ghost use Rattle.planus_schema.specs.Numbers.{integer_said};
-ghost use Rattle.planus_resolve.specs.Defaults.{default_said};
-ghost use Rattle.planus_resolve.specs.Defaults.{scalar_default as scalar_default_lem};
-ghost use Rattle.planus_resolve.specs.Defaults.{value_named as value_named_lem};
-ghost use Rattle.planus_resolve.specs.Defaults.{value_name as value_name_lem};
-ghost use Rattle.planus_resolve.specs.Defaults.{is_among_values as is_among_values_lem};
-ghost use Rattle.planus_resolve.specs.Defaults.{enum_named as enum_named_lem};
-ghost use Rattle.planus_resolve.specs.Defaults.{enum_default as enum_default_lem};
-ghost use Rattle.planus_resolve.specs.Defaults.{enum_at as enum_at_lem};
-ghost use Rattle.planus_resolve.specs.Defaults.{zero_default as zero_default_lem};
-ghost use Rattle.planus_resolve.specs.Defaults.{flags_named as flags_named_lem};
 ghost use Rattle.planus_syntax.specs.Values.{names_of};
 
 use crate::attributes::has;
@@ -51,7 +30,7 @@ use planus_syntax::{
 use std::alloc::{AllocError, Global};
 
 fn lone_word(path: &Path) -> Option<&[u8]>
-    ensures { option_map (λ w. w.now) result ≡ lone_word_lem (path_of path.now) }
+    ensures { option_map (λ w. w.now) result ≡ spec.lone_word (path_of path.now) }
 {
     if path.more.is_empty() {
         Some(&path.first)
@@ -61,26 +40,26 @@ fn lone_word(path: &Path) -> Option<&[u8]>
 }
 
 fn is_null(word: &[u8]) -> bool
-    ensures { result ≡ is_null_lem word.now }
+    ensures { result ≡ spec.is_null word.now }
 {
     word == b"null".as_slice()
 }
 
 fn float_of(alloc: Global, word: &[u8]) -> Result<Option<Value>, AllocError>
-    ensures { IfOk result (λ o. option_map value_of o ≡ Some (float word.now)) }
+    ensures { IfOk result (λ o. option_map value_of o ≡ Some (spec.float word.now)) }
 {
     let word = or_return!(Vec::from_slice(alloc, word));
     Ok(Some(Value::Float(word)))
 }
 
 fn has_exponent(digits: &[u8]) -> bool
-    ensures { result ≡ has_exponent_lem digits.now }
+    ensures { result ≡ spec.has_exponent digits.now }
 {
     digits.iter().any(|b| *b == b'p' || *b == b'P')
 }
 
 fn bool_number(digits: &[u8]) -> Option<Value>
-    ensures { option_map value_of result ≡ bool_number_lem (integer_said digits.now) }
+    ensures { option_map value_of result ≡ spec.bool_number (integer_said digits.now) }
 {
     match integer(digits) {
         Some(number) if Scalar::UByte.fits(number) => Some(Value::Integer(Number {
@@ -92,7 +71,7 @@ fn bool_number(digits: &[u8]) -> Option<Value>
 }
 
 fn named_bool(word: &[u8]) -> Option<Value>
-    ensures { option_map value_of result ≡ named_bool_lem word.now }
+    ensures { option_map value_of result ≡ spec.named_bool word.now }
 {
     if word == b"true".as_slice() {
         Some(Value::Integer(Number {
@@ -110,7 +89,7 @@ fn named_bool(word: &[u8]) -> Option<Value>
 }
 
 fn scalar_number(alloc: Global, scalar: Scalar, digits: &[u8]) -> Result<Option<Value>, AllocError>
-    ensures { IfOk result (λ o. option_map value_of o ≡ scalar_number_lem scalar digits.now) }
+    ensures { IfOk result (λ o. option_map value_of o ≡ spec.scalar_number scalar digits.now) }
 {
     if scalar.is_float() {
         if is_hexadecimal(without_sign(digits)) && !has_exponent(digits) {
@@ -129,7 +108,7 @@ fn scalar_number(alloc: Global, scalar: Scalar, digits: &[u8]) -> Result<Option<
 }
 
 fn scalar_word(alloc: Global, scalar: Scalar, word: &[u8]) -> Result<Option<Value>, AllocError>
-    ensures { IfOk result (λ o. option_map value_of o ≡ scalar_word_lem scalar word.now) }
+    ensures { IfOk result (λ o. option_map value_of o ≡ spec.scalar_word scalar word.now) }
 {
     if is_null(word) {
         Ok(Some(Value::Absent))
@@ -147,7 +126,7 @@ fn scalar_word(alloc: Global, scalar: Scalar, word: &[u8]) -> Result<Option<Valu
 }
 
 fn scalar_quoted(alloc: Global, scalar: Scalar, text: &[u8]) -> Result<Option<Value>, AllocError>
-    ensures { IfOk result (λ o. option_map value_of o ≡ scalar_quoted_lem scalar text.now) }
+    ensures { IfOk result (λ o. option_map value_of o ≡ spec.scalar_quoted scalar text.now) }
 {
     if is_number(text) {
         scalar_number(alloc, scalar, text)
@@ -162,7 +141,7 @@ fn scalar_default(
     literal: &Literal,
 ) -> Result<Option<Value>, AllocError>
     ensures { IfOk result (λ o. option_map value_of o
-        ≡ scalar_default_lem scalar (literal_of literal.now)) }
+        ≡ spec.scalar_default scalar (literal_of literal.now)) }
 {
     match literal {
         Literal::Number(digits) => scalar_number(alloc, scalar, digits),
@@ -176,7 +155,7 @@ fn scalar_default(
 }
 
 fn value_named(variants: &[Variant], name: &[u8], flags: bool) -> Option<Number>
-    ensures { result ≡ value_named_lem name.now flags None (map variant_of variants.now) }
+    ensures { result ≡ spec.value_named name.now flags None (map variant_of variants.now) }
 {
     let mut previous = None;
     let mut rest = variants;
@@ -195,8 +174,8 @@ fn value_named(variants: &[Variant], name: &[u8], flags: bool) -> Option<Number>
 }
 
 fn has_value(variants: &[Variant], number: Number) -> bool
-    ensures { result ≡ list_any (λ v. same_number_lem v number)
-        (numbers_said None (map variant_of variants.now)) }
+    ensures { result ≡ list_any (λ v. enums_spec.same_number v number)
+        (enums_spec.numbers_said None (map variant_of variants.now)) }
 {
     let mut previous = None;
     let mut rest = variants;
@@ -215,8 +194,8 @@ fn has_value(variants: &[Variant], number: Number) -> bool
 }
 
 fn named_value(declared: &Enumeration, name: &[u8], flags: bool) -> Option<Number>
-    ensures { result ≡ value_named_lem name.now flags None
-        (variants_or_none (enumeration_of declared.now).variants) }
+    ensures { result ≡ spec.value_named name.now flags None
+        (enums_spec.variants_or_none (enumeration_of declared.now).variants) }
 {
     if !declared.variants.is_empty() {
         value_named(&declared.variants, name, flags)
@@ -234,8 +213,9 @@ fn named_value(declared: &Enumeration, name: &[u8], flags: bool) -> Option<Numbe
 }
 
 fn is_value(declared: &Enumeration, number: Number) -> bool
-    ensures { result ≡ list_any (λ v. same_number_lem v number)
-        (numbers_said None (variants_or_none (enumeration_of declared.now).variants)) }
+    ensures { result ≡ list_any (λ v. enums_spec.same_number v number)
+        (enums_spec.numbers_said None (enums_spec.variants_or_none (enumeration_of
+        declared.now).variants)) }
 {
     if declared.variants.is_empty() {
         !number.negative && number.magnitude == 0
@@ -246,7 +226,7 @@ fn is_value(declared: &Enumeration, number: Number) -> bool
 
 /// Of an enum of this integer type.
 fn is_among_values(scalar: Option<Scalar>, declared: &Enumeration, number: Number) -> bool
-    ensures { result ≡ is_among_values_lem scalar (enumeration_of declared.now) number }
+    ensures { result ≡ spec.is_among_values scalar (enumeration_of declared.now) number }
 {
     if has(&declared.attributes, b"bit_flags") {
         match scalar {
@@ -260,7 +240,7 @@ fn is_among_values(scalar: Option<Scalar>, declared: &Enumeration, number: Numbe
 
 fn value_name<'a>(declared: &Enumeration, path: &'a Path) -> Option<&'a [u8]>
     ensures { option_map (λ w. w.now) result
-        ≡ value_name_lem (enumeration_of declared.now) (path_of path.now) }
+        ≡ spec.value_name (enumeration_of declared.now) (path_of path.now) }
 {
     match path.more.as_slice() {
         [] => Some(&path.first),
@@ -271,7 +251,7 @@ fn value_name<'a>(declared: &Enumeration, path: &'a Path) -> Option<&'a [u8]>
 
 fn value_in(declared: &Enumeration, name: &[u8]) -> Option<Value>
     ensures { option_map value_of result
-        ≡ value_in_lem (enumeration_of declared.now) (Some name.now) }
+        ≡ spec.value_in (enumeration_of declared.now) (Some name.now) }
 {
     let flags = has(&declared.attributes, b"bit_flags");
     match named_value(declared, name, flags) {
@@ -282,7 +262,7 @@ fn value_in(declared: &Enumeration, name: &[u8]) -> Option<Value>
 
 fn enum_named(declared: &Enumeration, path: &Path) -> Option<Value>
     ensures { option_map value_of result
-        ≡ enum_named_lem (enumeration_of declared.now) (path_of path.now) }
+        ≡ spec.enum_named (enumeration_of declared.now) (path_of path.now) }
 {
     match value_name(declared, path) {
         Some(name) => value_in(declared, name),
@@ -292,7 +272,7 @@ fn enum_named(declared: &Enumeration, path: &Path) -> Option<Value>
 
 fn enum_number(scalar: Option<Scalar>, declared: &Enumeration, digits: &[u8]) -> Option<Value>
     ensures { option_map value_of result
-        ≡ number_default scalar (enumeration_of declared.now) (integer_said digits.now) }
+        ≡ spec.number_default scalar (enumeration_of declared.now) (integer_said digits.now) }
 {
     match integer(digits) {
         Some(number) if is_among_values(scalar, declared, number) => Some(Value::Integer(number)),
@@ -301,7 +281,7 @@ fn enum_number(scalar: Option<Scalar>, declared: &Enumeration, digits: &[u8]) ->
 }
 
 fn flags_named(declared: &Enumeration, words: &[Vec<u8>]) -> Option<u64>
-    ensures { result ≡ flags_named_lem (enumeration_of declared.now) (names_of words.now) }
+    ensures { result ≡ spec.flags_named (enumeration_of declared.now) (names_of words.now) }
 {
     let mut total = 0;
     'words: for word in words {
@@ -319,7 +299,8 @@ fn flags_default(
     text: &[u8],
 ) -> Result<Option<Value>, AllocError>
     ensures { IfOk result (λ o. option_map value_of o
-        ≡ as_flags (flags_named_lem (enumeration_of declared.now) (cut_words_lem [] text.now))) }
+        ≡ spec.as_flags (spec.flags_named (enumeration_of declared.now)
+        (names_spec.cut_words [] text.now))) }
 {
     let words = or_return!(cut_words(alloc, text));
     match flags_named(declared, &words) {
@@ -338,7 +319,7 @@ fn enum_quoted(
     text: &[u8],
 ) -> Result<Option<Value>, AllocError>
     ensures { IfOk result (λ o. option_map value_of o
-        ≡ enum_quoted_lem scalar (enumeration_of declared.now) text.now) }
+        ≡ spec.enum_quoted scalar (enumeration_of declared.now) text.now) }
 {
     if is_number(text) {
         Ok(enum_number(scalar, declared, text))
@@ -353,8 +334,8 @@ fn enum_quoted(
 
 fn enum_word(declared: &Enumeration, path: &Path) -> Option<Value>
     ensures { option_map value_of result
-        ≡ null_or (lone_word_lem (path_of path.now))
-        (enum_named_lem (enumeration_of declared.now) (path_of path.now)) }
+        ≡ spec.null_or (spec.lone_word (path_of path.now))
+        (spec.enum_named (enumeration_of declared.now) (path_of path.now)) }
 {
     match lone_word(path) {
         Some(word) if is_null(word) => Some(Value::Absent),
@@ -369,7 +350,7 @@ fn enum_default(
     literal: &Literal,
 ) -> Result<Option<Value>, AllocError>
     ensures { IfOk result (λ o. option_map value_of o
-        ≡ enum_default_lem scalar (enumeration_of declared.now) (literal_of literal.now)) }
+        ≡ spec.enum_default scalar (enumeration_of declared.now) (literal_of literal.now)) }
 {
     match literal {
         Literal::Number(digits) => Ok(enum_number(scalar, declared, digits)),
@@ -381,7 +362,7 @@ fn enum_default(
 
 fn enum_at<'b>(heads: &'b Heads, index: usize) -> Option<&'b Enumeration>
     ensures { option_map (λ e. enumeration_of e.now) result
-        ≡ enum_at_lem (item_at (map head_of heads.now) index) }
+        ≡ spec.enum_at (names_spec.item_at (map names_spec.head_of heads.now) index) }
 {
     match item_of_head(heads, index) {
         Some(Item::Enum(declared)) => Some(declared),
@@ -396,9 +377,10 @@ pub(crate) fn literal_default(
     kind: FieldType,
     literal: &Literal,
 ) -> Result<Option<Value>, AllocError>
-    requires { integers.now ≡ integers_of (map head_of heads.now) }
-    ensures { IfOk result (λ o. some_default (option_map value_of o)
-        ≡ default_said (map head_of heads.now) kind (Some (literal_of literal.now))) }
+    requires { integers.now ≡ enums_spec.integers_of (map names_spec.head_of heads.now) }
+    ensures { IfOk result (λ o. spec.some_default (option_map value_of o)
+        ≡ spec.default_said (map names_spec.head_of heads.now) kind (Some
+        (literal_of literal.now))) }
 {
     match (kind.base, literal) {
         (_, Literal::EmptyVector) if kind.vector => Ok(Some(Value::EmptyVector)),
@@ -423,10 +405,11 @@ fn zero_default(
     base: Base,
     left: usize,
 ) -> Result<Option<Value>, Stop>
-    requires { integers.now ≡ integers_of (map head_of heads.now) }
-    ensures value { IfOk result (λ o. zero_default_lem (map head_of heads.now) base
+    requires { integers.now ≡ enums_spec.integers_of (map names_spec.head_of heads.now) }
+    ensures value { IfOk result (λ o. spec.zero_default (map names_spec.head_of heads.now) base
         ≡ Some (option_map value_of o)) }
-    ensures wrong { Tells (when (not (is_set (zero_default_lem (map head_of heads.now) base)))
+    ensures wrong { Tells (when (not (names_spec.is_set (spec.zero_default
+        (map names_spec.head_of heads.now) base)))
         Problem.UnknownValue left) result }
 {
     let zero = Number {
@@ -457,10 +440,11 @@ pub(crate) fn default_of(
     literal: &Option<Literal>,
     left: usize,
 ) -> Result<Option<Value>, Stop>
-    requires { integers.now ≡ integers_of (map head_of heads.now) }
-    ensures value { IfOk result (λ o. default_said (map head_of heads.now) kind
+    requires { integers.now ≡ enums_spec.integers_of (map names_spec.head_of heads.now) }
+    ensures value { IfOk result (λ o. spec.default_said (map names_spec.head_of heads.now) kind
         (option_map literal_of literal.now) ≡ Some (option_map value_of o)) }
-    ensures wrong { Tells (wrong_default (map head_of heads.now) kind left literal.now) result }
+    ensures wrong { Tells (wrong_default (map names_spec.head_of heads.now) kind left literal.now)
+        result }
 {
     match literal {
         Some(literal) => {

@@ -3,11 +3,7 @@
 ghost use Rattle.std.specs.Prelude.{◌≡◌, ◌^◌, ◌<◌, ◌∷◌, true, false, map, IfOk, IfSome, [], Some, None};
 ghost use Rattle.std.specs.Prelude.{if◌then◌else◌};
 ghost use Rattle.planus_syntax.specs.Values.{variant_of, enumeration_of};
-ghost use Rattle.planus_resolve.specs.Enums.{same_number as same_number_lem, number_of_value};
-ghost use Rattle.planus_resolve.specs.Enums.{SaysEnum, IsEnum};
-ghost use Rattle.planus_resolve.specs.Enums.{IsValueAdded, AreValues, number_said};
-ghost use Rattle.planus_resolve.specs.Enums.{none_variant, variants_or_none, is_integer_type};
-ghost use Rattle.planus_resolve.specs.Enums.{settled_said};
+ghost use Rattle.planus_resolve.specs.Enums as spec;
 ghost use Rattle.planus_resolve.specs.Wrong.{Tells};
 ghost use Rattle.planus_resolve.specs.inner.Numbers.{AreNumbers};
 ghost use Rattle.planus_resolve.specs.WrongEnums.{wrong_value, wrong_names};
@@ -24,7 +20,7 @@ use std::alloc::{AllocError, Global};
 use std::collections::BTreeMap;
 
 pub(crate) fn number_of(previous: Option<Number>, variant: &Variant) -> Option<Number>
-    ensures { result ≡ number_said previous (variant_of variant.now).value }
+    ensures { result ≡ spec.number_said previous (variant_of variant.now).value }
 {
     match &variant.value {
         Some(digits) => integer(digits),
@@ -39,7 +35,7 @@ pub(crate) fn number_of(previous: Option<Number>, variant: &Variant) -> Option<N
 }
 
 pub(crate) fn value_of(flags: bool, number: Number) -> Option<Number>
-    ensures { result ≡ settled_said flags number }
+    ensures { result ≡ spec.settled_said flags number }
 {
     if !flags {
         Some(number)
@@ -54,7 +50,7 @@ pub(crate) fn value_of(flags: bool, number: Number) -> Option<Number>
 }
 
 pub(crate) fn same_number(a: Number, b: Number) -> bool
-    ensures { result ≡ same_number_lem a b }
+    ensures { result ≡ spec.same_number a b }
 {
     (if a.negative { b.negative } else { !b.negative }) && a.magnitude == b.magnitude
 }
@@ -67,11 +63,13 @@ fn add_value(
     variant: &Variant,
     number: Number,
 ) -> Result<(), Stop>
-    requires { AreNumbers taken.old (map number_of_value values.old.items) }
-    ensures taken { IfOk result (λ _. AreNumbers taken.new (map number_of_value values.new.items)) }
-    ensures added { IfOk result (λ _. IsValueAdded scalar (variant_of variant.now) number
+    requires { AreNumbers taken.old (map spec.number_of_value values.old.items) }
+    ensures taken { IfOk result (λ _. AreNumbers taken.new (map spec.number_of_value
+        values.new.items)) }
+    ensures added { IfOk result (λ _. spec.IsValueAdded scalar (variant_of variant.now) number
         values.old.items values.new.items) }
-    ensures wrong { Tells (wrong_value scalar (map number_of_value values.old.items) variant.now
+    ensures wrong { Tells (wrong_value scalar (map spec.number_of_value values.old.items)
+        variant.now
         (Some number)) result }
 {
     if !scalar.fits(number) {
@@ -108,7 +106,7 @@ fn enum_values(
     flags: bool,
     variants: &[Variant],
 ) -> Result<Vec<EnumValue>, Stop>
-    ensures says { IfOk result (λ values. AreValues scalar flags (map variant_of variants.now)
+    ensures says { IfOk result (λ values. spec.AreValues scalar flags (map variant_of variants.now)
         values.items) }
     ensures wrong { Tells (wrong_values scalar flags None [] variants.now) result }
 {
@@ -140,8 +138,8 @@ fn none_number(flags: bool) -> Number
 }
 
 fn none_alone(alloc: Global, scalar: Scalar, flags: bool) -> Result<Vec<EnumValue>, AllocError>
-    requires { is_integer_type scalar ≡ true }
-    ensures says { IfOk result (λ values. AreValues scalar flags (none_variant ∷ [])
+    requires { spec.is_integer_type scalar ≡ true }
+    ensures says { IfOk result (λ values. spec.AreValues scalar flags (spec.none_variant ∷ [])
         values.items) }
 {
     let name = or_return!(Vec::from_slice(alloc, b"NONE"));
@@ -161,9 +159,9 @@ fn values_or_none(
     flags: bool,
     variants: &[Variant],
 ) -> Result<Vec<EnumValue>, Stop>
-    requires { is_integer_type scalar ≡ true }
-    ensures says { IfOk result (λ values. AreValues scalar flags
-        (variants_or_none (map variant_of variants.now)) values.items) }
+    requires { spec.is_integer_type scalar ≡ true }
+    ensures says { IfOk result (λ values. spec.AreValues scalar flags
+        (spec.variants_or_none (map variant_of variants.now)) values.items) }
     ensures wrong { Tells (wrong_values scalar flags None [] variants.now) result }
 {
     if variants.is_empty() {
@@ -179,9 +177,9 @@ pub(crate) fn enum_of(
     integer: Option<Scalar>,
     declared: &Enumeration,
 ) -> Result<Enum, Stop>
-    requires { IfSome integer (λ s. is_integer_type s ≡ true) }
-    ensures says { IfOk result (λ e. SaysEnum integer (enumeration_of declared.now) e) }
-    ensures sound { IfOk result (λ e. IsEnum e) }
+    requires { IfSome integer (λ s. spec.is_integer_type s ≡ true) }
+    ensures says { IfOk result (λ e. spec.SaysEnum integer (enumeration_of declared.now) e) }
+    ensures sound { IfOk result (λ e. spec.IsEnum e) }
     ensures wrong { Tells (wrong_enum integer declared.now) result }
 {
     let flags = has(&declared.attributes, b"bit_flags");

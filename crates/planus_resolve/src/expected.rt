@@ -1,7 +1,7 @@
 //! What stands at a place that names a type.
 
 ghost use Rattle.std.specs.Prelude.{◌≡◌};
-ghost use Rattle.planus_resolve.specs.Fitting.{fits as fits_lem};
+ghost use Rattle.planus_resolve.specs.Fitting as spec;
 
 use planus_schema::Base;
 
@@ -24,7 +24,7 @@ pub enum Expected {
 impl Expected {
     /// Returns whether a type may stand there.
     pub(crate) fn fits(self, base: Base) -> bool
-        ensures { result ≡ fits_lem self base }
+        ensures { result ≡ spec.fits self base }
     {
         match self {
             Expected::AnyType => true,

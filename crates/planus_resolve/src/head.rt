@@ -3,14 +3,9 @@
 ghost use Rattle.std.specs.Prelude.{◌≡◌, ◌++◌, ◌∷◌, [], map, fold, take, length, IfOk, OnOk, ◌≤◌};
 ghost use Rattle.std.specs.Option.{option_map};
 ghost use Rattle.planus_syntax.specs.Values.{names_of, item_of, declaration_of, declarations_of};
-ghost use Rattle.planus_resolve.specs.Names.{with_word, space_of, path_in, heads_at};
-ghost use Rattle.planus_resolve.specs.Names.{heads_in};
+ghost use Rattle.planus_resolve.specs.Names as spec;
 ghost use Rattle.planus_resolve.specs.Faults.{placed_of, placed_at, placed_in, placed_from};
-ghost use Rattle.planus_resolve.specs.Names.{own_name as own_name_lem, head_of, heads_of, dotted};
 ghost use Rattle.planus_resolve.specs.Fitting.{head_fits};
-ghost use Rattle.planus_resolve.specs.Names.{base_of_item};
-ghost use Rattle.planus_resolve.specs.Names.{space_after as space_after_lem};
-ghost use Rattle.planus_resolve.specs.Names.{begun_after as begun_after_lem};
 
 use crate::expected::Expected;
 use crate::fault::or_return;
@@ -29,7 +24,7 @@ pub struct Head<'a> {
 
 /// Returns the type that a declaration of this index is, or `None` where it is none.
 pub(crate) fn item_base(item: &Item, index: usize) -> Option<Base>
-    ensures { result ≡ base_of_item (item_of item.now) index }
+    ensures { result ≡ spec.base_of_item (item_of item.now) index }
 {
     match item {
         Item::Table(_) => Some(Base::Table(index)),
@@ -43,7 +38,7 @@ pub(crate) fn item_base(item: &Item, index: usize) -> Option<Base>
 impl Head<'_> {
     /// Returns whether this declaration, of this index, may stand where a type is expected.
     pub fn fits(&self, expected: Expected, index: usize) -> bool
-        ensures { result ≡ head_fits expected index (head_of self.now) }
+        ensures { result ≡ head_fits expected index (spec.head_of self.now) }
     {
         match item_base(&self.declaration.item, index) {
             Some(base) => expected.fits(base),
@@ -53,7 +48,7 @@ impl Head<'_> {
 }
 
 fn put_word(out: &mut Vec<u8>, word: &[u8]) -> Result<(), AllocError>
-    ensures { OnOk result (out.new.items ≡ with_word out.old.items word.now) }
+    ensures { OnOk result (out.new.items ≡ spec.with_word out.old.items word.now) }
 {
     if !out.is_empty() {
         or_return!(out.push(b'.'), AllocError);
@@ -62,7 +57,7 @@ fn put_word(out: &mut Vec<u8>, word: &[u8]) -> Result<(), AllocError>
 }
 
 fn put_words(out: &mut Vec<u8>, words: &[Vec<u8>]) -> Result<(), AllocError>
-    ensures { OnOk result (out.new.items ≡ fold with_word out.old.items (names_of words.now)) }
+    ensures { OnOk result (out.new.items ≡ fold spec.with_word out.old.items (names_of words.now)) }
 {
     'words: for word in words {
         or_return!(put_word(out, word));
@@ -71,7 +66,7 @@ fn put_words(out: &mut Vec<u8>, words: &[Vec<u8>]) -> Result<(), AllocError>
 }
 
 pub(crate) fn depth(space: Option<&Path>) -> usize
-    ensures { result ≡ length (space_of space.entry) }
+    ensures { result ≡ length (spec.space_of space.entry) }
 {
     match space {
         Some(path) => path.more.len() + 1,
@@ -80,9 +75,9 @@ pub(crate) fn depth(space: Option<&Path>) -> usize
 }
 
 fn put_space(out: &mut Vec<u8>, space: Option<&Path>, count: usize) -> Result<(), AllocError>
-    requires { count ≤ length (space_of space) }
-    ensures { OnOk result (out.new.items ≡ fold with_word out.old.items
-        (take count (space_of space.entry))) }
+    requires { count ≤ length (spec.space_of space) }
+    ensures { OnOk result (out.new.items ≡ fold spec.with_word out.old.items
+        (take count (spec.space_of space.entry))) }
 {
     match space {
         Some(path) if count > 0 => {
@@ -101,9 +96,9 @@ pub(crate) fn dotted_name(
     first: &[u8],
     more: &[Vec<u8>],
 ) -> Result<Vec<u8>, AllocError>
-    requires { count ≤ length (space_of space) }
+    requires { count ≤ length (spec.space_of space) }
     ensures { IfOk result (λ v. v.items
-        ≡ dotted (take count (space_of space.entry) ++ first.now ∷ names_of more.now)) }
+        ≡ spec.dotted (take count (spec.space_of space.entry) ++ first.now ∷ names_of more.now)) }
 {
     let mut name = Vec::new(alloc);
     or_return!(put_space(&mut name, space, count));
@@ -113,7 +108,7 @@ pub(crate) fn dotted_name(
 }
 
 pub(crate) fn own_name(item: &Item) -> Option<&[u8]>
-    ensures { option_map (λ w. w.now) result ≡ own_name_lem (item_of item.now) }
+    ensures { option_map (λ w. w.now) result ≡ spec.own_name (item_of item.now) }
 {
     match item {
         Item::Table(record) | Item::Struct(record) => Some(&record.name),
@@ -130,10 +125,10 @@ fn add_head<'a>(
     space: Option<&'a Path>,
     declaration: &'a Declaration,
 ) -> Result<(), AllocError>
-    ensures heads { OnOk result (map head_of heads.new.items ≡ map head_of heads.old.items
-        ++ heads_at file (path_in space.entry) (declaration_of declaration.now)) }
+    ensures heads { OnOk result (map spec.head_of heads.new.items ≡ map spec.head_of heads.old.items
+        ++ spec.heads_at file (spec.path_in space.entry) (declaration_of declaration.now)) }
     ensures placed { OnOk result (map placed_of heads.new.items ≡ map placed_of heads.old.items
-        ++ placed_at file (path_in space.entry) declaration.now) }
+        ++ placed_at file (spec.path_in space.entry) declaration.now) }
 {
     let Some(word) = own_name(&declaration.item) else {
         return Ok(());
@@ -153,8 +148,8 @@ pub(crate) fn space_after<'a>(
     space: Option<&'a Path>,
     declaration: &'a Declaration,
 ) -> Option<&'a Path>
-    ensures { path_in result
-        ≡ space_after_lem (path_in space.entry) (item_of declaration.now.item) }
+    ensures { spec.path_in result
+        ≡ spec.space_after (spec.path_in space.entry) (item_of declaration.now.item) }
 {
     match &declaration.item {
         Item::Namespace(Some(path)) => Some(path),
@@ -165,7 +160,7 @@ pub(crate) fn space_after<'a>(
 
 /// Returns how many declarations have begun after one more item.
 pub(crate) fn begun_after(begun: usize, declaration: &Declaration) -> Result<usize, AllocError>
-    ensures { IfOk result (λ n. n ≡ begun_after_lem begun (item_of declaration.now.item)) }
+    ensures { IfOk result (λ n. n ≡ spec.begun_after begun (item_of declaration.now.item)) }
 {
     match own_name(&declaration.item) {
         // No memory holds so many declarations that this sum is too large.
@@ -183,8 +178,8 @@ fn add_heads<'a>(
     file: usize,
     declarations: &'a [Declaration],
 ) -> Result<(), AllocError>
-    ensures heads { OnOk result (map head_of heads.new.items ≡ map head_of heads.old.items
-        ++ heads_in file None (declarations_of declarations.now)) }
+    ensures heads { OnOk result (map spec.head_of heads.new.items ≡ map spec.head_of heads.old.items
+        ++ spec.heads_in file None (declarations_of declarations.now)) }
     ensures placed { OnOk result (map placed_of heads.new.items ≡ map placed_of heads.old.items
         ++ placed_in file None declarations.now) }
 {
@@ -198,8 +193,8 @@ fn add_heads<'a>(
 
 /// Returns the tables, structs, enums and unions of these files, in order.
 pub fn heads(alloc: Global, files: &[Vec<Declaration>]) -> Result<Vec<Head<'_>>, AllocError>
-    ensures heads { IfOk result (λ v. map head_of v.items
-        ≡ heads_of (map (λ f. declarations_of f.items) files.now)) }
+    ensures heads { IfOk result (λ v. map spec.head_of v.items
+        ≡ spec.heads_of (map (λ f. declarations_of f.items) files.now)) }
     ensures placed { IfOk result (λ v. map placed_of v.items ≡ placed_from 0 files.now) }
 {
     let mut heads = Vec::new(alloc);

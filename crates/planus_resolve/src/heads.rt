@@ -2,10 +2,9 @@
 
 ghost use Rattle.std.specs.Prelude.{◌≡◌, slice_get, map, IfOk};
 ghost use Rattle.std.specs.Option.{option_map};
-ghost use Rattle.planus_resolve.specs.Names.{head_of, index_of as index_of_lem};
+ghost use Rattle.planus_resolve.specs.Names as spec;
 ghost use Rattle.planus_resolve.specs.inner.Index.{IsIndex, IsLastIndex};
-ghost use Rattle.planus_resolve.specs.Uses.{ending as ending_lem, last_name as last_name_lem};
-ghost use Rattle.planus_resolve.specs.Names.{is_choice as is_choice_lem};
+ghost use Rattle.planus_resolve.specs.Uses as uses_spec;
 
 use crate::fault::or_return;
 use crate::head::{Head, own_name};
@@ -26,19 +25,19 @@ pub(crate) struct Heads<'h> {
 impl<'h> Model for Heads<'h> {
     ghost use Rattle.std.specs.Prelude.{List, map};
     ghost use Rattle.planus_resolve.specs.declared.head.Head.{Head};
-    ghost use Rattle.planus_resolve.specs.Names.{head_of};
+    ghost use Rattle.planus_resolve.specs.Names as spec;
     ghost use Rattle.planus_resolve.specs.inner.Index.{IsIndex, IsLastIndex};
 
     ghost Value = { List Head };
 
     ghost view = { λ a. a.list.now };
 
-    ghost invariant = { λ a. IsIndex a.first (map head_of a.list.now)
-        × IsLastIndex a.ending (map head_of a.list.now) };
+    ghost invariant = { λ a. IsIndex a.first (map spec.head_of a.list.now)
+        × IsLastIndex a.ending (map spec.head_of a.list.now) };
 }
 
 fn last_name<'h>(head: &Head<'h>) -> &'h [u8]
-    ensures { result.now ≡ last_name_lem (head_of head.now) }
+    ensures { result.now ≡ uses_spec.last_name (spec.head_of head.now) }
 {
     match own_name(&head.declaration.item) {
         Some(name) => name,
@@ -47,7 +46,7 @@ fn last_name<'h>(head: &Head<'h>) -> &'h [u8]
 }
 
 fn indices<'h>(alloc: Global, list: &'h [Head<'h>]) -> Result<BTreeMap<&'h [u8], usize>, AllocError>
-    ensures { IfOk result (λ m. IsIndex m (map head_of list.now)) }
+    ensures { IfOk result (λ m. IsIndex m (map spec.head_of list.now)) }
 {
     let mut first = BTreeMap::new(alloc);
     let mut index = list.len();
@@ -61,7 +60,7 @@ fn indices<'h>(alloc: Global, list: &'h [Head<'h>]) -> Result<BTreeMap<&'h [u8],
 
 /// Returns the first declaration of each last word.
 fn endings<'h>(alloc: Global, list: &'h [Head<'h>]) -> Result<BTreeMap<&'h [u8], usize>, AllocError>
-    ensures { IfOk result (λ m. IsLastIndex m (map head_of list.now)) }
+    ensures { IfOk result (λ m. IsLastIndex m (map spec.head_of list.now)) }
 {
     let mut first = BTreeMap::new(alloc);
     let mut index = list.len();
@@ -99,7 +98,7 @@ impl<'h> Heads<'h> {
 
     /// Returns whether a declaration is an enum or a union.
     pub(crate) fn is_choice(&self, index: usize) -> bool
-        ensures { result ≡ is_choice_lem (map head_of self.now) index }
+        ensures { result ≡ spec.is_choice (map spec.head_of self.now) index }
     {
         match self.list.get(index) {
             Some(head) => matches!(head.declaration.item, Item::Enum(_) | Item::Union(_)),
@@ -109,13 +108,13 @@ impl<'h> Heads<'h> {
 
     /// Returns the first declaration whose name ends with this word.
     pub(crate) fn ending(&self, word: &[u8]) -> Option<usize>
-        ensures { result ≡ ending_lem (map head_of self.now) word.now }
+        ensures { result ≡ uses_spec.ending (map spec.head_of self.now) word.now }
     {
         self.ending.get(word).copied()
     }
 
     pub(crate) fn index_of(&self, name: &[u8]) -> Option<usize>
-        ensures { result ≡ index_of_lem (map head_of self.now) name.now }
+        ensures { result ≡ spec.index_of (map spec.head_of self.now) name.now }
     {
         self.first.get(name).copied()
     }

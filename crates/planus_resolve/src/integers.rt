@@ -2,9 +2,8 @@
 
 ghost use Rattle.std.specs.Prelude.{◌≡◌, map, slice_get, IfOk};
 ghost use Rattle.planus_resolve.specs.Names.{head_of, space_of};
-ghost use Rattle.planus_resolve.specs.Enums.{flattened, integers_of};
-ghost use Rattle.planus_resolve.specs.Enums.{integer_in as integer_in_lem};
-ghost use Rattle.planus_resolve.specs.Enums.{integer_of as integer_of_lem};
+ghost use Rattle.planus_resolve.specs.Enums as spec;
+ghost use Rattle.planus_resolve.specs.Enums.{integers_of};
 
 use crate::fault::or_return;
 use crate::head::Head;
@@ -17,7 +16,7 @@ use planus_syntax::Item;
 use std::alloc::{AllocError, Global};
 
 pub(crate) fn integer_at(integers: &[Option<Scalar>], index: usize) -> Option<Scalar>
-    ensures { result ≡ flattened (slice_get integers.now index) }
+    ensures { result ≡ spec.flattened (slice_get integers.now index) }
 {
     match integers.get(index) {
         Some(integer) => *integer,
@@ -26,7 +25,7 @@ pub(crate) fn integer_at(integers: &[Option<Scalar>], index: usize) -> Option<Sc
 }
 
 fn integer_in(integers: &[Option<Scalar>], base: Option<Base>) -> Option<Scalar>
-    ensures { result ≡ integer_in_lem integers.now base }
+    ensures { result ≡ spec.integer_in integers.now base }
 {
     match base {
         Some(Base::Scalar(scalar)) if !scalar.is_float() && !scalar.is_bool() => Some(scalar),
@@ -42,7 +41,7 @@ fn integer_of(
     integers: &[Option<Scalar>],
     head: &Head,
 ) -> Result<Option<Scalar>, AllocError>
-    ensures { IfOk result (λ o. o ≡ integer_of_lem (map head_of heads.now) integers.now
+    ensures { IfOk result (λ o. o ≡ spec.integer_of (map head_of heads.now) integers.now
         (space_of head.now.space) (head_of head.now).declaration.item) }
 {
     let Item::Enum(declared) = &head.declaration.item else {

@@ -4,12 +4,9 @@ ghost use Rattle.std.specs.Prelude.{◌≡◌, true, map, IfOk, Some};
 ghost use Rattle.std.specs.Option.{option_map};
 ghost use Rattle.planus_syntax.specs.Values.{path_of, kind_of, item_of};
 ghost use Rattle.planus_resolve.specs.inner.Scopes.{scope_heads, scope_space};
-ghost use Rattle.planus_resolve.specs.Names.{used_as};
-ghost use Rattle.planus_resolve.specs.Names.{head_of, plain_base as plain_base_lem};
-ghost use Rattle.planus_resolve.specs.Names.{base_of_head};
+ghost use Rattle.planus_resolve.specs.Names as spec;
 ghost use Rattle.planus_resolve.specs.Wrong.{Tells, wrong_base, wrong_fit, wrong_kind, wrong_table};
 ghost use Rattle.planus_resolve.specs.Fitting.{fits};
-ghost use Rattle.planus_resolve.specs.Names.{base_as, type_named, item_at, is_array as is_array_lem};
 
 use crate::expected::Expected;
 use crate::fault::{Problem, Stop, or_return, wrong};
@@ -23,7 +20,7 @@ use planus_syntax::{Item, Kind, Path};
 use std::alloc::{AllocError, Global};
 
 pub(crate) fn plain_base(path: &Path) -> Option<Base>
-    ensures { result ≡ plain_base_lem (path_of path.now) }
+    ensures { result ≡ spec.plain_base (path_of path.now) }
 {
     if !path.more.is_empty() {
         return None;
@@ -38,7 +35,8 @@ pub(crate) fn plain_base(path: &Path) -> Option<Base>
 }
 
 pub(crate) fn item_of_head<'b>(heads: &'b Heads, index: usize) -> Option<&'b Item>
-    ensures { option_map (λ i. item_of i.now) result ≡ item_at (map head_of heads.now) index }
+    ensures { option_map (λ i. item_of i.now) result ≡ spec.item_at (map spec.head_of heads.now)
+        index }
 {
     match heads.get(index) {
         Some(head) => Some(&head.declaration.item),
@@ -47,7 +45,7 @@ pub(crate) fn item_of_head<'b>(heads: &'b Heads, index: usize) -> Option<&'b Ite
 }
 
 pub(crate) fn head_base(heads: &Heads, index: usize) -> Option<Base>
-    ensures { result ≡ base_of_head (item_at (map head_of heads.now) index) index }
+    ensures { result ≡ spec.base_of_head (spec.item_at (map spec.head_of heads.now) index) index }
 {
     match item_of_head(heads, index) {
         Some(item) => item_base(item, index),
@@ -60,7 +58,7 @@ pub(crate) fn base_named(
     wanted: Wanted,
     path: &Path,
 ) -> Result<Option<Base>, AllocError>
-    ensures { IfOk result (λ o. o ≡ base_as (scope_heads scope.now) (used_as wanted)
+    ensures { IfOk result (λ o. o ≡ spec.base_as (scope_heads scope.now) (spec.used_as wanted)
         (scope_space scope.now) (path_of path.now)) }
 {
     if let Some(base) = plain_base(path) {
@@ -73,9 +71,9 @@ pub(crate) fn base_named(
 }
 
 fn base_of(scope: &Scope, wanted: Wanted, path: &Path, expected: Expected) -> Result<Base, Stop>
-    ensures named { IfOk result (λ b. base_as (scope_heads scope.now) (used_as wanted)
+    ensures named { IfOk result (λ b. spec.base_as (scope_heads scope.now) (spec.used_as wanted)
         (scope_space scope.now) (path_of path.now) ≡ Some b) }
-    ensures wrong { Tells (wrong_base expected (scope_heads scope.now) (used_as wanted)
+    ensures wrong { Tells (wrong_base expected (scope_heads scope.now) (spec.used_as wanted)
         (scope_space scope.now) path.now) result }
 {
     match or_return!(base_named(scope, wanted, path), Stop::OutOfMemory) {
@@ -85,7 +83,7 @@ fn base_of(scope: &Scope, wanted: Wanted, path: &Path, expected: Expected) -> Re
 }
 
 pub(crate) fn is_array(kind: &Kind) -> bool
-    ensures { result ≡ is_array_lem (kind_of kind.now) }
+    ensures { result ≡ spec.is_array (kind_of kind.now) }
 {
     match kind {
         Kind::Array(_, _) => true,
@@ -95,7 +93,7 @@ pub(crate) fn is_array(kind: &Kind) -> bool
 
 /// Returns the type of a field; for an array, the type of its items.
 pub(crate) fn type_of(scope: &Scope, kind: &Kind, expected: Expected) -> Result<FieldType, Stop>
-    ensures named { IfOk result (λ t. type_named (scope_heads scope.now)
+    ensures named { IfOk result (λ t. spec.type_named (scope_heads scope.now)
         (scope_space scope.now) (kind_of kind.now) ≡ Some t) }
     ensures wrong { Tells (wrong_kind expected (scope_heads scope.now) (scope_space scope.now)
         kind.now) result }
@@ -115,9 +113,9 @@ pub(crate) fn table_at(
     path: &Path,
     problem: Problem,
 ) -> Result<usize, Stop>
-    ensures named { IfOk result (λ i. base_as (scope_heads scope.now) (used_as wanted)
+    ensures named { IfOk result (λ i. spec.base_as (scope_heads scope.now) (spec.used_as wanted)
         (scope_space scope.now) (path_of path.now) ≡ Some (Base.Table i)) }
-    ensures wrong { Tells (wrong_table problem (scope_heads scope.now) (used_as wanted)
+    ensures wrong { Tells (wrong_table problem (scope_heads scope.now) (spec.used_as wanted)
         (scope_space scope.now) path.now) result }
 {
     match base_of(scope, wanted, path, Expected::Table) {
@@ -135,10 +133,10 @@ pub(crate) fn base_at(
     expected: Expected,
     problem: Problem,
 ) -> Result<Base, Stop>
-    ensures named { IfOk result (λ b. base_as (scope_heads scope.now) (used_as wanted)
+    ensures named { IfOk result (λ b. spec.base_as (scope_heads scope.now) (spec.used_as wanted)
         (scope_space scope.now) (path_of path.now) ≡ Some b) }
     ensures fits { IfOk result (λ b. fits expected b ≡ true) }
-    ensures wrong { Tells (wrong_fit problem expected (scope_heads scope.now) (used_as wanted)
+    ensures wrong { Tells (wrong_fit problem expected (scope_heads scope.now) (spec.used_as wanted)
         (scope_space scope.now) path.now) result }
 {
     match base_of(scope, wanted, path, expected) {

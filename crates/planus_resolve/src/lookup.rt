@@ -3,10 +3,7 @@
 ghost use Rattle.std.specs.Prelude.{◌≡◌, ◌++◌, ◌∷◌, take, length, map, IfOk, ◌≤◌};
 ghost use Rattle.planus_syntax.specs.Values.{names_of};
 ghost use Rattle.planus_resolve.specs.inner.Scopes.{scope_heads, scope_space};
-ghost use Rattle.planus_resolve.specs.Names.{head_of, space_of, named_if, found_from, found_root, at_index};
-ghost use Rattle.planus_resolve.specs.Names.{found as found_lem, found_by as found_by_lem};
-ghost use Rattle.planus_resolve.specs.Names.{is_sought as is_sought_lem, order_of as order_of_lem};
-ghost use Rattle.planus_resolve.specs.Names.{group_of, used_as};
+ghost use Rattle.planus_resolve.specs.Names as spec;
 
 use crate::awaited::Awaited;
 use crate::fault::or_return;
@@ -39,7 +36,7 @@ pub(crate) enum Sought {
 
 /// Returns what is awaited at this index.
 pub(crate) fn at(list: &[Option<Awaited>], index: Option<usize>) -> Option<Awaited>
-    ensures { result ≡ at_index list.now index }
+    ensures { result ≡ spec.at_index list.now index }
 {
     match index {
         Some(index) => match list.get(index) {
@@ -57,7 +54,8 @@ fn is_sought(
     sought: Sought,
     index: usize,
 ) -> bool
-    ensures { result ≡ is_sought_lem (map head_of heads.now) begun full.now (group_of sought) index }
+    ensures { result ≡ spec.is_sought (map spec.head_of heads.now) begun full.now
+        (spec.group_of sought) index }
 {
     let choice = heads.is_choice(index);
     match sought {
@@ -77,10 +75,10 @@ fn found_at(
     first: &[u8],
     more: &[Vec<u8>],
 ) -> Result<Option<usize>, AllocError>
-    requires { count ≤ length (space_of scope.now.space) }
-    ensures { IfOk result (λ o. o ≡ named_if (scope_heads scope.now)
-        (is_sought_lem (scope_heads scope.now) scope.now.begun full.now (group_of sought))
-        (take count (space_of scope.now.space) ++ first.now ∷ names_of more.now)) }
+    requires { count ≤ length (spec.space_of scope.now.space) }
+    ensures { IfOk result (λ o. o ≡ spec.named_if (scope_heads scope.now)
+        (spec.is_sought (scope_heads scope.now) scope.now.begun full.now (spec.group_of sought))
+        (take count (spec.space_of scope.now.space) ++ first.now ∷ names_of more.now)) }
 {
     let name = or_return!(dotted_name(scope.alloc, scope.space, count, first, more));
     match scope.heads.index_of(&name) {
@@ -96,10 +94,10 @@ fn found_outwards(
     first: &[u8],
     more: &[Vec<u8>],
 ) -> Result<Option<usize>, AllocError>
-    ensures { IfOk result (λ o. o ≡ found_from (scope_heads scope.now)
-        (is_sought_lem (scope_heads scope.now) scope.now.begun full.now (group_of sought))
-        (space_of scope.now.space) (first.now ∷ names_of more.now)
-        (length (space_of scope.now.space))) }
+    ensures { IfOk result (λ o. o ≡ spec.found_from (scope_heads scope.now)
+        (spec.is_sought (scope_heads scope.now) scope.now.begun full.now (spec.group_of sought))
+        (spec.space_of scope.now.space) (first.now ∷ names_of more.now)
+        (length (spec.space_of scope.now.space))) }
 {
     let mut count = depth(scope.space);
     'spaces: while count > 0 {
@@ -118,9 +116,9 @@ fn found_for_root(
     first: &[u8],
     more: &[Vec<u8>],
 ) -> Result<Option<usize>, AllocError>
-    ensures { IfOk result (λ o. o ≡ found_root (scope_heads scope.now)
-        (is_sought_lem (scope_heads scope.now) scope.now.begun full.now (group_of sought))
-        (space_of scope.now.space) (first.now ∷ names_of more.now)) }
+    ensures { IfOk result (λ o. o ≡ spec.found_root (scope_heads scope.now)
+        (spec.is_sought (scope_heads scope.now) scope.now.begun full.now (spec.group_of sought))
+        (spec.space_of scope.now.space) (first.now ∷ names_of more.now)) }
 {
     if let Some(index) = or_return!(found_at(scope, full, sought, 0, first, more)) {
         return Ok(Some(index));
@@ -136,9 +134,10 @@ pub(crate) fn found_by(
     first: &[u8],
     more: &[Vec<u8>],
 ) -> Result<Option<usize>, AllocError>
-    ensures { IfOk result (λ o. o ≡ found_by_lem (scope_heads scope.now)
-        (is_sought_lem (scope_heads scope.now) scope.now.begun full.now (group_of sought)) (used_as wanted)
-        (space_of scope.now.space) (first.now ∷ names_of more.now)) }
+    ensures { IfOk result (λ o. o ≡ spec.found_by (scope_heads scope.now)
+        (spec.is_sought (scope_heads scope.now) scope.now.begun full.now (spec.group_of sought))
+        (spec.used_as wanted)
+        (spec.space_of scope.now.space) (first.now ∷ names_of more.now)) }
 {
     match wanted {
         Wanted::AnyType | Wanted::Record => found_outwards(scope, full, sought, first, more),
@@ -147,7 +146,7 @@ pub(crate) fn found_by(
 }
 
 fn order_of(wanted: Wanted) -> [Sought; 4]
-    ensures { map group_of result ≡ order_of_lem (used_as wanted) }
+    ensures { map spec.group_of result ≡ spec.order_of (spec.used_as wanted) }
 {
     match wanted {
         Wanted::AnyType => [
@@ -173,7 +172,7 @@ pub(crate) fn found(
     first: &[u8],
     more: &[Vec<u8>],
 ) -> Result<Option<usize>, AllocError>
-    ensures { IfOk result (λ o. o ≡ found_lem (scope_heads scope.now) (used_as wanted)
+    ensures { IfOk result (λ o. o ≡ spec.found (scope_heads scope.now) (spec.used_as wanted)
         (scope_space scope.now) (first.now ∷ names_of more.now)) }
 {
     let order = order_of(wanted);

@@ -12,11 +12,7 @@ ghost use Rattle.planus_schema.specs.Layouts.{measure_of_body};
 ghost use Rattle.planus_resolve.specs.Wrong.{Tells};
 ghost use Rattle.planus_resolve.specs.Enums.{integers_of};
 ghost use Rattle.planus_resolve.specs.WrongStructs.{measures_of};
-ghost use Rattle.planus_resolve.specs.Faults.{placed_of, placed_from, Adds, wrong_body};
-ghost use Rattle.planus_resolve.specs.Faults.{byte_measure, measure_placed, body_fault};
-ghost use Rattle.planus_resolve.specs.Faults.{body_faults, name_fault, name_faults};
-ghost use Rattle.planus_resolve.specs.Faults.{faults_found, IsExact, AreWithin};
-ghost use Rattle.planus_resolve.specs.Faults.{name_left as name_left_lem};
+ghost use Rattle.planus_resolve.specs.Faults as spec;
 
 use crate::enums::enum_of;
 use crate::expected::Expected;
@@ -46,8 +42,9 @@ fn body_of(
     ensures read { IfOk result (λ b. IsBodyRead (map head_of heads.now)
         (space_at (space_of head.now.space) (length declared.now + 1)) declared.now
         head.now.declaration.now.item b) }
-    ensures wrong { Tells (wrong_body (map head_of heads.now)
-        (space_at (space_of head.now.space) (length declared.now + 1)) (measures_of declared.now) (name_left_lem head.now.declaration.now)
+    ensures wrong { Tells (spec.wrong_body (map head_of heads.now)
+        (space_at (space_of head.now.space) (length declared.now + 1)) (measures_of declared.now)
+        (spec.name_left head.now.declaration.now)
         head.now.declaration.now.item) result }
 {
     let left = head.declaration.left.saturating_sub(1);
@@ -82,7 +79,7 @@ fn body_of(
 
 /// Returns the body of a declaration with a fault, so that the others can be checked.
 fn stand_in(alloc: Global, item: &Item) -> Body
-    ensures { measure_of_body (Some result) ≡ byte_measure item.now }
+    ensures { measure_of_body (Some result) ≡ spec.byte_measure item.now }
 {
     match item {
         Item::Struct(_) | Item::Enum(_) => Body::Struct(Struct {
@@ -134,10 +131,10 @@ fn add_declared(
     ensures kept { OnOk result (faults.new.items ≡ [] → faults.old.items ≡ []) }
     ensures most { OnOk result (length faults.new.items ≤ 20) }
     ensures measures { OnOk result (measures_of declared.new.items
-        ≡ measures_of declared.old.items ++ measure_placed (map head_of heads.now)
-        (measures_of declared.old.items) (placed_of head.now) ∷ []) }
-    ensures adds { OnOk result (Adds (body_fault (map head_of heads.now)
-        (measures_of declared.old.items) (placed_of head.now)) faults.old.items
+        ≡ measures_of declared.old.items ++ spec.measure_placed (map head_of heads.now)
+        (measures_of declared.old.items) (spec.placed_of head.now) ∷ []) }
+    ensures adds { OnOk result (spec.Adds (spec.body_fault (map head_of heads.now)
+        (measures_of declared.old.items) (spec.placed_of head.now)) faults.old.items
         faults.new.items) }
 {
     match body_of(alloc, heads, integers, declared, head) {
@@ -162,8 +159,8 @@ fn declarations(
         (map head_of heads.now) v.items) }
     ensures kept { OnOk result (faults.new.items ≡ [] → faults.old.items ≡ []) }
     ensures most { OnOk result (length faults.new.items ≤ 20) }
-    ensures adds { OnOk result (Adds (body_faults (map head_of heads.now) []
-        (map placed_of heads.now)) faults.old.items faults.new.items) }
+    ensures adds { OnOk result (spec.Adds (spec.body_faults (map head_of heads.now) []
+        (map spec.placed_of heads.now)) faults.old.items faults.new.items) }
 {
     let mut declared = Vec::new(alloc);
     'heads: for head in heads.as_slice() {
@@ -183,8 +180,8 @@ fn check_name(
         (head_of head.now).name ≡ Some index) }
     ensures kept { OnOk result (faults.new.items ≡ [] → faults.old.items ≡ []) }
     ensures most { OnOk result (length faults.new.items ≤ 20) }
-    ensures adds { OnOk result (Adds (name_fault (map head_of heads.now) index
-        (placed_of head.now)) faults.old.items faults.new.items) }
+    ensures adds { OnOk result (spec.Adds (spec.name_fault (map head_of heads.now) index
+        (spec.placed_of head.now)) faults.old.items faults.new.items) }
 {
     if is_first(heads.index_of(&head.name), index) {
         Ok(())
@@ -203,8 +200,8 @@ fn check_names(heads: &Heads, faults: &mut Vec<Fault>) -> Result<(), AllocError>
         (map head_of heads.now))) }
     ensures kept { OnOk result (faults.new.items ≡ [] → faults.old.items ≡ []) }
     ensures most { OnOk result (length faults.new.items ≤ 20) }
-    ensures adds { OnOk result (Adds (name_faults (map head_of heads.now) 0
-        (map placed_of heads.now)) faults.old.items faults.new.items) }
+    ensures adds { OnOk result (spec.Adds (spec.name_faults (map head_of heads.now) 0
+        (map spec.placed_of heads.now)) faults.old.items faults.new.items) }
 {
     let mut index = 0;
     'heads: for head in heads.as_slice() {
@@ -233,11 +230,11 @@ fn refuse(mut faults: Vec<Fault>) -> Result<(), Refusal>
 /// Returns the meaning of files whose declarations are these.
 fn meaning_of(alloc: Global, heads: &Heads, files: &[Vec<Declaration>]) -> Result<Schema, Refusal>
     requires heads { map head_of heads.now ≡ heads_of (map (λ f. declarations_of f.items) files.now) }
-    requires placed { map placed_of heads.now ≡ placed_from 0 files.now }
+    requires placed { map spec.placed_of heads.now ≡ spec.placed_from 0 files.now }
     ensures means { IfOk result (λ s. Means (map (λ f. declarations_of f.items) files.now) s) }
-    ensures none { OnOk result (faults_found files.now ≡ []) }
+    ensures none { OnOk result (spec.faults_found files.now ≡ []) }
     ensures faults { IfErr result (λ e. IsRefusal e) }
-    ensures exact { IfErr result (λ e. IsExact files.now e) }
+    ensures exact { IfErr result (λ e. spec.IsExact files.now e) }
 {
     let mut faults = Vec::new(alloc);
     or_return!(check_names(heads, &mut faults), Refusal::OutOfMemory);
@@ -270,10 +267,10 @@ pub fn resolve(alloc: Global, files: &[Vec<Declaration>]) -> Result<Schema, Refu
     // A schema is sound, whatever it was read from.
     ensures sound { IfOk result (λ s. IsSound s) }
     // A good schema is returned, and a bad one fails with exactly its faults.
-    ensures none { OnOk result (faults_found files.now ≡ []) }
+    ensures none { OnOk result (spec.faults_found files.now ≡ []) }
     ensures faults { IfErr result (λ e. IsRefusal e) }
-    ensures exact { IfErr result (λ e. IsExact files.now e) }
-    ensures within { IfErr result (λ e. AreWithin (length files.now) e) }
+    ensures exact { IfErr result (λ e. spec.IsExact files.now e) }
+    ensures within { IfErr result (λ e. spec.AreWithin (length files.now) e) }
 {
     let list = or_return!(heads(alloc, files), Refusal::OutOfMemory);
     let heads = or_return!(Heads::new(alloc, &list), Refusal::OutOfMemory);

@@ -2,7 +2,7 @@
 
 ghost use Rattle.std.specs.Prelude.{◌≡◌, ◌||◌};
 ghost use Rattle.std.specs.Str.{bytes_eq};
-ghost use Rattle.planus_schema.specs.Numbers.{scalar_named as scalar_named_lem};
+ghost use Rattle.planus_schema.specs.Numbers as spec;
 
 use planus_schema::Scalar;
 
@@ -14,7 +14,7 @@ fn is_either(name: &[u8], short: &[u8], long: &[u8]) -> bool
 
 /// Returns the scalar type of this name; each but `bool` has two.
 pub(crate) fn scalar_named(name: &[u8]) -> Option<Scalar>
-    ensures { result ≡ scalar_named_lem name.now }
+    ensures { result ≡ spec.scalar_named name.now }
 {
     if name == b"bool".as_slice() {
         Some(Scalar::Bool)

@@ -2,12 +2,10 @@
 
 ghost use Rattle.std.specs.Prelude.{◌≡◌, ◌+◌, ◌≤◌, true, false, map, IfOk, IfSome, Some};
 ghost use Rattle.planus_syntax.specs.Values.{field_of};
-ghost use Rattle.planus_schema.specs.Slots.{slots_taken as slots_taken_lem, AreSlots};
-ghost use Rattle.planus_schema.specs.Slots.{are_whole as are_whole_lem, width as width_lem};
-ghost use Rattle.planus_resolve.specs.Tables.{has_ids as has_ids_lem, id_said};
+ghost use Rattle.planus_schema.specs.Slots as spec;
+ghost use Rattle.planus_resolve.specs.Tables as tables_spec;
 ghost use Rattle.planus_resolve.specs.Wrong.{Tells};
-ghost use Rattle.planus_resolve.specs.WrongTables.{wrong_slot, wrong_slots};
-ghost use Rattle.planus_resolve.specs.WrongTables.{field_slot as field_slot_lem};
+ghost use Rattle.planus_resolve.specs.WrongTables as wrong_tables_spec;
 
 use crate::attributes::{has, setting};
 use crate::fault::{Problem, Stop, or_return, wrong};
@@ -17,7 +15,7 @@ use planus_syntax::Field;
 use std::alloc::{AllocError, Global};
 
 pub(crate) fn has_ids(fields: &[Field]) -> bool
-    ensures { result ≡ has_ids_lem (map field_of fields.now) }
+    ensures { result ≡ tables_spec.has_ids (map field_of fields.now) }
 {
     let mut rest = fields;
     'fields: while let Some((field, after)) = rest.split_first() {
@@ -31,7 +29,7 @@ pub(crate) fn has_ids(fields: &[Field]) -> bool
 
 fn id_of(field: &Field) -> Option<usize>
     ensures small { IfSome result (λ n. n ≤ 65535) }
-    ensures exact { result ≡ id_said (field_of field.now) }
+    ensures exact { result ≡ tables_spec.id_said (field_of field.now) }
 {
     match setting(&field.attributes, b"id") {
         Some(attribute) if attribute.value.is_none() => Some(0),
@@ -50,10 +48,10 @@ pub(crate) fn field_slot(
     next: usize,
 ) -> Result<usize, Stop>
     requires { next ≤ 65535 }
-    ensures id { ids ≡ true → IfOk result (λ n. id_said (field_of field.now) ≡ Some n) }
-    ensures order { ids ≡ false → IfOk result (λ n. n + 1 ≡ next + width_lem kind) }
-    ensures slot { IfOk result (λ n. n ≡ field_slot_lem kind ids next field.now) }
-    ensures wrong { Tells (wrong_slot kind ids next field.now) result }
+    ensures id { ids ≡ true → IfOk result (λ n. tables_spec.id_said (field_of field.now) ≡ Some n) }
+    ensures order { ids ≡ false → IfOk result (λ n. n + 1 ≡ next + spec.width kind) }
+    ensures slot { IfOk result (λ n. n ≡ wrong_tables_spec.field_slot kind ids next field.now) }
+    ensures wrong { Tells (wrong_tables_spec.wrong_slot kind ids next field.now) result }
 {
     match slot_of(id_of(field), kind, ids, next) {
         Some(slot) => Ok(slot),
@@ -64,7 +62,7 @@ pub(crate) fn field_slot(
 
 /// Returns whether these are all the numbers from 0 on, each once.
 fn are_whole(alloc: Global, slots: &[usize]) -> Result<bool, AllocError>
-    ensures { IfOk result (λ b. b ≡ are_whole_lem slots.now) }
+    ensures { IfOk result (λ b. b ≡ spec.are_whole slots.now) }
 {
     let mut taken = vec![in alloc; false; slots.len()]?;
     'slots: for slot in slots {
@@ -77,8 +75,8 @@ fn are_whole(alloc: Global, slots: &[usize]) -> Result<bool, AllocError>
 }
 
 pub(crate) fn check_slots(alloc: Global, fields: &[TableField], left: usize) -> Result<(), Stop>
-    ensures sound { IfOk result (λ _. AreSlots (slots_taken_lem fields.now)) }
-    ensures wrong { Tells (wrong_slots left (slots_taken_lem fields.now)) result }
+    ensures sound { IfOk result (λ _. spec.AreSlots (spec.slots_taken fields.now)) }
+    ensures wrong { Tells (wrong_tables_spec.wrong_slots left (spec.slots_taken fields.now)) result }
 {
     let slots = or_return!(slots_taken(alloc, fields), Stop::OutOfMemory);
     if slots.len() > 32765 {

@@ -8,7 +8,7 @@ ghost use Rattle.planus_resolve.specs.Names.{head_of, begun_in};
 ghost use Rattle.planus_resolve.specs.Schemas.{said_of, after, after_file, after_files, IsFour};
 ghost use Rattle.planus_resolve.specs.Schemas.{no_statements};
 ghost use Rattle.planus_resolve.specs.Wrong.{Tells};
-ghost use Rattle.planus_resolve.specs.WrongServices.{known_attributes as known_attributes_lem};
+ghost use Rattle.planus_resolve.specs.WrongServices as spec;
 ghost use Rattle.planus_resolve.specs.Faults.{Adds, wrong_said, statement_faults};
 ghost use Rattle.planus_resolve.specs.Faults.{file_faults};
 
@@ -119,7 +119,7 @@ pub(crate) fn statements(
     ensures kept { OnOk result (faults.new.items ≡ [] → faults.old.items ≡ []) }
     ensures most { OnOk result (length faults.new.items ≤ 20) }
     ensures adds { OnOk result (Adds (file_faults (map head_of heads.now)
-        (known_attributes_lem files.now) 0 0 files.now) faults.old.items faults.new.items) }
+        (spec.known_attributes files.now) 0 0 files.now) faults.old.items faults.new.items) }
 {
     let names = or_return!(known_attributes(alloc, files));
     let known = or_return!(AttributeNames::new(alloc, &names));

@@ -7,21 +7,13 @@ ghost use Rattle.planus_syntax.specs.Values.{field_of, attribute_of, literal_of}
 ghost use Rattle.planus_resolve.specs.inner.Read.{IsMeasureRead, IsStructFieldRead};
 ghost use Rattle.planus_resolve.specs.inner.Read.{IsLayoutRead, IsStructRead};
 ghost use Rattle.planus_resolve.specs.inner.Scopes.{scope_heads, scope_space, HasIntegers};
-ghost use Rattle.planus_resolve.specs.Names.{type_named, setting as setting_lem};
-ghost use Rattle.planus_resolve.specs.Names.{is_array, has as has_lem};
-ghost use Rattle.planus_schema.specs.Layouts.{is_alignment as is_alignment_lem};
+ghost use Rattle.planus_resolve.specs.Names as names_spec;
+ghost use Rattle.planus_schema.specs.Layouts as layouts_spec;
 ghost use Rattle.planus_resolve.specs.Defaults.{value_of, some_default};
-ghost use Rattle.planus_resolve.specs.Structs.{is_plain, is_zero_said, is_zero_default};
-ghost use Rattle.planus_resolve.specs.Structs.{alignment_said, natural_of, number_in};
-ghost use Rattle.planus_resolve.specs.Structs.{count_said, items_in as items_in_lem};
+ghost use Rattle.planus_resolve.specs.Structs as structs_spec;
 ghost use Rattle.planus_schema.specs.Numbers.{integer_said};
-ghost use Rattle.planus_resolve.specs.Names.{attribute_named};
 ghost use Rattle.planus_resolve.specs.Wrong.{Tells, when};
-ghost use Rattle.planus_resolve.specs.WrongStructs.{wrong_plain, wrong_measure, wrong_struct};
-ghost use Rattle.planus_resolve.specs.WrongStructs.{wrong_struct_field, wrong_struct_fields};
-ghost use Rattle.planus_resolve.specs.WrongStructs.{measure_among, measures_of};
-ghost use Rattle.planus_resolve.specs.WrongStructs.{measure_of_items as measure_of_items_lem};
-ghost use Rattle.planus_resolve.specs.WrongStructs.{wrong_alignment, wrong_array};
+ghost use Rattle.planus_resolve.specs.WrongStructs as spec;
 
 use crate::attributes::{has, setting};
 use crate::defaults::literal_default;
@@ -38,7 +30,7 @@ use planus_syntax::{Attribute, Field, Kind, Literal, Record, between_quotes, is_
 use std::collections::BTreeMap;
 
 fn is_zero(value: &Option<Value>) -> bool
-    ensures { result ≡ is_zero_said (some_default (option_map value_of value.now)) }
+    ensures { result ≡ structs_spec.is_zero_said (some_default (option_map value_of value.now)) }
 {
     match value {
         Some(Value::Integer(number)) => number.magnitude == 0,
@@ -54,9 +46,9 @@ fn check_zero(
     left: usize,
 ) -> Result<(), Stop>
     requires { HasIntegers scope.now }
-    ensures zero { IfOk result (λ _. is_zero_default (scope_heads scope.now) kind
+    ensures zero { IfOk result (λ _. structs_spec.is_zero_default (scope_heads scope.now) kind
         (option_map literal_of literal.now) ≡ true) }
-    ensures wrong { Tells (when (not (is_zero_default (scope_heads scope.now) kind
+    ensures wrong { Tells (when (not (structs_spec.is_zero_default (scope_heads scope.now) kind
         (option_map literal_of literal.now))) Problem.DefaultInStruct left) result }
 {
     let literal = match literal {
@@ -76,12 +68,14 @@ fn check_zero(
 
 fn base_in_struct(scope: &Scope, field: &Field) -> Result<Base, Stop>
     requires { HasIntegers scope.now }
-    ensures kind { IfOk result (λ b. type_named (scope_heads scope.now) (scope_space scope.now)
+    ensures kind { IfOk result (λ b. names_spec.type_named (scope_heads scope.now)
+        (scope_space scope.now)
         (field_of field.now).kind ≡ Some (record { vector = false; base = b })) }
-    ensures plain { IfOk result (λ _. is_plain (field_of field.now) ≡ true) }
-    ensures zero { IfOk result (λ b. is_zero_default (scope_heads scope.now)
+    ensures plain { IfOk result (λ _. structs_spec.is_plain (field_of field.now) ≡ true) }
+    ensures zero { IfOk result (λ b. structs_spec.is_zero_default (scope_heads scope.now)
         (record { vector = false; base = b }) (field_of field.now).default ≡ true) }
-    ensures wrong { Tells (wrong_plain (scope_heads scope.now) (scope_space scope.now) field.now)
+    ensures wrong { Tells (spec.wrong_plain (scope_heads scope.now) (scope_space scope.now)
+        field.now)
         result }
 {
     if has(&field.attributes, b"required") || has(&field.attributes, b"deprecated") {
@@ -101,7 +95,8 @@ fn base_in_struct(scope: &Scope, field: &Field) -> Result<Base, Stop>
 #[tactic(auto, using(crate::proofs::MeasureLemmas::among))]
 fn measure_in_struct(bodies: &[Declared], base: Base, left: usize) -> Result<Measure, Stop>
     ensures read { IfOk result (λ m. IsMeasureRead bodies.now base m) }
-    ensures wrong { Tells (wrong_measure base left (measure_among (measures_of bodies.now) base))
+    ensures wrong { Tells (spec.wrong_measure base left (spec.measure_among
+        (spec.measures_of bodies.now) base))
         result }
 {
     match measure_of(bodies, base) {
@@ -119,13 +114,13 @@ fn measure_in_struct(bodies: &[Declared], base: Base, left: usize) -> Result<Mea
 
 /// Returns the number of an array's items; fails if the array has a default or is a `key`.
 fn count_in_struct(field: &Field) -> Result<Option<usize>, Stop>
-    ensures count { IfOk result (λ c. count_said (field_of field.now).kind ≡ Some c) }
-    ensures default { IfOk result (λ _. is_array (field_of field.now).kind ≡ true
+    ensures count { IfOk result (λ c. structs_spec.count_said (field_of field.now).kind ≡ Some c) }
+    ensures default { IfOk result (λ _. names_spec.is_array (field_of field.now).kind ≡ true
         → (field_of field.now).default ≡ None) }
-    ensures key { IfOk result (λ _. is_array (field_of field.now).kind ≡ true
-        → has_lem (codes "key") (field_of field.now).attributes ≡ false) }
-    ensures small { IfOk result (λ c. items_in_lem c ≤ 65535) }
-    ensures wrong { Tells (wrong_array field.now field.now.kind) result }
+    ensures key { IfOk result (λ _. names_spec.is_array (field_of field.now).kind ≡ true
+        → names_spec.has (codes "key") (field_of field.now).attributes ≡ false) }
+    ensures small { IfOk result (λ c. structs_spec.items_in c ≤ 65535) }
+    ensures wrong { Tells (spec.wrong_array field.now field.now.kind) result }
 {
     let Kind::Array(_, digits) = &field.kind else {
         return Ok(None);
@@ -144,7 +139,7 @@ fn count_in_struct(field: &Field) -> Result<Option<usize>, Stop>
 }
 
 fn items_in(count: Option<usize>) -> usize
-    ensures { result ≡ items_in_lem count }
+    ensures { result ≡ structs_spec.items_in count }
 {
     match count {
         Some(count) => count,
@@ -154,9 +149,9 @@ fn items_in(count: Option<usize>) -> usize
 
 /// Returns the size of all items together, and their alignment.
 fn measure_of_items(count: Option<usize>, item: Measure) -> Measure
-    requires count { items_in_lem count ≤ 65535 }
+    requires count { structs_spec.items_in count ≤ 65535 }
     requires size { item.size ≤ 65535 }
-    ensures measure { result ≡ measure_of_items_lem count item }
+    ensures measure { result ≡ spec.measure_of_items count item }
     ensures fits { result.size ≤ 4294836225 }
 {
     Measure {
@@ -175,8 +170,8 @@ fn struct_field(
     requires integers { HasIntegers scope.now }
     ensures read { IfOk result (λ f. IsStructFieldRead (scope_heads scope.now)
         (scope_space scope.now) bodies.now at field.now f) }
-    ensures wrong { Tells (wrong_struct_field (scope_heads scope.now) (scope_space scope.now)
-        (measures_of bodies.now) at field.now) result }
+    ensures wrong { Tells (spec.wrong_struct_field (scope_heads scope.now) (scope_space scope.now)
+        (spec.measures_of bodies.now) at field.now) result }
 {
     let base = or_return!(base_in_struct(scope, field));
     let count = or_return!(count_in_struct(field));
@@ -203,8 +198,8 @@ fn struct_fields(scope: &Scope, bodies: &[Declared], declared: &[Field]) -> Resu
     requires { HasIntegers scope.now }
     ensures read { IfOk result (λ l. IsLayoutRead (scope_heads scope.now) (scope_space scope.now)
         bodies.now declared.now l) }
-    ensures wrong { Tells (wrong_struct_fields (scope_heads scope.now) (scope_space scope.now)
-        (measures_of bodies.now) 0 [] declared.now) result }
+    ensures wrong { Tells (spec.wrong_struct_fields (scope_heads scope.now) (scope_space scope.now)
+        (spec.measures_of bodies.now) 0 [] declared.now) result }
 {
     let mut fields = Vec::new(scope.alloc);
     let mut names = BTreeMap::new(scope.alloc);
@@ -228,7 +223,7 @@ fn struct_fields(scope: &Scope, bodies: &[Declared], declared: &[Field]) -> Resu
 }
 
 fn natural(digits: &[u8]) -> Option<u64>
-    ensures { result ≡ natural_of (integer_said digits.now) }
+    ensures { result ≡ structs_spec.natural_of (integer_said digits.now) }
 {
     match integer(digits) {
         Some(number) if !number.negative => Some(number.magnitude),
@@ -237,7 +232,7 @@ fn natural(digits: &[u8]) -> Option<u64>
 }
 
 pub(crate) fn setting_number(attribute: &Attribute) -> Option<u64>
-    ensures { result ≡ number_in (attribute_of attribute.now).value }
+    ensures { result ≡ structs_spec.number_in (attribute_of attribute.now).value }
 {
     match &attribute.value {
         Some(Literal::Number(digits)) => natural(digits),
@@ -250,12 +245,13 @@ pub(crate) fn setting_number(attribute: &Attribute) -> Option<u64>
 }
 
 fn alignment_of(attributes: &[Attribute], greatest: usize, left: usize) -> Result<usize, Stop>
-    ensures said { IfOk result (λ n. alignment_said
-        (setting_lem (codes "force_align") (map attribute_of attributes.now)) greatest ≡ Some n) }
-    ensures aligned { IfOk result (λ n. is_alignment_lem n ≡ true) }
+    ensures said { IfOk result (λ n. structs_spec.alignment_said
+        (names_spec.setting (codes "force_align") (map attribute_of attributes.now)) greatest
+        ≡ Some n) }
+    ensures aligned { IfOk result (λ n. layouts_spec.is_alignment n ≡ true) }
     ensures greatest { IfOk result (λ n. greatest ≤ n) }
-    ensures wrong { Tells (wrong_alignment greatest left
-        (attribute_named (codes "force_align") attributes.now)) result }
+    ensures wrong { Tells (spec.wrong_alignment greatest left
+        (names_spec.attribute_named (codes "force_align") attributes.now)) result }
 {
     let (alignment, at) = match setting(attributes, b"force_align") {
         Some(attribute) => match setting_number(attribute) {
@@ -280,8 +276,8 @@ pub(crate) fn struct_of(
     requires { HasIntegers scope.now }
     ensures read { IfOk result (λ s. IsStructRead (scope_heads scope.now) (scope_space scope.now)
         bodies.now declared.now s) }
-    ensures wrong { Tells (wrong_struct (scope_heads scope.now) (scope_space scope.now)
-        (measures_of bodies.now) declared.now left) result }
+    ensures wrong { Tells (spec.wrong_struct (scope_heads scope.now) (scope_space scope.now)
+        (spec.measures_of bodies.now) declared.now left) result }
 {
     if declared.fields.is_empty() {
         return Err(wrong(Problem::EmptyStruct, left));

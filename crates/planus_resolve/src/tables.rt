@@ -6,21 +6,10 @@ ghost use Rattle.planus_syntax.specs.Values.{names_of, field_of, record_of, attr
 ghost use Rattle.planus_syntax.specs.Values.{kind_of};
 ghost use Rattle.planus_resolve.specs.inner.Read.{IsFieldRead, AreFieldsRead, AreNamesRead};
 ghost use Rattle.planus_resolve.specs.inner.Scopes.{scope_heads, scope_space, HasIntegers};
-ghost use Rattle.planus_resolve.specs.Names.{setting as setting_lem, base_found};
-ghost use Rattle.planus_resolve.specs.Names.{found as found_lem, as_record};
-ghost use Rattle.planus_resolve.specs.Names.{type_named, is_array as is_array_lem};
-ghost use Rattle.planus_resolve.specs.Tables.{NestedIs};
-ghost use Rattle.planus_resolve.specs.Tables.{is_required as is_required_lem};
-ghost use Rattle.planus_resolve.specs.Tables.{is_number as is_number_lem};
-ghost use Rattle.planus_resolve.specs.Tables.{may_be_key as may_be_key_lem};
-ghost use Rattle.planus_resolve.specs.Tables.{is_bytes as is_bytes_lem};
-ghost use Rattle.planus_resolve.specs.Tables.{names_for, names_taken, SaysTable};
-ghost use Rattle.planus_resolve.specs.Tables.{type_name as type_name_lem};
+ghost use Rattle.planus_resolve.specs.Names as names_spec;
+ghost use Rattle.planus_resolve.specs.Tables as spec;
 ghost use Rattle.planus_resolve.specs.inner.Index.{IsTaken};
 ghost use Rattle.planus_syntax.specs.Values.{Name};
-ghost use Rattle.planus_resolve.specs.Tables.{IsTable};
-ghost use Rattle.planus_resolve.specs.Names.{has as has_lem, is_set, table_in, attribute_named};
-ghost use Rattle.planus_resolve.specs.Tables.{table_found};
 ghost use Rattle.planus_resolve.specs.Wrong.{Tells, first, when};
 ghost use Rattle.planus_resolve.specs.WrongTables.{wrong_law, wrong_nested, wrong_field};
 ghost use Rattle.planus_resolve.specs.WrongTables.{wrong_field_type};
@@ -41,7 +30,7 @@ use std::alloc::{AllocError, Global};
 use std::collections::BTreeMap;
 
 fn is_number(kind: FieldType) -> bool
-    ensures { result ≡ is_number_lem kind }
+    ensures { result ≡ spec.is_number kind }
 {
     match kind.base {
         Base::Scalar(_) | Base::Enum(_) => !kind.vector,
@@ -50,7 +39,7 @@ fn is_number(kind: FieldType) -> bool
 }
 
 fn may_be_key(kind: FieldType) -> bool
-    ensures { result ≡ may_be_key_lem kind }
+    ensures { result ≡ spec.may_be_key kind }
 {
     match kind.base {
         Base::Scalar(_) | Base::Enum(_) | Base::Text => !kind.vector,
@@ -59,7 +48,7 @@ fn may_be_key(kind: FieldType) -> bool
 }
 
 fn is_bytes(kind: FieldType) -> bool
-    ensures { result ≡ is_bytes_lem kind }
+    ensures { result ≡ spec.is_bytes kind }
 {
     match kind.base {
         Base::Scalar(Scalar::UByte) => kind.vector,
@@ -68,7 +57,7 @@ fn is_bytes(kind: FieldType) -> bool
 }
 
 fn is_required(kind: FieldType, field: &Field) -> bool
-    ensures { result ≡ is_required_lem kind (field_of field.now) }
+    ensures { result ≡ spec.is_required kind (field_of field.now) }
 {
     has(&field.attributes, b"required")
         || (has(&field.attributes, b"key") && matches!(kind.base, Base::Text))
@@ -81,9 +70,10 @@ fn check_lawful(
     nested: Option<usize>,
     left: usize,
 ) -> Result<(), Stop>
-    ensures lawful { IfOk result (λ _. (not (required && is_number_lem kind)
-        && (not key || may_be_key_lem kind) && (not (is_set nested) || is_bytes_lem kind)) ≡ true) }
-    ensures wrong { Tells (wrong_law required key (is_set nested) kind left) result }
+    ensures lawful { IfOk result (λ _. (not (required && spec.is_number kind)
+        && (not key || spec.may_be_key kind) && (not (names_spec.is_set nested) || spec.is_bytes
+        kind)) ≡ true) }
+    ensures wrong { Tells (wrong_law required key (names_spec.is_set nested) kind left) result }
 {
     if required && is_number(kind) {
         Err(wrong(Problem::RequiredScalar, left))
@@ -97,11 +87,12 @@ fn check_lawful(
 }
 
 fn table_named(scope: &Scope, text: &[u8], left: usize) -> Result<usize, Stop>
-    ensures named { IfOk result (λ i. base_found (scope_heads scope.now)
-        (found_lem (scope_heads scope.now) as_record (scope_space scope.now)
+    ensures named { IfOk result (λ i. names_spec.base_found (scope_heads scope.now)
+        (names_spec.found (scope_heads scope.now) names_spec.as_record (scope_space scope.now)
         (text.now ∷ []))
         ≡ Some (Base.Table i)) }
-    ensures wrong { Tells (when (not (is_set (table_in (table_found (scope_heads scope.now)
+    ensures wrong { Tells (when (not (names_spec.is_set (names_spec.table_in (spec.table_found
+        (scope_heads scope.now)
         (scope_space scope.now) (Some text.now))))) Problem.NestedIsNoTable left) result }
 {
     let index = or_return!(found(scope, Wanted::Record, text, &[]), Stop::OutOfMemory);
@@ -115,12 +106,12 @@ fn table_named(scope: &Scope, text: &[u8], left: usize) -> Result<usize, Stop>
 }
 
 fn nested_of(scope: &Scope, attributes: &[Attribute]) -> Result<Option<usize>, Stop>
-    ensures says { IfOk result (λ o. NestedIs (scope_heads scope.now) (scope_space scope.now)
-        (setting_lem (codes "nested_flatbuffer") (map attribute_of attributes.now)) o) }
-    ensures set { IfOk result (λ o. is_set o
-        ≡ has_lem (codes "nested_flatbuffer") (map attribute_of attributes.now)) }
+    ensures says { IfOk result (λ o. spec.NestedIs (scope_heads scope.now) (scope_space scope.now)
+        (names_spec.setting (codes "nested_flatbuffer") (map attribute_of attributes.now)) o) }
+    ensures set { IfOk result (λ o. names_spec.is_set o
+        ≡ names_spec.has (codes "nested_flatbuffer") (map attribute_of attributes.now)) }
     ensures wrong { Tells (wrong_nested (scope_heads scope.now) (scope_space scope.now)
-        (attribute_named (codes "nested_flatbuffer") attributes.now)) result }
+        (names_spec.attribute_named (codes "nested_flatbuffer") attributes.now)) result }
 {
     match setting(attributes, b"nested_flatbuffer") {
         Some(attribute) => match &attribute.value {
@@ -137,9 +128,10 @@ fn nested_of(scope: &Scope, attributes: &[Attribute]) -> Result<Option<usize>, S
 
 /// Returns the type of a field, which is no array.
 fn field_type(scope: &Scope, field: &Field) -> Result<FieldType, Stop>
-    ensures named { IfOk result (λ t. type_named (scope_heads scope.now) (scope_space scope.now)
+    ensures named { IfOk result (λ t. names_spec.type_named (scope_heads scope.now)
+        (scope_space scope.now)
         (kind_of field.now.kind) ≡ Some t) }
-    ensures array { IfOk result (λ _. is_array_lem (kind_of field.now.kind) ≡ false) }
+    ensures array { IfOk result (λ _. names_spec.is_array (kind_of field.now.kind) ≡ false) }
     ensures wrong { Tells (wrong_field_type (scope_heads scope.now) (scope_space scope.now)
         field.now) result }
 {
@@ -191,7 +183,7 @@ fn table_field(scope: &Scope, field: &Field, ids: bool, next: usize) -> Result<T
 /// The names that the types of these fields have if they are unions.
 fn type_names(alloc: Global, fields: &[Field]) -> Result<Vec<Vec<u8>>, AllocError>
     ensures { IfOk result (λ v. names_of v.items
-        ≡ map (λ f. type_name_lem f.name.items) fields.now) }
+        ≡ map (λ f. spec.type_name f.name.items) fields.now) }
 {
     let mut names = Vec::new(alloc);
     'fields: for field in fields {
@@ -209,11 +201,11 @@ fn take_names<'n>(
     name: &'n [u8],
     type_name: &'n [u8],
 ) -> Result<bool, AllocError>
-    requires { type_name.now ≡ type_name_lem name.now }
+    requires { type_name.now ≡ spec.type_name name.now }
     ensures new { (list : List Name) → IsTaken names.old list
-        → IfOk result (λ new. new ≡ not (are_among list (names_for kind name.now))) }
+        → IfOk result (λ new. new ≡ not (are_among list (spec.names_for kind name.now))) }
     ensures taken { (list : List Name) → IsTaken names.old list
-        → IfOk result (λ new. new ≡ true → IsTaken names.new (list ++ names_for kind name.now)) }
+        → IfOk result (λ new. new ≡ true → IsTaken names.new (list ++ spec.names_for kind name.now)) }
 {
     if is_union(kind) {
         let new = or_return!(take_key(names, type_name));
@@ -233,11 +225,11 @@ fn add_names<'n>(
     left: usize,
 ) -> Result<bool, Stop>
     requires own { field.now.name.items ≡ name.now }
-    requires typed { type_name.now ≡ type_name_lem name.now }
+    requires typed { type_name.now ≡ spec.type_name name.now }
     ensures read { (list : List Name) → IsTaken names.old list
         → IfOk result (λ k. AreNamesRead list names.new field.now key k) }
     ensures wrong { (list : List Name) → IsTaken names.old list → Tells (first
-        (when (are_among list (names_taken field.now)) Problem.FieldNameTaken left)
+        (when (are_among list (spec.names_taken field.now)) Problem.FieldNameTaken left)
         (when (field.now.key && key) Problem.SecondKey left)) result }
 {
     let new = or_return!(
@@ -288,9 +280,9 @@ fn table_fields(scope: &Scope, declared: &[Field], ids: bool) -> Result<Vec<Tabl
 
 pub(crate) fn table_of(scope: &Scope, declared: &Record, left: usize) -> Result<Table, Stop>
     requires { HasIntegers scope.now }
-    ensures says { IfOk result (λ t. SaysTable (scope_heads scope.now) (scope_space scope.now)
+    ensures says { IfOk result (λ t. spec.SaysTable (scope_heads scope.now) (scope_space scope.now)
         (record_of declared.now) t) }
-    ensures sound { IfOk result (λ t. IsTable t) }
+    ensures sound { IfOk result (λ t. spec.IsTable t) }
     ensures wrong { Tells (wrong_table_body (scope_heads scope.now) (scope_space scope.now)
         declared.now left) result }
 {

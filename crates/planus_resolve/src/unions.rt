@@ -3,25 +3,18 @@
 ghost use Rattle.std.specs.Prelude.{◌≡◌, true, false, map, IfOk, IfSome, Some, nat_eq, codes, ◌∷◌};
 ghost use Rattle.std.specs.Prelude.{[]};
 ghost use Rattle.std.specs.List.{list_any};
-ghost use Rattle.planus_syntax.specs.Values.{path_of, member_of};
+ghost use Rattle.planus_syntax.specs.Values as values_spec;
 ghost use Rattle.planus_schema.specs.Distinct.{is_in};
 ghost use Rattle.planus_resolve.specs.inner.Read.{names_of_members};
 ghost use Rattle.planus_resolve.specs.inner.Read.{IsMemberRead, IsUnionRead};
 ghost use Rattle.planus_resolve.specs.inner.Scopes.{scope_heads, scope_space};
-ghost use Rattle.planus_resolve.specs.Unions.{target_of as target_of_lem};
-ghost use Rattle.planus_resolve.specs.Unions.{wanted_of as wanted_of_lem};
-ghost use Rattle.planus_resolve.specs.Unions.{SaysMember, tag_in};
-ghost use Rattle.planus_resolve.specs.Unions.{is_tag, tag_said};
-ghost use Rattle.planus_resolve.specs.Unions.{expected_as as expected_as_lem};
+ghost use Rattle.planus_resolve.specs.Unions as spec;
 ghost use Rattle.planus_resolve.specs.Wrong.{Tells};
 ghost use Rattle.planus_resolve.specs.WrongUnions.{target_path, wrong_target, wrong_member};
 ghost use Rattle.planus_resolve.specs.WrongUnions.{wrong_members};
 ghost use Rattle.planus_resolve.specs.WrongUnions.{wrong_union, wrong_flags};
-ghost use Rattle.planus_resolve.specs.Names.{attribute_named, base_as, has as has_lem, used_as};
+ghost use Rattle.planus_resolve.specs.Names as names_spec;
 ghost use Rattle.planus_resolve.specs.Fitting.{fits};
-ghost use Rattle.planus_syntax.specs.Values.{attribute_of};
-ghost use Rattle.planus_resolve.specs.Unions.{IsUnion, SaysUnion};
-ghost use Rattle.planus_syntax.specs.Values.{union_of as union_of_lem};
 
 use crate::attributes::setting;
 use crate::expected::Expected;
@@ -35,7 +28,8 @@ use planus_schema::{Base, Union, UnionMember, integer};
 use planus_syntax::{Attribute, Member, Path, UnionBody};
 
 pub(crate) fn target_of(member: &Member) -> &Path
-    ensures path { path_of result.now ≡ target_of_lem (member_of member.now) }
+    ensures path { values_spec.path_of result.now ≡ spec.target_of (values_spec.member_of
+        member.now) }
     ensures place { result.now ≡ target_path member.now }
 {
     match &member.target {
@@ -45,7 +39,7 @@ pub(crate) fn target_of(member: &Member) -> &Path
 }
 
 pub(crate) fn wanted_of(member: &Member) -> Wanted
-    ensures { used_as result ≡ wanted_of_lem (member_of member.now) }
+    ensures { names_spec.used_as result ≡ spec.wanted_of (values_spec.member_of member.now) }
 {
     match &member.target {
         Some(_) => Wanted::AnyType,
@@ -54,7 +48,7 @@ pub(crate) fn wanted_of(member: &Member) -> Wanted
 }
 
 fn expected_as(wanted: Wanted) -> Expected
-    ensures { result ≡ expected_as_lem (used_as wanted) }
+    ensures { result ≡ spec.expected_as (names_spec.used_as wanted) }
 {
     match wanted {
         Wanted::AnyType => Expected::Member,
@@ -63,13 +57,14 @@ fn expected_as(wanted: Wanted) -> Expected
 }
 
 fn base_of(scope: &Scope, declared: &Member) -> Result<Base, Stop>
-    ensures named { IfOk result (λ b. base_as (scope_heads scope.now)
-        (wanted_of_lem (member_of declared.now)) (scope_space scope.now)
-        (target_of_lem (member_of declared.now)) ≡ Some b) }
-    ensures fits { IfOk result (λ b. fits (expected_as_lem (wanted_of_lem (member_of declared.now))) b
+    ensures named { IfOk result (λ b. names_spec.base_as (scope_heads scope.now)
+        (spec.wanted_of (values_spec.member_of declared.now)) (scope_space scope.now)
+        (spec.target_of (values_spec.member_of declared.now)) ≡ Some b) }
+    ensures fits { IfOk result (λ b. fits (spec.expected_as (spec.wanted_of
+        (values_spec.member_of declared.now))) b
         ≡ true) }
     ensures wrong { Tells (wrong_target (scope_heads scope.now)
-        (wanted_of_lem (member_of declared.now)) (scope_space scope.now)
+        (spec.wanted_of (values_spec.member_of declared.now)) (scope_space scope.now)
         (target_path declared.now)) result }
 {
     let wanted = wanted_of(declared);
@@ -83,8 +78,8 @@ fn base_of(scope: &Scope, declared: &Member) -> Result<Base, Stop>
 }
 
 fn tag_of(previous: u8, member: &Member) -> Option<u8>
-    ensures within { IfSome result (λ n. is_tag n ≡ true) }
-    ensures said { result ≡ tag_said (Some previous) (member_of member.now).value }
+    ensures within { IfSome result (λ n. spec.is_tag n ≡ true) }
+    ensures said { result ≡ spec.tag_said (Some previous) (values_spec.member_of member.now).value }
 {
     match &member.value {
         Some(digits) => match integer(digits) {
@@ -98,10 +93,10 @@ fn tag_of(previous: u8, member: &Member) -> Option<u8>
 }
 
 fn member(scope: &Scope, declared: &Member, tag: u8) -> Result<UnionMember, Stop>
-    ensures read { IfOk result (λ m. SaysMember (scope_heads scope.now) (scope_space scope.now)
-        (member_of declared.now) m × m.tag ≡ tag) }
+    ensures read { IfOk result (λ m. spec.SaysMember (scope_heads scope.now) (scope_space scope.now)
+        (values_spec.member_of declared.now) m × m.tag ≡ tag) }
     ensures wrong { Tells (wrong_target (scope_heads scope.now)
-        (wanted_of_lem (member_of declared.now)) (scope_space scope.now)
+        (spec.wanted_of (values_spec.member_of declared.now)) (scope_space scope.now)
         (target_path declared.now)) result }
 {
     let base = or_return!(base_of(scope, declared));
@@ -162,8 +157,9 @@ fn next_member(
 ) -> Result<UnionMember, Stop>
     ensures read { IfOk result (λ m. IsMemberRead (scope_heads scope.now) (scope_space scope.now)
         previous members.now declared.now m) }
-    ensures wrong { Tells (wrong_member (scope_heads scope.now) (scope_space scope.now) (Some previous)
-        (map tag_in members.now) declared.now) result }
+    ensures wrong { Tells (wrong_member (scope_heads scope.now) (scope_space scope.now)
+        (Some previous)
+        (map spec.tag_in members.now) declared.now) result }
 {
     let tag = match tag_of(previous, declared) {
         Some(tag) => tag,
@@ -195,9 +191,11 @@ fn members_of(scope: &Scope, declared: &[Member]) -> Result<Union, Stop>
 }
 
 fn check_flags(attributes: &[Attribute]) -> Result<(), Stop>
-    ensures plain { IfOk result (λ _. has_lem (codes "bit_flags") (map attribute_of attributes.now)
+    ensures plain { IfOk result (λ _. names_spec.has (codes "bit_flags")
+        (map values_spec.attribute_of attributes.now)
         ≡ false) }
-    ensures wrong { Tells (wrong_flags (attribute_named (codes "bit_flags") attributes.now))
+    ensures wrong { Tells (wrong_flags (names_spec.attribute_named (codes "bit_flags")
+        attributes.now))
         result }
 {
     match setting(attributes, b"bit_flags") {
@@ -207,9 +205,9 @@ fn check_flags(attributes: &[Attribute]) -> Result<(), Stop>
 }
 
 pub(crate) fn union_of(scope: &Scope, declared: &UnionBody) -> Result<Union, Stop>
-    ensures says { IfOk result (λ u. SaysUnion (scope_heads scope.now) (scope_space scope.now)
-        (union_of_lem declared.now) u) }
-    ensures sound { IfOk result (λ u. IsUnion u) }
+    ensures says { IfOk result (λ u. spec.SaysUnion (scope_heads scope.now) (scope_space scope.now)
+        (values_spec.union_of declared.now) u) }
+    ensures sound { IfOk result (λ u. spec.IsUnion u) }
     ensures wrong { Tells (wrong_union (scope_heads scope.now) (scope_space scope.now)
         declared.now) result }
 {

@@ -7,15 +7,7 @@ ghost use Rattle.planus_syntax.specs.Values.{names_of};
 ghost use Rattle.planus_resolve.specs.Names.{used_as};
 ghost use Rattle.planus_resolve.specs.Names.{head_of, at_index};
 ghost use Rattle.planus_resolve.specs.inner.Read.{AreNoted};
-ghost use Rattle.planus_resolve.specs.Uses.{put_at, single_word as single_word_lem};
-ghost use Rattle.planus_resolve.specs.Uses.{waiting_of, use_of, event_of};
-ghost use Rattle.planus_resolve.specs.Uses.{waited as waited_lem, wait as wait_lem};
-ghost use Rattle.planus_resolve.specs.Uses.{known as known_lem, taken as taken_lem};
-ghost use Rattle.planus_resolve.specs.Uses.{meaning_at as meaning_at_lem, told_as as told_as_lem};
-ghost use Rattle.planus_resolve.specs.Uses.{tells as tells_lem, bound_fault, begin_faults};
-ghost use Rattle.planus_resolve.specs.Uses.{after_begin, after_use, use_fault};
-ghost use Rattle.planus_resolve.specs.Uses.{event_faults, events_faults, after_event, taken_otherwise};
-ghost use Rattle.planus_resolve.specs.Uses.{nothing_waits as nothing_waits_lem};
+ghost use Rattle.planus_resolve.specs.Uses as spec;
 
 use crate::awaited::Awaited;
 use crate::fault::{Fault, Problem, note, or_return, wrong};
@@ -47,7 +39,7 @@ pub(crate) enum Told {
 }
 
 fn put(list: &mut Vec<Option<Awaited>>, index: Option<usize>, awaited: Option<Awaited>)
-    ensures { list.new.items ≡ put_at list.old.items index awaited }
+    ensures { list.new.items ≡ spec.put_at list.old.items index awaited }
 {
     if let Some(index) = index {
         if index < list.len() {
@@ -71,7 +63,7 @@ fn has_dot(word: &[u8]) -> bool
 
 fn single_word<'a>(first: &'a [u8], more: &[Vec<u8>]) -> Option<&'a [u8]>
     ensures { option_map (λ w. w.now) result
-        ≡ single_word_lem (first.now ∷ names_of more.now) }
+        ≡ spec.single_word (first.now ∷ names_of more.now) }
 {
     match more {
         [] if !has_dot(first) => Some(first),
@@ -85,8 +77,9 @@ fn waited(
     waiting: &Waiting,
     usage: &Use,
 ) -> Result<Option<Awaited>, AllocError>
-    ensures { IfOk result (λ o. o ≡ waited_lem (map head_of heads.now) (waiting_of waiting.now)
-        (use_of usage.now).words) }
+    ensures { IfOk result (λ o. o ≡ spec.waited (map head_of heads.now)
+        (spec.waiting_of waiting.now)
+        (spec.use_of usage.now).words) }
 {
     match single_word(usage.first, usage.more) {
         Some(word) => Ok(at(&waiting.single, heads.ending(word))),
@@ -104,8 +97,8 @@ fn wait(
     usage: &Use,
     awaited: Awaited,
 ) -> Result<(), AllocError>
-    ensures { OnOk result (waiting_of waiting.new ≡ wait_lem (map head_of heads.now)
-        (waiting_of waiting.old) (use_of usage.now).words awaited) }
+    ensures { OnOk result (spec.waiting_of waiting.new ≡ spec.wait (map head_of heads.now)
+        (spec.waiting_of waiting.old) (spec.use_of usage.now).words awaited) }
 {
     match single_word(usage.first, usage.more) {
         Some(word) => put(&mut waiting.single, heads.ending(word), Some(awaited)),
@@ -118,7 +111,7 @@ fn wait(
 }
 
 fn meaning_at(waiting: &Waiting, index: Option<usize>) -> Option<usize>
-    ensures { result ≡ meaning_at_lem (waiting_of waiting.now) index }
+    ensures { result ≡ spec.meaning_at (spec.waiting_of waiting.now) index }
 {
     match (at(&waiting.full, index), index) {
         (Some(awaited), Some(_)) => Some(awaited.meaning),
@@ -132,8 +125,8 @@ fn known(
     waiting: &Waiting,
     usage: &Use,
 ) -> Result<Option<usize>, AllocError>
-    ensures { IfOk result (λ o. o ≡ known_lem (map head_of heads.now) (waiting_of waiting.now)
-        (use_of usage.now)) }
+    ensures { IfOk result (λ o. o ≡ spec.known (map head_of heads.now) (spec.waiting_of waiting.now)
+        (spec.use_of usage.now)) }
 {
     let scope = Scope {
         alloc,
@@ -159,8 +152,8 @@ fn taken(
     waiting: &Waiting,
     usage: &Use,
 ) -> Result<Option<usize>, AllocError>
-    ensures { IfOk result (λ o. o ≡ taken_lem (map head_of heads.now) (waiting_of waiting.now)
-        (use_of usage.now)) }
+    ensures { IfOk result (λ o. o ≡ spec.taken (map head_of heads.now) (spec.waiting_of waiting.now)
+        (spec.use_of usage.now)) }
 {
     match or_return!(waited(alloc, heads, waiting, usage)) {
         Some(awaited) => Ok(Some(awaited.meaning)),
@@ -169,7 +162,7 @@ fn taken(
 }
 
 fn told_as(wanted: Wanted, meaning: usize, taken: Option<usize>) -> Told
-    ensures { result ≡ told_as_lem (used_as wanted) meaning taken }
+    ensures { result ≡ spec.told_as (used_as wanted) meaning taken }
 {
     match (taken, wanted) {
         (Some(taken), _) if meaning == taken => Told::Nothing,
@@ -180,8 +173,8 @@ fn told_as(wanted: Wanted, meaning: usize, taken: Option<usize>) -> Told
 }
 
 fn tells(alloc: Global, heads: &Heads, waiting: &Waiting, usage: &Use) -> Result<Told, AllocError>
-    ensures { IfOk result (λ t. t ≡ tells_lem (map head_of heads.now) (waiting_of waiting.now)
-        (use_of usage.now)) }
+    ensures { IfOk result (λ t. t ≡ spec.tells (map head_of heads.now) (spec.waiting_of waiting.now)
+        (spec.use_of usage.now)) }
 {
     let scope = Scope {
         alloc,
@@ -208,11 +201,12 @@ fn read_use(
     faults: &mut Vec<Fault>,
 ) -> Result<(), AllocError>
     requires { length faults.old.items ≤ 20 }
-    ensures after { OnOk result (waiting_of waiting.new ≡ after_use (map head_of heads.now)
-        (waiting_of waiting.old) (use_of usage.now) (tells_lem (map head_of heads.now)
-        (waiting_of waiting.old) (use_of usage.now))) }
-    ensures noted { OnOk result (AreNoted (use_fault (use_of usage.now)
-        (tells_lem (map head_of heads.now) (waiting_of waiting.old) (use_of usage.now)))
+    ensures after { OnOk result (spec.waiting_of waiting.new ≡ spec.after_use
+        (map head_of heads.now)
+        (spec.waiting_of waiting.old) (spec.use_of usage.now) (spec.tells (map head_of heads.now)
+        (spec.waiting_of waiting.old) (spec.use_of usage.now))) }
+    ensures noted { OnOk result (AreNoted (spec.use_fault (spec.use_of usage.now)
+        (spec.tells (map head_of heads.now) (spec.waiting_of waiting.old) (spec.use_of usage.now)))
         faults.old.items faults.new.items) }
 {
     match or_return!(tells(alloc, heads, waiting, usage)) {
@@ -238,7 +232,7 @@ fn note_bound(
     index: usize,
 ) -> Result<(), AllocError>
     requires { length faults.old.items ≤ 20 }
-    ensures { OnOk result (AreNoted (bound_fault index awaited) faults.old.items
+    ensures { OnOk result (AreNoted (spec.bound_fault index awaited) faults.old.items
         faults.new.items) }
 {
     match awaited {
@@ -260,10 +254,11 @@ fn read_begin(
     faults: &mut Vec<Fault>,
 ) -> Result<(), AllocError>
     requires { length faults.old.items ≤ 20 }
-    ensures after { OnOk result (waiting_of waiting.new ≡ after_begin (map head_of heads.now)
-        (waiting_of waiting.old) word.now) }
-    ensures noted { OnOk result (AreNoted (begin_faults (map head_of heads.now)
-        (waiting_of waiting.old) word.now) faults.old.items faults.new.items) }
+    ensures after { OnOk result (spec.waiting_of waiting.new ≡ spec.after_begin
+        (map head_of heads.now)
+        (spec.waiting_of waiting.old) word.now) }
+    ensures noted { OnOk result (AreNoted (spec.begin_faults (map head_of heads.now)
+        (spec.waiting_of waiting.old) word.now) faults.old.items faults.new.items) }
 {
     let index = waiting.begun;
     // No memory holds so many declarations that this sum is too large.
@@ -290,10 +285,11 @@ fn read_event(
     faults: &mut Vec<Fault>,
 ) -> Result<(), AllocError>
     requires { length faults.old.items ≤ 20 }
-    ensures after { OnOk result (waiting_of waiting.new ≡ after_event (map head_of heads.now)
-        (waiting_of waiting.old) (event_of event.now)) }
-    ensures noted { OnOk result (AreNoted (event_faults (map head_of heads.now)
-        (waiting_of waiting.old) (event_of event.now)) faults.old.items faults.new.items) }
+    ensures after { OnOk result (spec.waiting_of waiting.new ≡ spec.after_event
+        (map head_of heads.now)
+        (spec.waiting_of waiting.old) (spec.event_of event.now)) }
+    ensures noted { OnOk result (AreNoted (spec.event_faults (map head_of heads.now)
+        (spec.waiting_of waiting.old) (spec.event_of event.now)) faults.old.items faults.new.items) }
 {
     match event {
         Event::Begins(word) => read_begin(heads, waiting, word, faults),
@@ -309,8 +305,9 @@ fn read_events(
     faults: &mut Vec<Fault>,
 ) -> Result<(), AllocError>
     requires { length faults.old.items ≤ 20 }
-    ensures { OnOk result (AreNoted (events_faults (map head_of heads.now)
-        (waiting_of waiting.old) (map event_of events.now)) faults.old.items faults.new.items) }
+    ensures { OnOk result (AreNoted (spec.events_faults (map head_of heads.now)
+        (spec.waiting_of waiting.old) (map spec.event_of events.now)) faults.old.items
+        faults.new.items) }
 {
     'events: for event in events {
         or_return!(read_event(alloc, heads, waiting, event, faults));
@@ -319,7 +316,7 @@ fn read_events(
 }
 
 fn nothing_waits(alloc: Global, heads: &Heads) -> Result<Waiting, AllocError>
-    ensures { IfOk result (λ w. waiting_of w ≡ nothing_waits_lem (map head_of heads.now)) }
+    ensures { IfOk result (λ w. spec.waiting_of w ≡ spec.nothing_waits (map head_of heads.now)) }
 {
     let count = heads.as_slice().len();
     let single = vec![in alloc; None; count]?;
@@ -339,7 +336,7 @@ pub(crate) fn check_uses(
     faults: &mut Vec<Fault>,
 ) -> Result<(), AllocError>
     requires { length faults.old.items ≤ 20 }
-    ensures { OnOk result (AreNoted (taken_otherwise (map head_of heads.now) files.now)
+    ensures { OnOk result (AreNoted (spec.taken_otherwise (map head_of heads.now) files.now)
         faults.old.items faults.new.items) }
 {
     let events = or_return!(events(alloc, files));

@@ -2,13 +2,13 @@
 
 ghost use Rattle.std.specs.Prelude.{◌≡◌, [], IfOk};
 ghost use Rattle.planus_syntax.specs.Values.{names_of};
-ghost use Rattle.planus_resolve.specs.Names.{cut_words as cut_words_lem};
+ghost use Rattle.planus_resolve.specs.Names as spec;
 
 use crate::fault::or_return;
 use std::alloc::{AllocError, Global};
 
 pub(crate) fn cut_words(alloc: Global, text: &[u8]) -> Result<Vec<Vec<u8>>, AllocError>
-    ensures { IfOk result (λ v. names_of v.items ≡ cut_words_lem [] text.now) }
+    ensures { IfOk result (λ v. names_of v.items ≡ spec.cut_words [] text.now) }
 {
     let mut words = Vec::new(alloc);
     let mut word = Vec::new(alloc);

@@ -2,27 +2,26 @@
 
 ghost use Rattle.std.specs.Prelude.{◌≡◌};
 ghost use Rattle.std.specs.List.{list_any};
-ghost use Rattle.planus_schema.specs.Keys.{is_key as is_key_lem, has_key as has_key_lem};
-ghost use Rattle.planus_schema.specs.Keys.{have_key as have_key_lem};
+ghost use Rattle.planus_schema.specs.Keys as spec;
 
 use crate::schema::{Body, Declared, TableField};
 
 /// Returns whether a field is a key, by which vectors of its table are sorted. Code has nothing of
 /// one that is deprecated.
 pub fn is_key(field: &TableField) -> bool
-    ensures { result ≡ is_key_lem field.now }
+    ensures { result ≡ spec.is_key field.now }
 {
     field.key && !field.deprecated
 }
 
 fn is_any_key(fields: &[TableField]) -> bool
-    ensures { result ≡ list_any is_key_lem fields.now }
+    ensures { result ≡ list_any spec.is_key fields.now }
 {
     fields.iter().any(|field| is_key(field))
 }
 
 fn has_key(body: &Body) -> bool
-    ensures { result ≡ has_key_lem body.now }
+    ensures { result ≡ spec.has_key body.now }
 {
     match body {
         Body::Table(one) => is_any_key(&one.fields),
@@ -32,7 +31,7 @@ fn has_key(body: &Body) -> bool
 
 /// Returns whether a table of these has a key.
 pub fn have_key(declared: &[Declared]) -> bool
-    ensures { result ≡ have_key_lem declared.now }
+    ensures { result ≡ spec.have_key declared.now }
 {
     declared.iter().any(|one| has_key(&one.body))
 }

@@ -2,8 +2,7 @@
 
 ghost use Rattle.std.specs.Prelude.{◌≡◌, map, Some, slice_get};
 ghost use Rattle.std.specs.Option.{option_map};
-ghost use Rattle.planus_schema.specs.Layouts.{measure_in, measure_of_body as measure_of_body_lem};
-ghost use Rattle.planus_schema.specs.Layouts.{body_in};
+ghost use Rattle.planus_schema.specs.Layouts as spec;
 
 use crate::schema::{Base, Body, Declared};
 
@@ -15,7 +14,7 @@ pub struct Measure {
 }
 
 fn body_measure(body: &Body) -> Option<Measure>
-    ensures { result ≡ measure_of_body_lem (Some body.now) }
+    ensures { result ≡ spec.measure_of_body (Some body.now) }
 {
     match body {
         Body::Struct(body) => Some(Measure {
@@ -37,7 +36,7 @@ fn declared_at(bodies: &[Declared], index: usize) -> Option<&Declared>
 }
 
 fn measure_at(bodies: &[Declared], index: usize) -> Option<Measure>
-    ensures { result ≡ measure_of_body_lem (slice_get (map body_in bodies.now) index) }
+    ensures { result ≡ spec.measure_of_body (slice_get (map spec.body_in bodies.now) index) }
 {
     match declared_at(bodies, index) {
         Some(declared) => body_measure(&declared.body),
@@ -47,7 +46,7 @@ fn measure_at(bodies: &[Declared], index: usize) -> Option<Measure>
 
 /// Returns the size and alignment of a value, if a struct can hold it.
 pub fn measure_of(bodies: &[Declared], base: Base) -> Option<Measure>
-    ensures { result ≡ measure_in (map body_in bodies.now) base }
+    ensures { result ≡ spec.measure_in (map spec.body_in bodies.now) base }
 {
     match base {
         Base::Scalar(scalar) => Some(Measure {

@@ -1,8 +1,7 @@
 //! The places of a struct's fields.
 
 ghost use Rattle.std.specs.Prelude.{◌≡◌, ◌≤◌, ◌<◌, true, max};
-ghost use Rattle.planus_schema.specs.Layouts.{IsNext, next_multiple as next_multiple_lem};
-ghost use Rattle.planus_schema.specs.Layouts.{is_alignment as is_alignment_lem};
+ghost use Rattle.planus_schema.specs.Layouts as spec;
 
 use crate::schema::{Struct, StructField};
 
@@ -11,8 +10,8 @@ pub fn next_multiple(at: usize, alignment: usize) -> usize
     requires from { at ≤ 65535 }
     requires some { 0 < alignment }
     requires small { alignment ≤ 32 }
-    ensures next { IsNext alignment at result }
-    ensures is { result ≡ next_multiple_lem alignment at }
+    ensures next { spec.IsNext alignment at result }
+    ensures is { result ≡ spec.next_multiple alignment at }
 {
     let over = at % alignment;
     if over == 0 {
@@ -31,7 +30,7 @@ pub fn greater(a: usize, b: usize) -> usize
 
 /// Returns whether this is a power of two up to 32.
 pub fn is_alignment(n: usize) -> bool
-    ensures { result ≡ is_alignment_lem n }
+    ensures { result ≡ spec.is_alignment n }
 {
     n == 1 || n == 2 || n == 4 || n == 8 || n == 16 || n == 32
 }
@@ -48,11 +47,11 @@ impl Layout {
     /// Returns the struct, padded to this alignment.
     pub fn finished(self, alignment: usize) -> Struct
         requires end { self.end ≤ 65535 }
-        requires aligned { is_alignment_lem alignment ≡ true }
+        requires aligned { spec.is_alignment alignment ≡ true }
         ensures fields { result.fields.items ≡ self.fields.items }
         ensures alignment { result.alignment ≡ alignment }
-        ensures size { IsNext alignment self.end result.size }
-        ensures is { result.size ≡ next_multiple_lem alignment self.end }
+        ensures size { spec.IsNext alignment self.end result.size }
+        ensures is { result.size ≡ spec.next_multiple alignment self.end }
     {
         Struct {
             size: next_multiple(self.end, alignment),

@@ -3,9 +3,7 @@
 ghost use Rattle.std.specs.Prelude.{◌≡◌, map, IfOk, OnOk, not, ◌&&◌, nat_eq, length};
 ghost use Rattle.std.specs.List.{list_any};
 ghost use Rattle.std.specs.List.Sorted.{IsPermutation};
-ghost use Rattle.planus_schema.specs.Plans.{IsPlan, Falls, line_of, lines_from};
-ghost use Rattle.planus_schema.specs.Plans.{alignment_of as alignment_of_lem};
-ghost use Rattle.planus_schema.specs.Plans.{is_borrowed as is_borrowed_lem};
+ghost use Rattle.planus_schema.specs.Plans as spec;
 
 use crate::{Base, Declared, FieldType, Table, TableField, measure_of, slots_taken};
 use std::alloc::{AllocError, Global};
@@ -32,7 +30,7 @@ pub struct Plan<'a> {
 }
 
 fn alignment_of(declared: &[Declared], kind: FieldType) -> usize
-    ensures { result ≡ alignment_of_lem declared.now kind }
+    ensures { result ≡ spec.alignment_of declared.now kind }
 {
     if kind.vector {
         return 4;
@@ -45,7 +43,7 @@ fn alignment_of(declared: &[Declared], kind: FieldType) -> usize
 
 /// Returns whether the argument of a field borrows.
 pub fn is_borrowed(kind: FieldType) -> bool
-    ensures { result ≡ is_borrowed_lem kind }
+    ensures { result ≡ spec.is_borrowed kind }
 {
     kind.vector || kind.base == Base::Text
 }
@@ -56,7 +54,8 @@ fn lines_of<'a>(
     table: usize,
     fields: &'a [TableField],
 ) -> Result<Vec<Line<'a>>, AllocError>
-    ensures { IfOk result (λ v. map line_of v.items ≡ lines_from declared.now table 0 fields.now) }
+    ensures { IfOk result (λ v. map spec.line_of v.items ≡ spec.lines_from declared.now table 0
+        fields.now) }
 {
     let mut lines = Vec::new(alloc);
     let mut place = 0;
@@ -76,7 +75,7 @@ fn lines_of<'a>(
 
 fn put_in_order(order: &mut Vec<Line<'_>>) -> Result<(), AllocError>
     ensures once { OnOk result (IsPermutation order.old.items order.new.items) }
-    ensures falls { OnOk result (Falls order.new.items) }
+    ensures falls { OnOk result (spec.Falls order.new.items) }
 {
     order.sort_by_key(|line| usize::MAX - line.alignment)?;
     Ok(())
@@ -90,7 +89,7 @@ impl<'a> Plan<'a> {
         table: usize,
         one: &'a Table,
     ) -> Result<Plan<'a>, AllocError>
-        ensures { IfOk result (λ plan. IsPlan declared.now table one.now.fields.items plan) }
+        ensures { IfOk result (λ plan. spec.IsPlan declared.now table one.now.fields.items plan) }
     {
         let lines = lines_of(alloc, declared, table, &one.fields)?;
         let mut order = Vec::from_slice(alloc, &lines)?;
@@ -106,7 +105,7 @@ impl<'a> Plan<'a> {
 
     /// Returns whether the argument of one of the fields borrows.
     pub fn borrows(&self) -> bool
-        ensures { result ≡ list_any (λ l. is_borrowed_lem l.field.now.kind) self.now.lines.items }
+        ensures { result ≡ list_any (λ l. spec.is_borrowed l.field.now.kind) self.now.lines.items }
     {
         self.lines.iter().any(|line| is_borrowed(line.field.kind))
     }

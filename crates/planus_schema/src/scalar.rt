@@ -1,10 +1,7 @@
 //! Scalar types.
 
 ghost use Rattle.std.specs.Prelude.{◌≡◌};
-ghost use Rattle.planus_schema.specs.Numbers.{scalar_size};
-ghost use Rattle.planus_schema.specs.Numbers.{is_float as is_float_lem};
-ghost use Rattle.planus_schema.specs.Numbers.{greatest as greatest_lem, least as least_lem};
-ghost use Rattle.planus_schema.specs.Numbers.{fits as fits_lem, is_bool as is_bool_lem};
+ghost use Rattle.planus_schema.specs.Numbers as spec;
 
 use crate::number::Number;
 
@@ -27,7 +24,7 @@ pub enum Scalar {
 impl Scalar {
     /// Returns the size in bytes, which is the alignment too.
     pub fn size(self) -> usize
-        ensures { result ≡ scalar_size self }
+        ensures { result ≡ spec.scalar_size self }
     {
         match self {
             Scalar::Bool | Scalar::Byte | Scalar::UByte => 1,
@@ -39,7 +36,7 @@ impl Scalar {
 
     /// Returns whether it is `float` or `double`.
     pub fn is_float(self) -> bool
-        ensures { result ≡ is_float_lem self }
+        ensures { result ≡ spec.is_float self }
     {
         match self {
             Scalar::Float | Scalar::Double => true,
@@ -49,7 +46,7 @@ impl Scalar {
 
     /// Returns whether it is `bool`.
     pub fn is_bool(self) -> bool
-        ensures { result ≡ is_bool_lem self }
+        ensures { result ≡ spec.is_bool self }
     {
         match self {
             Scalar::Bool => true,
@@ -59,7 +56,7 @@ impl Scalar {
 
     /// Returns whether the type holds this integer; a float type only 0.
     pub fn fits(self, number: Number) -> bool
-        ensures { result ≡ fits_lem self number }
+        ensures { result ≡ spec.fits self number }
     {
         if number.negative {
             number.magnitude <= least(self)
@@ -70,7 +67,7 @@ impl Scalar {
 }
 
 fn greatest(scalar: Scalar) -> u64
-    ensures { result ≡ greatest_lem scalar }
+    ensures { result ≡ spec.greatest scalar }
 {
     match scalar {
         Scalar::Bool => 1,
@@ -87,7 +84,7 @@ fn greatest(scalar: Scalar) -> u64
 }
 
 fn least(scalar: Scalar) -> u64
-    ensures { result ≡ least_lem scalar }
+    ensures { result ≡ spec.least scalar }
 {
     match scalar {
         Scalar::Byte => 128,

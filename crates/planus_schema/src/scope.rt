@@ -3,19 +3,7 @@
 ghost use Rattle.std.specs.Prelude.{◌≡◌};
 ghost use Rattle.std.specs.List.{list_any};
 ghost use Rattle.std.specs.Str.{bytes_eq};
-ghost use Rattle.planus_schema.specs.Names.{is_name as is_name_lem};
-ghost use Rattle.planus_schema.specs.Names.{is_reserved as is_reserved_lem};
-ghost use Rattle.planus_schema.specs.Names.{words_of_members};
-ghost use Rattle.planus_schema.specs.Names.{is_in as is_in_lem};
-ghost use Rattle.planus_schema.specs.Names.{is_held as is_held_lem};
-ghost use Rattle.planus_schema.specs.Names.{is_name_byte as is_name_byte_lem};
-ghost use Rattle.planus_schema.specs.Names.{are_apart as are_apart_lem};
-ghost use Rattle.planus_schema.specs.Names.{are_names as are_names_lem};
-ghost use Rattle.planus_schema.specs.Names.{begins_name as begins_name_lem};
-ghost use Rattle.planus_schema.specs.Names.{is_among as is_among_lem};
-ghost use Rattle.planus_schema.specs.Names.{are_apart_from as are_apart_from_lem};
-ghost use Rattle.planus_schema.specs.Names.{are_all_names as are_all_names_lem};
-ghost use Rattle.planus_schema.specs.Names.{are_scopes as are_scopes_lem};
+ghost use Rattle.planus_schema.specs.Names as spec;
 
 use crate::has_name as is_in;
 
@@ -120,32 +108,32 @@ pub fn is_one_of(words: &[&str], name: &[u8]) -> bool
 
 /// Returns whether no name can be this word.
 pub fn is_reserved(name: &[u8]) -> bool
-    ensures { result ≡ is_reserved_lem name.now }
+    ensures { result ≡ spec.is_reserved name.now }
 {
     is_one_of(&RESERVED, name)
 }
 
 fn is_of_members(name: &[u8]) -> bool
-    ensures { result ≡ is_in_lem words_of_members name.now }
+    ensures { result ≡ spec.is_in spec.words_of_members name.now }
 {
     is_one_of(&OF_MEMBERS, name)
 }
 
 /// Returns whether no field, type or module of a declaration can be this word.
 pub fn is_held(name: &[u8]) -> bool
-    ensures { result ≡ is_held_lem name.now }
+    ensures { result ≡ spec.is_held name.now }
 {
     is_reserved(name) || is_of_members(name)
 }
 
 fn is_name_byte(byte: u8) -> bool
-    ensures { result ≡ is_name_byte_lem byte }
+    ensures { result ≡ spec.is_name_byte byte }
 {
     byte.is_ascii_alphanumeric() || byte == b'_'
 }
 
 fn begins_name(name: &[u8]) -> bool
-    ensures { result ≡ begins_name_lem name.now }
+    ensures { result ≡ spec.begins_name name.now }
 {
     match name {
         [first, ..] => !first.is_ascii_digit(),
@@ -154,7 +142,7 @@ fn begins_name(name: &[u8]) -> bool
 }
 
 fn is_name(name: &[u8]) -> bool
-    ensures { result ≡ is_name_lem name.now }
+    ensures { result ≡ spec.is_name name.now }
 {
     let mut rest = name;
     'bytes: while let Some((first, after)) = rest.split_first() {
@@ -168,14 +156,14 @@ fn is_name(name: &[u8]) -> bool
 
 /// Returns whether a name equals one of these but for the case of letters.
 pub fn is_among(names: &[Vec<u8>], name: &[u8]) -> bool
-    ensures { result ≡ is_among_lem name.now names.now }
+    ensures { result ≡ spec.is_among name.now names.now }
 {
     names.iter().any(|one| one.eq_ignore_ascii_case(name))
 }
 
 /// Returns whether no two names are alike, whatever the case of letters.
 pub fn are_apart(names: &[Vec<u8>]) -> bool
-    ensures { result ≡ are_apart_lem names.now }
+    ensures { result ≡ spec.are_apart names.now }
 {
     let mut rest = names;
     'names: while let Some((first, after)) = rest.split_first() {
@@ -188,7 +176,7 @@ pub fn are_apart(names: &[Vec<u8>]) -> bool
 }
 
 fn are_all_names(names: &[Vec<u8>]) -> bool
-    ensures { result ≡ are_all_names_lem names.now }
+    ensures { result ≡ spec.are_all_names names.now }
 {
     let mut rest = names;
     'names: while let Some((first, after)) = rest.split_first() {
@@ -202,14 +190,14 @@ fn are_all_names(names: &[Vec<u8>]) -> bool
 
 /// Returns whether these are identifiers, no two alike.
 pub fn are_names(names: &[Vec<u8>]) -> bool
-    ensures { result ≡ are_names_lem names.now }
+    ensures { result ≡ spec.are_names names.now }
 {
     are_all_names(names) && are_apart(names)
 }
 
 /// Returns whether each of these passes [`are_names`].
 pub fn are_scopes(scopes: &[Vec<Vec<u8>>]) -> bool
-    ensures { result ≡ are_scopes_lem scopes.now }
+    ensures { result ≡ spec.are_scopes scopes.now }
 {
     let mut rest = scopes;
     'scopes: while let Some((first, after)) = rest.split_first() {
@@ -223,7 +211,7 @@ pub fn are_scopes(scopes: &[Vec<Vec<u8>>]) -> bool
 
 /// Returns whether none of the names is one of the others.
 pub fn are_apart_from(others: &[Vec<u8>], names: &[Vec<u8>]) -> bool
-    ensures { result ≡ are_apart_from_lem others.now names.now }
+    ensures { result ≡ spec.are_apart_from others.now names.now }
 {
     let mut rest = names;
     'names: while let Some((first, after)) = rest.split_first() {

@@ -1,15 +1,14 @@
 //! The slots of a table.
 
 ghost use Rattle.std.specs.Prelude.{◌≡◌, ◌≤◌, ◌++◌, IfOk, IfSome, OnOk};
-ghost use Rattle.planus_schema.specs.Slots.{is_union as is_union_lem, width as width_lem};
-ghost use Rattle.planus_schema.specs.Slots.{slots_taken as slots_taken_lem, slots_of, slot_said};
+ghost use Rattle.planus_schema.specs.Slots as spec;
 
 use crate::schema::{Base, FieldType, TableField};
 use std::alloc::{AllocError, Global};
 
 /// Returns whether this is a union or a vector of unions.
 pub fn is_union(kind: FieldType) -> bool
-    ensures { result ≡ is_union_lem kind }
+    ensures { result ≡ spec.is_union kind }
 {
     match kind.base {
         Base::Union(_) => true,
@@ -19,7 +18,7 @@ pub fn is_union(kind: FieldType) -> bool
 
 /// Returns how many slots a field takes.
 pub fn width(kind: FieldType) -> usize
-    ensures { result ≡ width_lem kind }
+    ensures { result ≡ spec.width kind }
 {
     if is_union(kind) { 2 } else { 1 }
 }
@@ -28,7 +27,7 @@ pub fn width(kind: FieldType) -> usize
 pub fn slot_of(id: Option<usize>, kind: FieldType, ids: bool, next: usize) -> Option<usize>
     requires next { next ≤ 65535 }
     requires id { IfSome id (λ n. n ≤ 65535) }
-    ensures { result ≡ slot_said id kind ids next }
+    ensures { result ≡ spec.slot_said id kind ids next }
 {
     let slots = width(kind);
     if !ids {
@@ -41,7 +40,7 @@ pub fn slot_of(id: Option<usize>, kind: FieldType, ids: bool, next: usize) -> Op
 }
 
 fn add_slots(slots: &mut Vec<usize>, field: &TableField) -> Result<(), AllocError>
-    ensures { OnOk result (slots.new.items ≡ slots.old.items ++ slots_of field.now) }
+    ensures { OnOk result (slots.new.items ≡ slots.old.items ++ spec.slots_of field.now) }
 {
     if is_union(field.kind) {
         slots.push(field.slot.saturating_sub(1))?;
@@ -52,7 +51,7 @@ fn add_slots(slots: &mut Vec<usize>, field: &TableField) -> Result<(), AllocErro
 
 /// Returns the slots that fields take.
 pub fn slots_taken(alloc: Global, fields: &[TableField]) -> Result<Vec<usize>, AllocError>
-    ensures { IfOk result (λ v. v.items ≡ slots_taken_lem fields.now) }
+    ensures { IfOk result (λ v. v.items ≡ spec.slots_taken fields.now) }
 {
     let mut slots = Vec::new(alloc);
     'fields: for field in fields {

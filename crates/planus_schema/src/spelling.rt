@@ -2,23 +2,14 @@
 
 ghost use Rattle.std.specs.Prelude.{◌≡◌, ◌++◌, ◌∷◌, [], IfOk};
 ghost use Rattle.planus_schema.specs.Distinct.{items_of};
-ghost use Rattle.planus_schema.specs.Spelling.{after_dots as after_dots_lem};
-ghost use Rattle.planus_schema.specs.Spelling.{last_word as last_word_lem};
-ghost use Rattle.planus_schema.specs.Spelling.{begins_small as begins_small_lem};
-ghost use Rattle.planus_schema.specs.Spelling.{begins_word as begins_word_lem};
-ghost use Rattle.planus_schema.specs.Spelling.{snake as snake_lem};
-ghost use Rattle.planus_schema.specs.Spelling.{capitals as capitals_lem};
-ghost use Rattle.planus_schema.specs.Spelling.{capital as capital_lem};
-ghost use Rattle.planus_schema.specs.Spelling.{is_like as is_like_lem};
-ghost use Rattle.planus_schema.specs.Spelling.{set_apart as set_apart_lem};
-ghost use Rattle.planus_schema.specs.Spelling.{allowed as allowed_lem};
+ghost use Rattle.planus_schema.specs.Spelling as spec;
 
 use crate::scope::{is_among, is_held};
 use std::alloc::{AllocError, Global};
 
 /// Returns what follows the last dot of a name.
 pub fn last_word(name: &[u8]) -> &[u8]
-    ensures { result.now ≡ last_word_lem name.now }
+    ensures { result.now ≡ spec.last_word name.now }
 {
     let mut word = name;
     let mut rest = name;
@@ -32,7 +23,7 @@ pub fn last_word(name: &[u8]) -> &[u8]
 }
 
 fn begins_small(bytes: &[u8]) -> bool
-    ensures { result ≡ begins_small_lem bytes.now }
+    ensures { result ≡ spec.begins_small bytes.now }
 {
     match bytes {
         [first, ..] => first.is_ascii_lowercase(),
@@ -41,7 +32,7 @@ fn begins_small(bytes: &[u8]) -> bool
 }
 
 fn begins_word(before: u8, byte: u8, after: &[u8]) -> bool
-    ensures { result ≡ begins_word_lem before byte after.now }
+    ensures { result ≡ spec.begins_word before byte after.now }
 {
     byte.is_ascii_uppercase()
         && before != b'_'
@@ -50,7 +41,7 @@ fn begins_word(before: u8, byte: u8, after: &[u8]) -> bool
 
 /// Returns a name in small letters, with `_` between its words.
 pub fn snake(alloc: Global, name: &[u8]) -> Result<Vec<u8>, AllocError>
-    ensures { IfOk result (λ v. v.items ≡ snake_lem name.now) }
+    ensures { IfOk result (λ v. v.items ≡ spec.snake name.now) }
 {
     let mut out = Vec::new(alloc);
     let mut before = b'_';
@@ -68,7 +59,7 @@ pub fn snake(alloc: Global, name: &[u8]) -> Result<Vec<u8>, AllocError>
 
 /// Returns the same in capitals.
 pub fn capitals(alloc: Global, name: &[u8]) -> Result<Vec<u8>, AllocError>
-    ensures { IfOk result (λ v. v.items ≡ capitals_lem name.now) }
+    ensures { IfOk result (λ v. v.items ≡ spec.capitals name.now) }
 {
     let mut out = snake(alloc, name)?;
     out.make_ascii_uppercase();
@@ -77,7 +68,7 @@ pub fn capitals(alloc: Global, name: &[u8]) -> Result<Vec<u8>, AllocError>
 
 /// Returns a name, its first letter a capital.
 pub fn capital(alloc: Global, name: &[u8]) -> Result<Vec<u8>, AllocError>
-    ensures { IfOk result (λ v. v.items ≡ capital_lem name.now) }
+    ensures { IfOk result (λ v. v.items ≡ spec.capital name.now) }
 {
     let mut out = Vec::new(alloc);
     if let Some((first, after)) = name.split_first() {
@@ -88,7 +79,7 @@ pub fn capital(alloc: Global, name: &[u8]) -> Result<Vec<u8>, AllocError>
 }
 
 fn is_like(names: &[Vec<u8>], name: &[u8]) -> bool
-    ensures { result ≡ is_like_lem (items_of names.now) name.now }
+    ensures { result ≡ spec.is_like (items_of names.now) name.now }
 {
     is_among(names, name)
 }
@@ -96,7 +87,7 @@ fn is_like(names: &[Vec<u8>], name: &[u8]) -> bool
 // With `_` after it for as long as it equals one of these but for case.
 fn set_apart(names: &[Vec<u8>], mut name: Vec<u8>) -> Result<Vec<u8>, AllocError>
     ensures { IfOk result (λ v. v.items
-        ≡ set_apart_lem (items_of names.now) (items_of names.now) name.items) }
+        ≡ spec.set_apart (items_of names.now) (items_of names.now) name.items) }
 {
     let mut rest = names;
     'names: while let Some((_, after)) = rest.split_first() {
@@ -113,7 +104,7 @@ fn set_apart(names: &[Vec<u8>], mut name: Vec<u8>) -> Result<Vec<u8>, AllocError
 pub fn add(names: &mut Vec<Vec<u8>>, name: Vec<u8>) -> Result<(), AllocError>
     ensures { IfOk result (λ u. items_of names.new.items
         ≡ items_of names.old.items
-        ++ set_apart_lem (items_of names.old.items) (items_of names.old.items) name.items
+        ++ spec.set_apart (items_of names.old.items) (items_of names.old.items) name.items
         ∷ []) }
 {
     let apart = set_apart(names, name)?;
@@ -123,7 +114,7 @@ pub fn add(names: &mut Vec<Vec<u8>>, name: Vec<u8>) -> Result<(), AllocError>
 
 /// Returns a name with `_` after it where it is reserved.
 pub fn allowed(mut name: Vec<u8>) -> Result<Vec<u8>, AllocError>
-    ensures { IfOk result (λ v. v.items ≡ allowed_lem name.items) }
+    ensures { IfOk result (λ v. v.items ≡ spec.allowed name.items) }
 {
     if is_held(&name) {
         name.push(b'_')?;

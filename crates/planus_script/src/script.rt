@@ -9,14 +9,7 @@ ghost use Rattle.std.specs.Char.{is_ascii_digit};
 ghost use Rattle.std.specs.Int.{is_in_range};
 ghost use Rattle.planus_script.specs.Words.{words_of, words_behind, cut_at, number_of, numbers_of};
 ghost use Rattle.planus_script.specs.Words.{items_of};
-ghost use Rattle.planus_script.specs.Script.{identifier_of, finish_of, finish_at, identified_at};
-ghost use Rattle.planus_script.specs.Script.{byte_of as byte_of_lem, hex_bytes as hex_bytes_lem};
-ghost use Rattle.planus_script.specs.Script.{bytes_of, bytes_step, bytes_in as bytes_in_lem};
-ghost use Rattle.planus_script.specs.Script.{lines_of, list_step, struct_of, struct_with};
-ghost use Rattle.planus_script.specs.Script.{clear_of, command_of, command_of_words, script_of};
-ghost use Rattle.planus_script.specs.Script.{contents_named, steps_named, command_named};
-ghost use Rattle.planus_script.specs.Script.{step_by as step_by_lem};
-ghost use Rattle.planus_script.specs.Script.{is_skipped as is_skipped_lem};
+ghost use Rattle.planus_script.specs.Script as spec;
 ghost use Rattle.planus_script.specs.Asking.{AsksForItems, AsksForBytes, AsksForStruct};
 ghost use Rattle.planus_script.specs.Asking.{AsksForStep};
 ghost use Rattle.planus_script.specs.Asking.{AsksForWords, AsksForLine, AsksForLines};
@@ -229,7 +222,7 @@ fn is_graphic(word: &str) -> bool
 }
 
 fn identifier(word: &str) -> std::result::Result<[u8; 4], ReadFault>
-    ensures { result ≡ identifier_of word.now }
+    ensures { result ≡ spec.identifier_of word.now }
 {
     if word.len() != 4 || !is_graphic(word) {
         return Err(ReadFault::BadIdentifier);
@@ -242,7 +235,7 @@ fn identifier(word: &str) -> std::result::Result<[u8; 4], ReadFault>
 
 fn finish(words: Option<&str>, sized: bool) -> std::result::Result<Step, ReadFault>
     ensures { AnswersCommand result
-        (finish_of (front_of sized) (words_behind (option_copied words.entry))) }
+        (spec.finish_of (front_of sized) (words_behind (option_copied words.entry))) }
 {
     let Some(words) = words else {
         return Err(ReadFault::UnknownCommand);
@@ -259,7 +252,7 @@ fn finish(words: Option<&str>, sized: bool) -> std::result::Result<Step, ReadFau
 }
 
 fn finish_plain(root: &str, sized: bool) -> std::result::Result<Step, ReadFault>
-    ensures { AnswersCommand result (finish_at (front_of sized) (number_of root.now)) }
+    ensures { AnswersCommand result (spec.finish_at (front_of sized) (number_of root.now)) }
 {
     let root = number(root)? as usize;
     Ok(finish_step(root, None, sized))
@@ -267,7 +260,7 @@ fn finish_plain(root: &str, sized: bool) -> std::result::Result<Step, ReadFault>
 
 fn finish_named(root: &str, name: &str, sized: bool) -> std::result::Result<Step, ReadFault>
     ensures { AnswersCommand result
-        (identified_at (front_of sized) (number_of root.now) (identifier_of name.now)) }
+        (spec.identified_at (front_of sized) (number_of root.now) (spec.identifier_of name.now)) }
 {
     let root = number(root)? as usize;
     let id = Some(identifier(name)?);
@@ -286,7 +279,7 @@ fn finish_step(root: usize, id: Option<[u8; 4]>, sized: bool) -> Step
 
 /// Returns the byte of two hexadecimal digits.
 pub fn byte_of(high: u8, low: u8) -> Option<u8>
-    ensures { result ≡ byte_of_lem high low }
+    ensures { result ≡ spec.byte_of high low }
 {
     let high = char::from(high).to_digit(16)?;
     let low = char::from(low).to_digit(16)?;
@@ -294,7 +287,7 @@ pub fn byte_of(high: u8, low: u8) -> Option<u8>
 }
 
 fn hex_bytes(alloc: Global, digits: &[u8]) -> std::result::Result<Vec<u8>, LineError>
-    ensures { AnswersList result (bytes_or_fault (hex_bytes_lem digits.now))
+    ensures { AnswersList result (bytes_or_fault (spec.hex_bytes digits.now))
         (2 ≤ length digits.now) }
 {
     let mut bytes = Vec::with_capacity(alloc, digits.len() / 2)?;
@@ -314,7 +307,7 @@ fn hex_bytes(alloc: Global, digits: &[u8]) -> std::result::Result<Vec<u8>, LineE
 
 fn bytes(alloc: Global, words: Option<&str>) -> std::result::Result<Step, LineError>
     ensures { let words = words_behind (option_copied words.entry) in
-        AnswersLine result (bytes_of words) (AsksForBytes words) }
+        AnswersLine result (spec.bytes_of words) (AsksForBytes words) }
 {
     let Some(words) = words else {
         return Ok(Step::Bytes(Vec::new(alloc)));
@@ -327,7 +320,8 @@ fn bytes(alloc: Global, words: Option<&str>) -> std::result::Result<Step, LineEr
 }
 
 fn bytes_in(alloc: Global, digits: &str) -> std::result::Result<Step, LineError>
-    ensures { AnswersLine result (bytes_step (bytes_in_lem digits.now)) (2 ≤ length digits.now) }
+    ensures { AnswersLine result (spec.bytes_step (spec.bytes_in digits.now))
+        (2 ≤ length digits.now) }
 {
     if digits.is_empty() {
         return Err(LineError::Fault(ReadFault::BadHex));
@@ -337,7 +331,7 @@ fn bytes_in(alloc: Global, digits: &str) -> std::result::Result<Step, LineError>
 
 fn structure(alloc: Global, words: Option<&str>) -> std::result::Result<Step, LineError>
     ensures { let words = words_behind (option_copied words.entry) in
-        AnswersLine result (struct_of words) (AsksForStruct words) }
+        AnswersLine result (spec.struct_of words) (AsksForStruct words) }
 {
     let Some(words) = words else {
         return Err(LineError::Fault(ReadFault::UnknownCommand));
@@ -354,7 +348,8 @@ fn structure(alloc: Global, words: Option<&str>) -> std::result::Result<Step, Li
 }
 
 fn struct_in(alloc: Global, alignment: &str, digits: &str) -> std::result::Result<Step, LineError>
-    ensures { AnswersLine result (struct_with (number_of alignment.now) (bytes_in_lem digits.now))
+    ensures { AnswersLine result (spec.struct_with (number_of alignment.now)
+        (spec.bytes_in digits.now))
         (IsOk (number_of alignment.now) × (2 ≤ length digits.now)) }
 {
     let alignment = number(alignment)?.min(255) as u8;
@@ -412,7 +407,7 @@ fn indexes(alloc: Global, numbers: &[u64]) -> std::result::Result<Vec<usize>, Al
 
 fn list(alloc: Global, width: u8, words: Option<&str>) -> std::result::Result<Step, LineError>
     ensures { let words = words_behind (option_copied words.entry) in
-        AnswersLine result (list_step (step.numbers width) (numbers_of words))
+        AnswersLine result (spec.list_step (step.numbers width) (numbers_of words))
         (AsksForItems number_of words) }
 {
     let items = items::<u64>(alloc, words)?;
@@ -421,7 +416,7 @@ fn list(alloc: Global, width: u8, words: Option<&str>) -> std::result::Result<St
 
 fn refs(alloc: Global, words: Option<&str>) -> std::result::Result<Step, LineError>
     ensures { let words = words_behind (option_copied words.entry) in
-        AnswersLine result (list_step step.refs (numbers_of words))
+        AnswersLine result (spec.list_step step.refs (numbers_of words))
         (AsksForItems number_of words) }
 {
     let items = items::<u64>(alloc, words)?;
@@ -429,7 +424,7 @@ fn refs(alloc: Global, words: Option<&str>) -> std::result::Result<Step, LineErr
 }
 
 fn clear(words: Option<&str>) -> std::result::Result<Step, ReadFault>
-    ensures { AnswersCommand result (clear_of (words_behind (option_copied words.entry))) }
+    ensures { AnswersCommand result (spec.clear_of (words_behind (option_copied words.entry))) }
 {
     match words {
         None => Ok(Step::Clear),
@@ -438,7 +433,7 @@ fn clear(words: Option<&str>) -> std::result::Result<Step, ReadFault>
 }
 
 fn is_skipped(line: &[u8]) -> bool
-    ensures { result ≡ is_skipped_lem line.now }
+    ensures { result ≡ spec.is_skipped line.now }
 {
     match line {
         [] => true,
@@ -460,7 +455,7 @@ enum Command {
 }
 
 fn of_contents(word: &str) -> Option<Command>
-    ensures { result ≡ contents_named word.now }
+    ensures { result ≡ spec.contents_named word.now }
 {
     if word == "text" {
         Some(Command::Text)
@@ -478,7 +473,7 @@ fn of_contents(word: &str) -> Option<Command>
 }
 
 fn of_steps(word: &str) -> Option<Command>
-    ensures { result ≡ steps_named word.now }
+    ensures { result ≡ spec.steps_named word.now }
 {
     if word == "refs" {
         Some(Command::Refs)
@@ -500,7 +495,7 @@ fn of_steps(word: &str) -> Option<Command>
 }
 
 fn named(word: &str) -> Option<Command>
-    ensures { result ≡ command_named word.now }
+    ensures { result ≡ spec.command_named word.now }
 {
     match of_contents(word) {
         Some(command) => Some(command),
@@ -514,7 +509,7 @@ fn step_by(
     rest: Option<&str>,
 ) -> std::result::Result<Step, LineError>
     ensures { let rest = option_copied rest.entry in
-        AnswersLine result (step_by_lem command (unwrap_or rest []) (words_behind rest))
+        AnswersLine result (spec.step_by command (unwrap_or rest []) (words_behind rest))
         (AsksForStep command (words_behind rest)) }
 {
     match command {
@@ -531,7 +526,7 @@ fn step_by(
 }
 
 fn step_of_text(alloc: Global, line: &str) -> std::result::Result<Step, LineError>
-    ensures { AnswersLine result (command_of_words line.now (words_of line.now))
+    ensures { AnswersLine result (spec.command_of_words line.now (words_of line.now))
         (AsksForWords (words_of line.now)) }
 {
     let (word, rest) = first_word(line);
@@ -542,7 +537,7 @@ fn step_of_text(alloc: Global, line: &str) -> std::result::Result<Step, LineErro
 }
 
 fn step_of(alloc: Global, line: &[u8]) -> std::result::Result<Step, LineError>
-    ensures { AnswersLine result (command_of line.now) (AsksForLine line.now) }
+    ensures { AnswersLine result (spec.command_of line.now) (AsksForLine line.now) }
 {
     match str::from_utf8(line) {
         Ok(text) => step_of_text(alloc, text),
@@ -574,7 +569,8 @@ impl Script {
 
 /// Returns the steps of a script, or the first line with an error.
 pub fn parse(alloc: Global, input: &[u8]) -> std::result::Result<Script, ParseError>
-    ensures { AnswersScript result (script_of input.now) (AsksForLines (lines_of input.now)) }
+    ensures { AnswersScript result (spec.script_of input.now) (AsksForLines
+        (spec.lines_of input.now)) }
 {
     let mut script = Script::new(alloc);
     let mut number = 0;

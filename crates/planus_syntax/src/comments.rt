@@ -4,9 +4,7 @@ ghost use Rattle.std.specs.Prelude.{◌≡◌, ◌++◌, ◌∷◌, [], ℕ, Lis
 ghost use Rattle.std.specs.Option.{option_map};
 ghost use Rattle.planus_syntax.specs.Tokens.{begins};
 ghost use Rattle.planus_syntax.specs.Spelled.{Part, AreParts, part_bytes, spelled, tokens_in};
-ghost use Rattle.planus_syntax.specs.Comments.{elements_in, elements_of};
-ghost use Rattle.planus_syntax.specs.Comments.{has_empty_line as has_empty_line_lem};
-ghost use Rattle.planus_syntax.specs.Comments.{trimmed as trimmed_lem};
+ghost use Rattle.planus_syntax.specs.Comments as spec;
 ghost use Rattle.planus_syntax.specs.Elements.{comment_of, element_of, apart_bytes};
 
 use crate::element::Element;
@@ -15,7 +13,7 @@ use std::alloc::{AllocError, Global};
 
 /// Returns a text without the blanks at its end.
 fn trimmed(text: &[u8]) -> &[u8]
-    ensures { result.now ≡ trimmed_lem text.now }
+    ensures { result.now ≡ spec.trimmed text.now }
 {
     let mut rest = text;
     'text: while let Some((last, front)) = rest.split_last() {
@@ -57,7 +55,7 @@ fn has_two_feeds(bytes: &[u8]) -> bool
 
 fn has_empty_line(bytes: &[u8]) -> bool
     ensures { (parts : List Part) → AreParts parts → bytes.now ≡ spelled parts
-        → result ≡ has_empty_line_lem parts }
+        → result ≡ spec.has_empty_line parts }
 {
     has_two_feeds(bytes)
 }
@@ -104,8 +102,8 @@ fn push_part<'a>(
 ) -> Result<bool, AllocError>
     ensures { (p : Part) (ps : List Part) → tokens_in (p ∷ []) ≡ [] → AreParts (p ∷ ps)
         → part.now ≡ part_bytes p → rest.now ≡ spelled ps
-        → IfOk result (λ next. map element_of elements.new.items ++ elements_in next ps
-        ≡ map element_of elements.old.items ++ elements_in begun (p ∷ ps)) }
+        → IfOk result (λ next. map element_of elements.new.items ++ spec.elements_in next ps
+        ≡ map element_of elements.old.items ++ spec.elements_in begun (p ∷ ps)) }
 {
     match comment_in(begun, part, rest) {
         Some(element) => {
@@ -119,7 +117,7 @@ fn push_part<'a>(
 /// Returns the tokens and comments of a text whose tokens can be read.
 pub(crate) fn elements<'a>(alloc: Global, text: &'a [u8]) -> Result<Vec<Element<'a>>, AllocError>
     ensures { IfOk result (λ elements. (parts : List Part) → AreParts parts
-        → text.now ≡ spelled parts → map element_of elements.items ≡ elements_of parts) }
+        → text.now ≡ spelled parts → map element_of elements.items ≡ spec.elements_of parts) }
 {
     let mut elements = Vec::new(alloc);
     let mut begun = true;

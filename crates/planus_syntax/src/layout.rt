@@ -3,23 +3,12 @@
 ghost use Rattle.std.specs.Prelude.{◌≡◌, ◌++◌, ◌∷◌, List, map, IfOk, OnOk};
 ghost use Rattle.planus_syntax.specs.Tokens.{bytes_of, word as word_piece};
 ghost use Rattle.planus_syntax.specs.Cutting.{cut_piece};
-ghost use Rattle.planus_syntax.specs.Layout.{is_mark_of, place_after as place_after_lem};
-ghost use Rattle.planus_syntax.specs.Layout.{is_tight as is_tight_lem, is_open as is_open_lem};
-ghost use Rattle.planus_syntax.specs.Layout.{is_tight_piece, is_number_piece, is_glued as is_glued_lem};
-ghost use Rattle.planus_syntax.specs.Layout.{is_grouped as is_grouped_lem, is_doc as is_doc_lem};
-ghost use Rattle.planus_syntax.specs.Layout.{new_line as new_line_lem, apart as apart_lem};
-ghost use Rattle.planus_syntax.specs.Layout.{between_declarations as between_declarations_lem};
-ghost use Rattle.planus_syntax.specs.Layout.{after_mark as after_mark_lem, spaced as spaced_lem};
-ghost use Rattle.planus_syntax.specs.Layout.{is_count_piece, gap as gap_lem};
+ghost use Rattle.planus_syntax.specs.Layout as spec;
 ghost use Rattle.std.specs.Option.{option_map};
 ghost use Rattle.planus_syntax.specs.Spelled.{Part, AreParts, spelled};
-ghost use Rattle.planus_syntax.specs.Comments.{canonical, canonical_after_feed, elements_of};
-ghost use Rattle.planus_syntax.specs.Comments.{is_empty_line as is_empty_line_lem, next_piece};
-ghost use Rattle.planus_syntax.specs.Comments.{breaks as breaks_lem, before_comment, empty_line};
-ghost use Rattle.planus_syntax.specs.Comments.{after_line as after_line_lem};
-ghost use Rattle.planus_syntax.specs.Comments.{after_block as after_block_lem};
-ghost use Rattle.planus_syntax.specs.Comments.{gap_to, line_to, empty_to};
-ghost use Rattle.planus_syntax.specs.Comments.{Element as ElementV, line_comment, block_comment};
+ghost use Rattle.planus_syntax.specs.Comments as comments_spec;
+ghost use Rattle.planus_syntax.specs.Comments.{canonical};
+ghost use Rattle.planus_syntax.specs.Comments.{Element as ElementV};
 ghost use Rattle.planus_syntax.specs.Elements.{element_of, woven_from};
 
 use crate::comments::elements;
@@ -34,7 +23,7 @@ pub(crate) struct Place {
 }
 
 fn is_mark(token: Lexeme<'_>, mark: u8) -> bool
-    ensures { result ≡ is_mark_of mark (cut_piece token.entry) }
+    ensures { result ≡ spec.is_mark_of mark (cut_piece token.entry) }
 {
     match token {
         Lexeme::Mark(byte) => byte == mark,
@@ -43,7 +32,7 @@ fn is_mark(token: Lexeme<'_>, mark: u8) -> bool
 }
 
 fn place_after(place: Place, token: Lexeme<'_>) -> Place
-    ensures { result ≡ place_after_lem place (cut_piece token.entry) }
+    ensures { result ≡ spec.place_after place (cut_piece token.entry) }
 {
     let Lexeme::Mark(byte) = token else {
         return place;
@@ -70,19 +59,19 @@ fn place_after(place: Place, token: Lexeme<'_>) -> Place
 }
 
 fn is_tight_mark(b: u8) -> bool
-    ensures { result ≡ is_tight_lem b }
+    ensures { result ≡ spec.is_tight b }
 {
     b":;,)]".contains(&b)
 }
 
 fn is_open(b: u8) -> bool
-    ensures { result ≡ is_open_lem b }
+    ensures { result ≡ spec.is_open b }
 {
     b"([.".contains(&b)
 }
 
 fn is_tight(token: Lexeme<'_>) -> bool
-    ensures { result ≡ is_tight_piece (cut_piece token.entry) }
+    ensures { result ≡ spec.is_tight_piece (cut_piece token.entry) }
 {
     match token {
         Lexeme::Mark(byte) => is_tight_mark(byte),
@@ -91,7 +80,7 @@ fn is_tight(token: Lexeme<'_>) -> bool
 }
 
 fn is_number(token: Lexeme<'_>) -> bool
-    ensures { result ≡ is_number_piece (cut_piece token.entry) }
+    ensures { result ≡ spec.is_number_piece (cut_piece token.entry) }
 {
     match token {
         Lexeme::Number(_) => true,
@@ -100,7 +89,7 @@ fn is_number(token: Lexeme<'_>) -> bool
 }
 
 fn is_doc(token: Lexeme<'_>) -> bool
-    ensures { result ≡ is_doc_lem (cut_piece token.entry) }
+    ensures { result ≡ spec.is_doc (cut_piece token.entry) }
 {
     match token {
         Lexeme::Doc(_) => true,
@@ -109,7 +98,7 @@ fn is_doc(token: Lexeme<'_>) -> bool
 }
 
 fn is_glued(first: Lexeme<'_>, second: Lexeme<'_>) -> bool
-    ensures { result ≡ is_glued_lem (cut_piece first.entry) (cut_piece second.entry) }
+    ensures { result ≡ spec.is_glued (cut_piece first.entry) (cut_piece second.entry) }
 {
     match first {
         Lexeme::Word(_) => is_tight(second) || is_mark(second, b'.'),
@@ -122,7 +111,7 @@ fn is_glued(first: Lexeme<'_>, second: Lexeme<'_>) -> bool
 }
 
 fn is_grouped_word(word: &[u8]) -> bool
-    ensures { result ≡ is_grouped_lem (word_piece word.now) }
+    ensures { result ≡ spec.is_grouped (word_piece word.now) }
 {
     word == b"include".as_slice()
         || word == b"native_include".as_slice()
@@ -132,7 +121,7 @@ fn is_grouped_word(word: &[u8]) -> bool
 }
 
 fn is_grouped(token: Lexeme<'_>) -> bool
-    ensures { result ≡ is_grouped_lem (cut_piece token.entry) }
+    ensures { result ≡ spec.is_grouped (cut_piece token.entry) }
 {
     match token {
         Lexeme::Word(word) => is_grouped_word(word),
@@ -141,7 +130,7 @@ fn is_grouped(token: Lexeme<'_>) -> bool
 }
 
 fn new_line(place: Place, next: Lexeme<'_>) -> &'static [u8]
-    ensures { result.now ≡ new_line_lem place (cut_piece next.entry) }
+    ensures { result.now ≡ spec.new_line place (cut_piece next.entry) }
 {
     if place.braces && !is_mark(next, b'}') {
         b"\n  "
@@ -151,13 +140,13 @@ fn new_line(place: Place, next: Lexeme<'_>) -> &'static [u8]
 }
 
 fn between_declarations(next: Lexeme<'_>) -> &'static [u8]
-    ensures { result.now ≡ between_declarations_lem (cut_piece next.entry) }
+    ensures { result.now ≡ spec.between_declarations (cut_piece next.entry) }
 {
     if is_grouped(next) { b"\n" } else { b"\n\n" }
 }
 
 fn spaced(next: Lexeme<'_>) -> &'static [u8]
-    ensures { result.now ≡ spaced_lem (cut_piece next.entry) }
+    ensures { result.now ≡ spec.spaced (cut_piece next.entry) }
 {
     if is_mark(next, b'}') {
         b"\n"
@@ -169,7 +158,7 @@ fn spaced(next: Lexeme<'_>) -> &'static [u8]
 }
 
 fn after_mark(place: Place, mark: u8, next: Lexeme<'_>) -> &'static [u8]
-    ensures { result.now ≡ after_mark_lem place mark (cut_piece next.entry) }
+    ensures { result.now ≡ spec.after_mark place mark (cut_piece next.entry) }
 {
     if mark == b'}' {
         b"\n\n"
@@ -187,7 +176,7 @@ fn after_mark(place: Place, mark: u8, next: Lexeme<'_>) -> &'static [u8]
 }
 
 fn apart(place: Place, first: Lexeme<'_>, next: Lexeme<'_>) -> &'static [u8]
-    ensures { result.now ≡ apart_lem place (cut_piece first.entry) (cut_piece next.entry) }
+    ensures { result.now ≡ spec.apart place (cut_piece first.entry) (cut_piece next.entry) }
 {
     match first {
         Lexeme::Doc(_) => new_line(place, next),
@@ -198,14 +187,14 @@ fn apart(place: Place, first: Lexeme<'_>, next: Lexeme<'_>) -> &'static [u8]
 
 /// Returns whether the second token is the number of an array's items, as in `[int:3]`.
 fn is_count(place: Place, first: Lexeme<'_>, second: Lexeme<'_>) -> bool
-    ensures { result ≡ is_count_piece place (cut_piece first.entry) (cut_piece second.entry) }
+    ensures { result ≡ spec.is_count_piece place (cut_piece first.entry) (cut_piece second.entry) }
 {
     is_mark(first, b':') && is_number(second) && !place.parentheses
 }
 
 /// Returns what is between a token and the next, where no comment is between them.
 fn gap(place: Place, token: Lexeme<'_>, next: Lexeme<'_>) -> &'static [u8]
-    ensures { result.now ≡ gap_lem place (cut_piece token.entry) (cut_piece next.entry) }
+    ensures { result.now ≡ spec.gap place (cut_piece token.entry) (cut_piece next.entry) }
 {
     if is_count(place, token, next) || is_glued(token, next) {
         b""
@@ -215,13 +204,13 @@ fn gap(place: Place, token: Lexeme<'_>, next: Lexeme<'_>) -> &'static [u8]
 }
 
 fn is_empty_line(gap: &[u8]) -> bool
-    ensures { result ≡ is_empty_line_lem gap.now }
+    ensures { result ≡ comments_spec.is_empty_line gap.now }
 {
     gap == b"\n\n".as_slice()
 }
 
 fn breaks(gap: &[u8]) -> bool
-    ensures { result ≡ breaks_lem gap.now }
+    ensures { result ≡ comments_spec.breaks gap.now }
 {
     match gap.split_first() {
         Some((first, _)) => *first == b'\n',
@@ -243,7 +232,7 @@ pub(crate) struct Before {
 
 /// Returns the next token.
 fn next_token<'a>(elements: &[Element<'a>]) -> Option<Lexeme<'a>>
-    ensures { option_map cut_piece result ≡ next_piece (map element_of elements.now) }
+    ensures { option_map cut_piece result ≡ comments_spec.next_piece (map element_of elements.now) }
 {
     'elements: for element in elements {
         if let Element::Token(token) = *element {
@@ -257,10 +246,10 @@ fn next_token<'a>(elements: &[Element<'a>]) -> Option<Lexeme<'a>>
 fn after_token(place: Place, token: Lexeme<'_>, next: Option<Lexeme<'_>>) -> Before
     ensures place { result.place ≡ place }
     ensures gap { result.gap.now
-        ≡ gap_to place (cut_piece token.entry) (option_map cut_piece next.entry) }
-    ensures line { result.line.now ≡ line_to place (option_map cut_piece next.entry) }
+        ≡ comments_spec.gap_to place (cut_piece token.entry) (option_map cut_piece next.entry) }
+    ensures line { result.line.now ≡ comments_spec.line_to place (option_map cut_piece next.entry) }
     ensures empty { result.empty
-        ≡ empty_to place (cut_piece token.entry) (option_map cut_piece next.entry) }
+        ≡ comments_spec.empty_to place (cut_piece token.entry) (option_map cut_piece next.entry) }
 {
     match next {
         None => Before {
@@ -302,7 +291,7 @@ fn put_token(out: &mut Vec<u8>, token: Lexeme<'_>) -> Result<(), AllocError>
 /// Writes what is before a comment.
 fn put_before(out: &mut Vec<u8>, before: Before, starts: bool) -> Result<(), AllocError>
     ensures { OnOk result (out.new.items
-        ≡ out.old.items ++ before_comment starts before.place before.empty) }
+        ≡ out.old.items ++ comments_spec.before_comment starts before.place before.empty) }
 {
     if !starts {
         return out.extend_from_slice(b" ");
@@ -319,7 +308,7 @@ fn put_before(out: &mut Vec<u8>, before: Before, starts: bool) -> Result<(), All
 
 /// Writes the empty line that is after a comment.
 fn put_empty(out: &mut Vec<u8>, apart: bool) -> Result<(), AllocError>
-    ensures { OnOk result (out.new.items ≡ out.old.items ++ empty_line apart) }
+    ensures { OnOk result (out.new.items ≡ out.old.items ++ comments_spec.empty_line apart) }
 {
     if apart {
         out.push(b'\n')?;
@@ -328,7 +317,7 @@ fn put_empty(out: &mut Vec<u8>, apart: bool) -> Result<(), AllocError>
 }
 
 fn after_line(starts: bool, before: Before) -> &'static [u8]
-    ensures { result.now ≡ after_line_lem starts before.gap.now before.line.now }
+    ensures { result.now ≡ comments_spec.after_line starts before.gap.now before.line.now }
 {
     if !starts && breaks(before.gap) {
         before.gap
@@ -338,7 +327,7 @@ fn after_line(starts: bool, before: Before) -> &'static [u8]
 }
 
 fn after_block(starts: bool, before: Before) -> &'static [u8]
-    ensures { result.now ≡ after_block_lem starts before.gap.now before.line.now }
+    ensures { result.now ≡ comments_spec.after_block starts before.gap.now before.line.now }
 {
     if starts {
         before.line
@@ -358,7 +347,8 @@ fn put_line(
     text: &[u8],
 ) -> Result<Before, AllocError>
     ensures { IfOk result (λ next. (es : List ElementV) → out.new.items ++ woven_from next es
-        ≡ out.old.items ++ woven_from before (line_comment starts apart text.now ∷ es)) }
+        ≡ out.old.items ++ woven_from before (comments_spec.line_comment starts apart text.now
+        ∷ es)) }
 {
     put_before(out, before, starts)?;
     out.extend_from_slice(b"//")?;
@@ -381,7 +371,8 @@ fn put_block(
     text: &[u8],
 ) -> Result<Before, AllocError>
     ensures { IfOk result (λ next. (es : List ElementV) → out.new.items ++ woven_from next es
-        ≡ out.old.items ++ woven_from before (block_comment starts apart text.now ∷ es)) }
+        ≡ out.old.items ++ woven_from before (comments_spec.block_comment starts apart text.now
+        ∷ es)) }
 {
     put_before(out, before, starts)?;
     out.extend_from_slice(b"/*")?;
@@ -429,7 +420,8 @@ fn put_element(
 
 /// Writes tokens and comments, as after a line feed.
 fn put_elements(alloc: Global, elements: &[Element<'_>]) -> Result<Vec<u8>, AllocError>
-    ensures { IfOk result (λ out. out.items ≡ canonical_after_feed (map element_of elements.now)) }
+    ensures { IfOk result (λ out. out.items ≡ comments_spec.canonical_after_feed
+        (map element_of elements.now)) }
 {
     let mut out = Vec::new(alloc);
     let mut before = Before {
@@ -452,7 +444,7 @@ fn put_elements(alloc: Global, elements: &[Element<'_>]) -> Result<Vec<u8>, Allo
 /// Returns the canonical text of a text whose tokens can be read, with its comments.
 pub(crate) fn canonical_text(alloc: Global, text: &[u8]) -> Result<Vec<u8>, AllocError>
     ensures { IfOk result (λ out. (parts : List Part) → AreParts parts → text.now ≡ spelled parts
-        → out.items ≡ canonical (elements_of parts)) }
+        → out.items ≡ canonical (comments_spec.elements_of parts)) }
 {
     let elements = elements(alloc, text)?;
     let mut out = put_elements(alloc, &elements)?;

@@ -3,22 +3,13 @@
 ghost use Rattle.std.specs.Prelude.{◌≡◌, ◌<◌, ◌≤◌, ◌+◌, length, IfOk, IfErr};
 ghost use Rattle.std.specs.Prelude.{MatchOption};
 ghost use Rattle.std.specs.Prelude.{Ok, false, true, List, [], ◌∷◌, ◌==◌};
-ghost use Rattle.std.specs.Str.{is_utf8 as is_utf8_lem};
-ghost use Rattle.planus_syntax.specs.Tokens.{begins, piece_of};
-ghost use Rattle.planus_syntax.specs.Tokens.{is_word_byte as is_word_byte_lem};
-ghost use Rattle.planus_syntax.specs.Tokens.{is_mark as is_mark_lem};
-ghost use Rattle.planus_syntax.specs.Tokens.{is_number_start as is_number_start_lem};
-ghost use Rattle.planus_syntax.specs.Tokens.{is_number_byte as is_number_byte_lem};
-ghost use Rattle.planus_syntax.specs.Tokens.{starts_number as starts_number_lem};
-ghost use Rattle.planus_syntax.specs.Tokens.{is_blank as is_blank_lem};
-ghost use Rattle.planus_syntax.specs.Lexing.{Answers, block, lex_from, lex_of, slashes, with_front};
-ghost use Rattle.planus_syntax.specs.Cutting.{cut_piece, pieces_in, Cuts, Skips, Splits};
-ghost use Rattle.planus_syntax.specs.Cutting.{Closes, Starts, in_run};
+ghost use Rattle.std.specs.Str as str_spec;
+ghost use Rattle.planus_syntax.specs.Tokens as tokens_spec;
+ghost use Rattle.planus_syntax.specs.Tokens.{begins};
+ghost use Rattle.planus_syntax.specs.Lexing as lexing_spec;
+ghost use Rattle.planus_syntax.specs.Cutting as spec;
 ghost use Rattle.planus_syntax.specs.Placing.{StandsAt};
-ghost use Rattle.planus_syntax.specs.Tokens.{Piece};
-ghost use Rattle.planus_syntax.specs.Cutting.{string_end as string_end_lem, Ends};
-ghost use Rattle.planus_syntax.specs.Lexing.{string_fault as string_fault_lem};
-ghost use Rattle.planus_syntax.specs.Strings.{is_quote as is_quote_lem, start as start_lem};
+ghost use Rattle.planus_syntax.specs.Strings as strings_spec;
 ghost use Rattle.planus_syntax.specs.Spelled.{closes};
 
 use crate::number::is_number;
@@ -77,19 +68,19 @@ impl<T: Drop> From<AllocFailed<T>> for LexError {
 }
 
 fn is_word_byte(b: u8) -> bool
-    ensures { result ≡ is_word_byte_lem b }
+    ensures { result ≡ tokens_spec.is_word_byte b }
 {
     b.is_ascii_alphabetic() || b.is_ascii_digit() || b == b'_'
 }
 
 fn is_number_start(b: u8) -> bool
-    ensures { result ≡ is_number_start_lem b }
+    ensures { result ≡ tokens_spec.is_number_start b }
 {
     b.is_ascii_digit() || b == b'+' || b == b'-'
 }
 
 fn starts_number(bytes: &[u8]) -> bool
-    ensures { result ≡ starts_number_lem bytes.now }
+    ensures { result ≡ tokens_spec.starts_number bytes.now }
 {
     match bytes.split_first() {
         Some((b'.', rest)) => match rest.split_first() {
@@ -102,25 +93,25 @@ fn starts_number(bytes: &[u8]) -> bool
 }
 
 fn is_number_byte(b: u8) -> bool
-    ensures { result ≡ is_number_byte_lem b }
+    ensures { result ≡ tokens_spec.is_number_byte b }
 {
     is_word_byte(b) || b == b'.' || b == b'+' || b == b'-'
 }
 
 pub(crate) fn is_blank(b: u8) -> bool
-    ensures { result ≡ is_blank_lem b }
+    ensures { result ≡ tokens_spec.is_blank b }
 {
     b == b' ' || b == b'\n' || b == b'\t' || b == b'\r'
 }
 
 fn is_mark(b: u8) -> bool
-    ensures { result ≡ is_mark_lem b }
+    ensures { result ≡ tokens_spec.is_mark b }
 {
     b"{}()[]:;,=.".contains(&b)
 }
 
 fn goes_on(run: Run, b: u8) -> bool
-    ensures { result ≡ in_run run b }
+    ensures { result ≡ spec.in_run run b }
 {
     match run {
         Run::Word => is_word_byte(b),
@@ -130,7 +121,7 @@ fn goes_on(run: Run, b: u8) -> bool
 }
 
 fn split(run: Run, bytes: &[u8]) -> (&[u8], &[u8])
-    ensures { Splits (in_run run) bytes.now result.0.now result.1.now }
+    ensures { spec.Splits (spec.in_run run) bytes.now result.0.now result.1.now }
 {
     let mut length = 0;
     'bytes: for b in bytes {
@@ -160,10 +151,11 @@ pub(crate) struct Stop {
 }
 
 fn word_at(bytes: &[u8]) -> (Option<Lexeme>, &[u8])
-    requires start { begins is_word_byte_lem bytes.now ≡ true }
-    requires letter { begins is_number_start_lem bytes.now ≡ false }
-    ensures cuts { lex_of bytes.now ≡ with_front (pieces_in result.0) (lex_of result.1.now) }
-    ensures starts { Starts bytes.now result.0 result.1.now }
+    requires start { begins tokens_spec.is_word_byte bytes.now ≡ true }
+    requires letter { begins tokens_spec.is_number_start bytes.now ≡ false }
+    ensures cuts { lexing_spec.lex_of bytes.now ≡ lexing_spec.with_front (spec.pieces_in result.0)
+        (lexing_spec.lex_of result.1.now) }
+    ensures starts { spec.Starts bytes.now result.0 result.1.now }
     ensures shorter { length result.1.now < length bytes.now }
 {
     let (word, rest) = split(Run::Word, bytes);
@@ -171,9 +163,9 @@ fn word_at(bytes: &[u8]) -> (Option<Lexeme>, &[u8])
 }
 
 fn number_at(bytes: &[u8]) -> Result<(Option<Lexeme>, &[u8]), Stop>
-    requires { starts_number_lem bytes.now ≡ true }
-    ensures cuts { Cuts bytes.now result }
-    ensures starts { IfOk result (λ x. Starts bytes.now x.0 x.1.now) }
+    requires { tokens_spec.starts_number bytes.now ≡ true }
+    ensures cuts { spec.Cuts bytes.now result }
+    ensures starts { IfOk result (λ x. spec.Starts bytes.now x.0 x.1.now) }
     ensures shorter { IfOk result (λ x. length x.1.now < length bytes.now) }
     ensures within { IfErr result (λ stop. stop.left ≤ length bytes.now) }
 {
@@ -189,7 +181,7 @@ fn number_at(bytes: &[u8]) -> Result<(Option<Lexeme>, &[u8]), Stop>
 }
 
 fn is_utf8(bytes: &[u8]) -> bool
-    ensures { result ≡ is_utf8_lem bytes.now }
+    ensures { result ≡ str_spec.is_utf8 bytes.now }
 {
     match std::str::from_utf8(bytes) {
         Ok(_) => true,
@@ -198,7 +190,7 @@ fn is_utf8(bytes: &[u8]) -> bool
 }
 
 fn string_fault(state: StringState, b: u8) -> LexFault
-    ensures { result ≡ string_fault_lem state b }
+    ensures { result ≡ lexing_spec.string_fault state b }
 {
     match state {
         StringState::Plain { due } if is_nothing(due) => {
@@ -214,7 +206,7 @@ fn string_fault(state: StringState, b: u8) -> LexFault
 
 /// Returns what follows the closing quote of a string.
 fn string_end(quote: u8, bytes: &[u8]) -> Result<&[u8], Stop>
-    ensures { Ends (string_end_lem quote start_lem bytes.now) result }
+    ensures { spec.Ends (spec.string_end quote strings_spec.start bytes.now) result }
 {
     let mut state = start();
     let mut rest = bytes;
@@ -239,9 +231,9 @@ fn string_end(quote: u8, bytes: &[u8]) -> Result<&[u8], Stop>
 }
 
 fn string_at(bytes: &[u8]) -> Result<(Option<Lexeme>, &[u8]), Stop>
-    requires { begins is_quote_lem bytes.now ≡ true }
-    ensures cuts { Cuts bytes.now result }
-    ensures starts { IfOk result (λ x. Starts bytes.now x.0 x.1.now) }
+    requires { begins strings_spec.is_quote bytes.now ≡ true }
+    ensures cuts { spec.Cuts bytes.now result }
+    ensures starts { IfOk result (λ x. spec.Starts bytes.now x.0 x.1.now) }
     ensures shorter { IfOk result (λ x. length x.1.now < length bytes.now) }
     ensures within { IfErr result (λ stop. stop.left ≤ length bytes.now) }
 {
@@ -275,8 +267,8 @@ fn after_end(bytes: &[u8]) -> Option<&[u8]>
 }
 
 fn block_at(bytes: &[u8]) -> Result<&[u8], Stop>
-    ensures skips { Skips (lex_from block bytes.now) result }
-    ensures closes { IfOk result (λ rest. Closes bytes.now rest.now) }
+    ensures skips { spec.Skips (lexing_spec.lex_from lexing_spec.block bytes.now) result }
+    ensures closes { IfOk result (λ rest. spec.Closes bytes.now rest.now) }
     ensures shorter { IfOk result (λ rest. length rest.now < length bytes.now) }
     ensures within { IfErr result (λ stop. stop.left ≤ length bytes.now) }
 {
@@ -294,9 +286,9 @@ fn block_at(bytes: &[u8]) -> Result<&[u8], Stop>
 }
 
 fn line_at(bytes: &[u8]) -> (Option<Lexeme>, &[u8])
-    ensures cuts { lex_from slashes bytes.now
-        ≡ with_front (pieces_in result.0) (lex_of result.1.now) }
-    ensures starts { Starts (47 ∷ 47 ∷ bytes.now) result.0 result.1.now }
+    ensures cuts { lexing_spec.lex_from lexing_spec.slashes bytes.now
+        ≡ lexing_spec.with_front (spec.pieces_in result.0) (lexing_spec.lex_of result.1.now) }
+    ensures starts { spec.Starts (47 ∷ 47 ∷ bytes.now) result.0 result.1.now }
     ensures shorter { length result.1.now ≤ length bytes.now }
 {
     match after(bytes, b'/') {
@@ -312,8 +304,8 @@ fn line_at(bytes: &[u8]) -> (Option<Lexeme>, &[u8])
 }
 
 fn comment_at(bytes: &[u8]) -> Result<(Option<Lexeme>, &[u8]), Stop>
-    ensures cuts { Cuts (47 ∷ bytes.now) result }
-    ensures starts { IfOk result (λ x. Starts (47 ∷ bytes.now) x.0 x.1.now) }
+    ensures cuts { spec.Cuts (47 ∷ bytes.now) result }
+    ensures starts { IfOk result (λ x. spec.Starts (47 ∷ bytes.now) x.0 x.1.now) }
     ensures shorter { IfOk result (λ x. length x.1.now < length bytes.now) }
     ensures within { IfErr result (λ stop. stop.left ≤ length bytes.now) }
 {
@@ -331,8 +323,8 @@ fn comment_at(bytes: &[u8]) -> Result<(Option<Lexeme>, &[u8]), Stop>
 
 pub(crate) fn token_at(bytes: &[u8]) -> Result<(Option<Lexeme>, &[u8]), Stop>
     requires { 0 < length bytes.now }
-    ensures cuts { Cuts bytes.now result }
-    ensures starts { IfOk result (λ x. Starts bytes.now x.0 x.1.now) }
+    ensures cuts { spec.Cuts bytes.now result }
+    ensures starts { IfOk result (λ x. spec.Starts bytes.now x.0 x.1.now) }
     ensures shorter { IfOk result (λ x. length x.1.now < length bytes.now) }
     ensures within { IfErr result (λ stop. stop.left ≤ length bytes.now) }
 {
@@ -361,7 +353,7 @@ pub(crate) fn token_at(bytes: &[u8]) -> Result<(Option<Lexeme>, &[u8]), Stop>
 }
 
 fn owned(alloc: Global, lexeme: Lexeme) -> Result<Token, AllocError>
-    ensures { IfOk result (λ token. piece_of token ≡ cut_piece lexeme.entry) }
+    ensures { IfOk result (λ token. tokens_spec.piece_of token ≡ spec.cut_piece lexeme.entry) }
 {
     match lexeme {
         Lexeme::Word(bytes) => Ok(Token::Word(Vec::from_slice(alloc, bytes)?)),
@@ -373,7 +365,7 @@ fn owned(alloc: Global, lexeme: Lexeme) -> Result<Token, AllocError>
 }
 
 pub(crate) fn lex(alloc: Global, text: &[u8]) -> Result<Vec<Token>, LexError>
-    ensures { Answers (length text.now) result (lex_of text.now) }
+    ensures { lexing_spec.Answers (length text.now) result (lexing_spec.lex_of text.now) }
 {
     let mut tokens = Vec::new(alloc);
     let mut rest = text;
@@ -401,7 +393,8 @@ pub(crate) fn lex(alloc: Global, text: &[u8]) -> Result<Vec<Token>, LexError>
 /// Returns where the token of this index begins, or where the text ends if it has no more tokens.
 pub(crate) fn place_of(text: &[u8], index: usize) -> usize
     ensures within { result ≤ length text.now }
-    ensures stands { (ps : List Piece) → lex_of text.now ≡ Ok ps → index ≤ length ps
+    ensures stands { (ps : List tokens_spec.Piece) → lexing_spec.lex_of text.now ≡ Ok ps
+        → index ≤ length ps
         → StandsAt text.now ps index result }
 {
     let mut left = index;

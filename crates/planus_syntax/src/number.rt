@@ -1,13 +1,7 @@
 //! Which bytes are a number.
 
 ghost use Rattle.std.specs.Prelude.{◌≡◌, if◌then◌else◌};
-ghost use Rattle.planus_syntax.specs.Tokens.{is_number as is_number_lem};
-ghost use Rattle.planus_syntax.specs.Tokens.{is_signed_name as is_signed_name_lem};
-ghost use Rattle.planus_syntax.specs.Tokens.{is_float_name as is_float_name_lem};
-ghost use Rattle.planus_syntax.specs.Tokens.{hex_after as hex_after_lem};
-ghost use Rattle.planus_syntax.specs.Tokens.{digits_after as digits_after_lem};
-ghost use Rattle.planus_syntax.specs.Tokens.{first_digit as first_digit_lem};
-ghost use Rattle.planus_syntax.specs.Tokens.{number_step as number_step_lem, is_end as is_end_lem};
+ghost use Rattle.planus_syntax.specs.Tokens as spec;
 
 /// The part of a number that was read.
 #[derive(Clone, Copy)]
@@ -33,7 +27,7 @@ pub(crate) enum NumberState {
 }
 
 fn digits_after(state: NumberState, b: u8) -> NumberState
-    ensures { result ≡ digits_after_lem state b }
+    ensures { result ≡ spec.digits_after state b }
 {
     if b.is_ascii_digit() {
         state
@@ -47,7 +41,7 @@ fn digits_after(state: NumberState, b: u8) -> NumberState
 }
 
 fn first_digit(b: u8) -> NumberState
-    ensures { result ≡ first_digit_lem b }
+    ensures { result ≡ spec.first_digit b }
 {
     if b == b'0' {
         NumberState::Zero
@@ -61,7 +55,7 @@ fn first_digit(b: u8) -> NumberState
 }
 
 fn hex_after(state: NumberState, b: u8) -> NumberState
-    ensures { result ≡ hex_after_lem state b }
+    ensures { result ≡ spec.hex_after state b }
 {
     if b.is_ascii_hexdigit() {
         state
@@ -73,7 +67,7 @@ fn hex_after(state: NumberState, b: u8) -> NumberState
 }
 
 fn hex_first(b: u8) -> NumberState
-    ensures { result ≡ number_step_lem NumberState.HexMark b }
+    ensures { result ≡ spec.number_step NumberState.HexMark b }
 {
     if b.is_ascii_hexdigit() {
         NumberState::HexDigits
@@ -85,7 +79,7 @@ fn hex_first(b: u8) -> NumberState
 }
 
 fn hex_next(b: u8) -> NumberState
-    ensures { result ≡ number_step_lem NumberState.HexDigits b }
+    ensures { result ≡ spec.number_step NumberState.HexDigits b }
 {
     if b == b'.' {
         NumberState::HexFraction
@@ -101,7 +95,7 @@ fn digit_or_wrong(state: NumberState, is_digit: bool) -> NumberState
 }
 
 fn exponent(b: u8) -> NumberState
-    ensures { result ≡ number_step_lem NumberState.Exponent b }
+    ensures { result ≡ spec.number_step NumberState.Exponent b }
 {
     if b == b'+' || b == b'-' {
         NumberState::ExponentSign
@@ -111,7 +105,7 @@ fn exponent(b: u8) -> NumberState
 }
 
 fn fraction(b: u8) -> NumberState
-    ensures { result ≡ number_step_lem NumberState.Fraction b }
+    ensures { result ≡ spec.number_step NumberState.Fraction b }
 {
     if b.is_ascii_digit() {
         NumberState::Fraction
@@ -123,7 +117,7 @@ fn fraction(b: u8) -> NumberState
 }
 
 fn number_step(state: NumberState, b: u8) -> NumberState
-    ensures { result ≡ number_step_lem state b }
+    ensures { result ≡ spec.number_step state b }
 {
     match state {
         NumberState::Start => {
@@ -157,7 +151,7 @@ fn number_step(state: NumberState, b: u8) -> NumberState
 }
 
 fn is_end(state: NumberState) -> bool
-    ensures { result ≡ is_end_lem state }
+    ensures { result ≡ spec.is_end state }
 {
     match state {
         NumberState::Zero
@@ -171,7 +165,7 @@ fn is_end(state: NumberState) -> bool
 
 /// Returns whether the word is `inf`, `infinity` or `nan`, in lower or upper case.
 pub fn is_float_name(word: &[u8]) -> bool
-    ensures { result ≡ is_float_name_lem word.now }
+    ensures { result ≡ spec.is_float_name word.now }
 {
     word.eq_ignore_ascii_case(b"inf")
         || word.eq_ignore_ascii_case(b"infinity")
@@ -179,7 +173,7 @@ pub fn is_float_name(word: &[u8]) -> bool
 }
 
 fn is_signed_name(bytes: &[u8]) -> bool
-    ensures { result ≡ is_signed_name_lem bytes.now }
+    ensures { result ≡ spec.is_signed_name bytes.now }
 {
     match bytes.split_first() {
         Some((sign, name)) => (*sign == b'+' || *sign == b'-') && is_float_name(name),
@@ -190,7 +184,7 @@ fn is_signed_name(bytes: &[u8]) -> bool
 /// Returns whether the bytes are an integer, a float, each decimal or hexadecimal, or `inf`,
 /// `infinity` or `nan` with a sign.
 pub fn is_number(bytes: &[u8]) -> bool
-    ensures { result ≡ is_number_lem bytes.now }
+    ensures { result ≡ spec.is_number bytes.now }
 {
     let mut state = NumberState::Start;
     for b in bytes {

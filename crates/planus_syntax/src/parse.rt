@@ -5,11 +5,9 @@ ghost use Rattle.planus_syntax.specs.Values.{DeclarationV, SchemaV, AreWhole, sc
 ghost use Rattle.planus_syntax.specs.Values.{declaration_of, schema_of};
 ghost use Rattle.planus_syntax.specs.Parsed.{ParsesTo, AnswersParse};
 ghost use Rattle.planus_syntax.specs.Tokens.{pieces_of};
-ghost use Rattle.planus_syntax.specs.Reading.{has_more as has_more_lem};
+ghost use Rattle.planus_syntax.specs.Reading as spec;
 ghost use Rattle.planus_syntax.specs.Counting.{DeclarationCounted, GivesCounted, SchemaCounted};
 ghost use Rattle.planus_syntax.specs.Values.{declaration_before};
-ghost use Rattle.planus_syntax.specs.Reading.{declaration_at as declaration_at_lem};
-ghost use Rattle.planus_syntax.specs.Reading.{schema_at as schema_at_lem};
 
 /// The value that was read, or a return of the error: `?` without a conversion of the error, which
 /// is cheaper to prove.
@@ -49,9 +47,9 @@ struct Declarations;
 impl Items for Declarations {
     ghost Value = { DeclarationV };
 
-    ghost goes_on = { has_more_lem };
+    ghost goes_on = { spec.has_more };
 
-    ghost item_at = { declaration_at_lem };
+    ghost item_at = { spec.declaration_at };
 
     ghost value_of = { declaration_of };
 
@@ -82,7 +80,7 @@ impl Items for Declarations {
 
 fn schema_at(alloc: Global, tokens: &[Token]) -> Result<Schema, ReadError>
     ensures { GivesCounted SchemaCounted (λ s. (schema_of s, [])) result
-        (schema_at_lem (pieces_of tokens.now)) }
+        (spec.schema_at (pieces_of tokens.now)) }
 {
     let (declarations, rest) = or_return!(list_of::<Declarations>(alloc, tokens));
     let (trailing, _rest) = or_return!(docs_at(alloc, rest));
@@ -106,7 +104,7 @@ pub(crate) fn parse(alloc: Global, tokens: &[Token]) -> Result<Schema, ParseErro
     ensures only { (schema : SchemaV) → AreWhole schema.declarations
         → pieces_of tokens.now ≡ schema_pieces schema → ParsesTo schema result }
     ensures exact { AnswersParse (length tokens.now) result
-        (schema_at_lem (pieces_of tokens.now)) }
+        (spec.schema_at (pieces_of tokens.now)) }
 {
     match schema_at(alloc, tokens) {
         Ok(schema) => Ok(schema),

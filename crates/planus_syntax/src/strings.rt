@@ -2,24 +2,9 @@
 
 ghost use Rattle.std.specs.Prelude.{◌≡◌, ◌++◌, ◌<◌, OnOk, IfOk, IfSome};
 ghost use Rattle.std.specs.Str.{bytes_eq};
-ghost use Rattle.planus_syntax.specs.Strings.{after_backslash as after_backslash_lem};
-ghost use Rattle.planus_syntax.specs.Strings.{after_byte as after_byte_lem};
-ghost use Rattle.planus_syntax.specs.Strings.{after_first as after_first_lem};
-ghost use Rattle.planus_syntax.specs.Strings.{after_next as after_next_lem};
-ghost use Rattle.planus_syntax.specs.Strings.{byte_of as byte_of_lem};
-ghost use Rattle.planus_syntax.specs.Strings.{is_nothing as is_nothing_lem, start as start_lem};
-ghost use Rattle.planus_syntax.specs.Strings.{after_code as after_code_lem};
-ghost use Rattle.planus_syntax.specs.Strings.{after_digit as after_digit_lem};
-ghost use Rattle.planus_syntax.specs.Strings.{between_quotes as between_quotes_lem};
-ghost use Rattle.planus_syntax.specs.Strings.{character, code_of as code_of_lem, written, Strips};
-ghost use Rattle.planus_syntax.specs.Strings.{escaped as escaped_lem, hex_digit as hex_digit_lem};
-ghost use Rattle.planus_syntax.specs.Strings.{is_high as is_high_lem, is_low as is_low_lem};
-ghost use Rattle.planus_syntax.specs.Strings.{is_closed as is_closed_lem};
-ghost use Rattle.planus_syntax.specs.Strings.{is_quote as is_quote_lem};
-ghost use Rattle.planus_syntax.specs.Strings.{is_wrong as is_wrong_lem};
-ghost use Rattle.planus_syntax.specs.Strings.{with_digit as with_digit_lem};
-ghost use Rattle.planus_syntax.specs.Strings.{string_step as string_step_lem, string_text as string_text_lem};
-ghost use Rattle.planus_syntax.specs.Values.{label_name as label_name_lem, label_of};
+ghost use Rattle.planus_syntax.specs.Strings as spec;
+ghost use Rattle.planus_syntax.specs.Strings.{character, written};
+ghost use Rattle.planus_syntax.specs.Values as values_spec;
 
 use crate::due::Due;
 use crate::value::Label;
@@ -45,37 +30,37 @@ pub(crate) enum StringState {
 }
 
 pub(crate) fn start() -> StringState
-    ensures { result ≡ start_lem }
+    ensures { result ≡ spec.start }
 {
     StringState::Plain { due: Due::Nothing }
 }
 
 pub(crate) fn is_nothing(due: Due) -> bool
-    ensures { result ≡ is_nothing_lem due }
+    ensures { result ≡ spec.is_nothing due }
 {
     matches!(due, Due::Nothing)
 }
 
 pub(crate) fn is_quote(b: u8) -> bool
-    ensures { result ≡ is_quote_lem b }
+    ensures { result ≡ spec.is_quote b }
 {
     b == b'"' || b == b'\''
 }
 
 pub(crate) fn is_closed(state: StringState) -> bool
-    ensures { result ≡ is_closed_lem state }
+    ensures { result ≡ spec.is_closed state }
 {
     matches!(state, StringState::End)
 }
 
 pub(crate) fn is_wrong(state: StringState) -> bool
-    ensures { result ≡ is_wrong_lem state }
+    ensures { result ≡ spec.is_wrong state }
 {
     matches!(state, StringState::Wrong)
 }
 
 fn escaped(b: u8) -> Option<u8>
-    ensures { result ≡ escaped_lem b }
+    ensures { result ≡ spec.escaped b }
 {
     match b {
         b'"' | b'\'' | b'/' | b'\\' => Some(b),
@@ -89,7 +74,7 @@ fn escaped(b: u8) -> Option<u8>
 }
 
 fn hex_digit(b: u8) -> Option<u8>
-    ensures digit { result ≡ hex_digit_lem b }
+    ensures digit { result ≡ spec.hex_digit b }
     ensures below { IfSome result (λ digit. digit < 16) }
 {
     match b {
@@ -101,19 +86,19 @@ fn hex_digit(b: u8) -> Option<u8>
 }
 
 fn is_high(code: u32) -> bool
-    ensures { result ≡ is_high_lem code }
+    ensures { result ≡ spec.is_high code }
 {
     0xd800 <= code && code <= 0xdbff
 }
 
 fn is_low(code: u32) -> bool
-    ensures { result ≡ is_low_lem code }
+    ensures { result ≡ spec.is_low code }
 {
     0xdc00 <= code && code <= 0xdfff
 }
 
 fn after_code(high: u32, code: u32) -> StringState
-    ensures { result ≡ after_code_lem high code }
+    ensures { result ≡ spec.after_code high code }
 {
     if high == 0 {
         if is_high(code) {
@@ -133,7 +118,7 @@ fn after_code(high: u32, code: u32) -> StringState
 }
 
 fn after_digit(high: u32, left: u8, value: u32) -> StringState
-    ensures { result ≡ after_digit_lem high left value }
+    ensures { result ≡ spec.after_digit high left value }
 {
     if left <= 1 {
         after_code(high, value)
@@ -160,7 +145,7 @@ fn next_byte(least: u8, greatest: u8, more: u8) -> StringState
 
 // After the first byte of a character in UTF-8.
 fn after_first(b: u8) -> StringState
-    ensures { result ≡ after_first_lem b }
+    ensures { result ≡ spec.after_first b }
 {
     match b {
         0..=0x7f => start(),
@@ -176,7 +161,7 @@ fn after_first(b: u8) -> StringState
 }
 
 fn after_next(least: u8, greatest: u8, more: u8, b: u8) -> StringState
-    ensures { result ≡ after_next_lem least greatest more b }
+    ensures { result ≡ spec.after_next least greatest more b }
 {
     if !(least <= b && b <= greatest) {
         StringState::Wrong
@@ -188,7 +173,7 @@ fn after_next(least: u8, greatest: u8, more: u8, b: u8) -> StringState
 }
 
 fn after_byte(due: Due, b: u8) -> StringState
-    ensures { result ≡ after_byte_lem due b }
+    ensures { result ≡ spec.after_byte due b }
 {
     match due {
         Due::Nothing => after_first(b),
@@ -212,7 +197,7 @@ fn digits(high: u32) -> StringState
 }
 
 fn after_backslash(due: Due, b: u8) -> StringState
-    ensures { result ≡ after_backslash_lem due b }
+    ensures { result ≡ spec.after_backslash due b }
 {
     match (b, due) {
         (b'u', Due::Nothing) => digits(0),
@@ -224,13 +209,13 @@ fn after_backslash(due: Due, b: u8) -> StringState
 }
 
 fn with_digit(value: u32, digit: u8) -> u32
-    ensures { result ≡ with_digit_lem value digit }
+    ensures { result ≡ spec.with_digit value digit }
 {
     16 * (value % 4096) + digit as u32
 }
 
 fn plain_step(quote: u8, due: Due, b: u8) -> StringState
-    ensures { result ≡ string_step_lem quote (StringState.Plain due) b }
+    ensures { result ≡ spec.string_step quote (StringState.Plain due) b }
 {
     if b == b'\\' {
         StringState::Escape { due }
@@ -247,13 +232,13 @@ fn plain_step(quote: u8, due: Due, b: u8) -> StringState
 
 fn byte_of(value: u8, digit: u8) -> u8
     requires { digit < 16 }
-    ensures { result ≡ byte_of_lem value digit }
+    ensures { result ≡ spec.byte_of value digit }
 {
     16 * (value % 16) + digit
 }
 
 pub(crate) fn string_step(quote: u8, state: StringState, b: u8) -> StringState
-    ensures { result ≡ string_step_lem quote state b }
+    ensures { result ≡ spec.string_step quote state b }
 {
     match state {
         StringState::Plain { due } => plain_step(quote, due, b),
@@ -276,7 +261,7 @@ pub(crate) fn string_step(quote: u8, state: StringState, b: u8) -> StringState
 
 /// Returns what is between the quotes of a string, as it is written.
 pub fn between_quotes(string: &[u8]) -> &[u8]
-    ensures { result.now ≡ between_quotes_lem string.now }
+    ensures { result.now ≡ spec.between_quotes string.now }
 {
     match string.split_first() {
         Some((_, rest)) => match rest.split_last() {
@@ -289,7 +274,7 @@ pub fn between_quotes(string: &[u8]) -> &[u8]
 
 fn code_of(high: u32, code: u32) -> u32
     requires { code < 1114112 }
-    ensures { result ≡ code_of_lem high code }
+    ensures { result ≡ spec.code_of high code }
 {
     if high == 0 {
         code
@@ -354,7 +339,7 @@ fn put_written(out: &mut Vec<u8>, quote: u8, state: StringState, b: u8) -> Resul
 
 /// Returns the text that a string means, which has no escapes.
 pub fn string_text(alloc: Global, string: &[u8]) -> Result<Vec<u8>, AllocError>
-    ensures { IfOk result (λ text. text.items ≡ string_text_lem string.now) }
+    ensures { IfOk result (λ text. text.items ≡ spec.string_text string.now) }
 {
     let mut out = Vec::new(alloc);
     let Some((quote, body)) = string.split_first() else {
@@ -371,14 +356,14 @@ pub fn string_text(alloc: Global, string: &[u8]) -> Result<Vec<u8>, AllocError>
 }
 
 fn stripped<'t>(text: &'t [u8], front: &[u8]) -> Option<&'t [u8]>
-    ensures { Strips front.now text.now result }
+    ensures { spec.Strips front.now text.now result }
 {
     text.strip_prefix(front)
 }
 
 fn after_character(text: &[u8], code: u32) -> Option<&[u8]>
     requires { code < 1114112 }
-    ensures { Strips (character code) text.now result }
+    ensures { spec.Strips (character code) text.now result }
 {
     match char::from_u32(code) {
         Some(character) => {
@@ -390,7 +375,7 @@ fn after_character(text: &[u8], code: u32) -> Option<&[u8]>
 }
 
 fn after_digit_written(text: &[u8], high: u32, left: u8, value: u32, b: u8) -> Option<&[u8]>
-    ensures { Strips (written 34 (StringState.Digits high left value) b) text.now result }
+    ensures { spec.Strips (written 34 (StringState.Digits high left value) b) text.now result }
 {
     match hex_digit(b) {
         Some(digit) if left <= 1 => after_character(text, code_of(high, with_digit(value, digit))),
@@ -399,7 +384,7 @@ fn after_digit_written(text: &[u8], high: u32, left: u8, value: u32, b: u8) -> O
 }
 
 fn after_written(text: &[u8], quote: u8, state: StringState, b: u8) -> Option<&[u8]>
-    ensures { Strips (written quote state b) text.now result }
+    ensures { spec.Strips (written quote state b) text.now result }
 {
     match state {
         StringState::Plain { due: _ } => {
@@ -425,7 +410,7 @@ fn after_written(text: &[u8], quote: u8, state: StringState, b: u8) -> Option<&[
 }
 
 fn means(string: &[u8], text: &[u8]) -> bool
-    ensures { result ≡ bytes_eq (string_text_lem string.now) text.now }
+    ensures { result ≡ bytes_eq (spec.string_text string.now) text.now }
 {
     let Some((quote, body)) = string.split_first() else {
         return text.is_empty();
@@ -446,7 +431,7 @@ fn means(string: &[u8], text: &[u8]) -> bool
 
 /// Returns whether an attribute has this name.
 pub fn label_is(label: &Label, name: &[u8]) -> bool
-    ensures { result ≡ bytes_eq (label_name_lem (label_of label.now)) name.now }
+    ensures { result ≡ bytes_eq (values_spec.label_name (values_spec.label_of label.now)) name.now }
 {
     if label.quoted {
         means(&label.name, name)
@@ -457,7 +442,8 @@ pub fn label_is(label: &Label, name: &[u8]) -> bool
 
 /// Returns the name of an attribute: of a string, the text that it means.
 pub fn label_name(alloc: Global, label: &Label) -> Result<Vec<u8>, AllocError>
-    ensures { IfOk result (λ name. name.items ≡ label_name_lem (label_of label.now)) }
+    ensures { IfOk result (λ name. name.items ≡ values_spec.label_name
+        (values_spec.label_of label.now)) }
 {
     if label.quoted {
         string_text(alloc, &label.name)

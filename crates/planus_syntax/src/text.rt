@@ -7,12 +7,11 @@ ghost use Rattle.planus_syntax.specs.Lexing.{lex_of};
 ghost use Rattle.planus_syntax.specs.declared.text.SchemaError.TheVariants.{OutOfMemory};
 ghost use Rattle.planus_syntax.specs.Values.{AreWhole, SchemaV, IsSchema, schema_of};
 ghost use Rattle.planus_syntax.specs.Values.{schema_pieces, text_of};
-ghost use Rattle.planus_syntax.specs.Spelled.{after_order_mark as after_order_mark_lem};
+ghost use Rattle.planus_syntax.specs.Spelled as spec;
 ghost use Rattle.planus_syntax.specs.Counting.{SchemaCounted};
 ghost use Rattle.planus_syntax.specs.Parsed.{IsFaultOf, LiesIn, Spells};
 ghost use Rattle.planus_syntax.specs.Parsed.{HasCanonicalText, KeepsComments};
 ghost use Rattle.planus_syntax.specs.Parsed.{TextFormatsTo, TextParsesTo};
-ghost use Rattle.planus_syntax.specs.Spelled.{Part, AreParts, spelled, tokens_in};
 ghost use Rattle.planus_syntax.specs.Comments.{canonical, elements_of};
 
 use crate::layout::canonical_text;
@@ -43,7 +42,7 @@ pub enum SchemaError {
 /// Returns a text without the byte order mark that it may begin with. The other functions take what
 /// follows the mark.
 pub fn after_order_mark(text: &[u8]) -> &[u8]
-    ensures { result.now ≡ after_order_mark_lem text.now }
+    ensures { result.now ≡ spec.after_order_mark text.now }
 {
     match text.split_at_checked(3) {
         Some((mark, rest)) if mark == b"\xEF\xBB\xBF".as_slice() => rest,
@@ -110,8 +109,9 @@ pub fn format_text(alloc: Global, text: &[u8]) -> Result<Vec<u8>, SchemaError>
     // That spells the same schema, and has each comment of the text once, in order.
     ensures kept { IfOk result (λ out. KeepsComments text.now out.items) }
     // A text that spells a schema gives its canonical text, unless memory is refused.
-    ensures only { (schema : SchemaV) (parts : List Part) → AreWhole schema.declarations
-        → AreParts parts → text.now ≡ spelled parts → schema_pieces schema ≡ tokens_in parts
+    ensures only { (schema : SchemaV) (parts : List spec.Part) → AreWhole schema.declarations
+        → spec.AreParts parts → text.now ≡ spec.spelled parts → schema_pieces schema
+        ≡ spec.tokens_in parts
         → TextFormatsTo (canonical (elements_of parts)) result }
     // The canonical text of any text stays as it is.
     ensures stays { (source : List ℕ) → HasCanonicalText source text.now

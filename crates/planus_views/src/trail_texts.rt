@@ -2,17 +2,14 @@
 
 ghost use Rattle.std.specs.Prelude.{◌≡◌, ◌++◌, IfOk, OnOk};
 ghost use Rattle.std.specs.String.{string_bytes};
-ghost use Rattle.planus_views.specs.Names.{names_of, item_text, step_text, further_text};
-ghost use Rattle.planus_views.specs.Names.{further_texts};
-ghost use Rattle.planus_views.specs.Names.{field_named as field_named_lem};
-ghost use Rattle.planus_views.specs.Names.{trail_text as trail_text_lem};
+ghost use Rattle.planus_views.specs.Names as spec;
 
 use crate::names::{FieldName, Names};
 use planus_verify::FieldPlace;
 use std::alloc::{AllocError, Global};
 
 fn field_named<'s>(fields: &[FieldName<'s>], table: usize, slot: usize) -> &'s str
-    ensures { result.now ≡ field_named_lem fields.now table slot }
+    ensures { result.now ≡ spec.field_named fields.now table slot }
 {
     for one in fields {
         if one.table == table && one.slot == slot {
@@ -23,7 +20,7 @@ fn field_named<'s>(fields: &[FieldName<'s>], table: usize, slot: usize) -> &'s s
 }
 
 fn put_item(text: &mut String, item: Option<usize>) -> Result<(), AllocError>
-    ensures { OnOk result (string_bytes text.new ≡ string_bytes text.old ++ item_text item) }
+    ensures { OnOk result (string_bytes text.new ≡ string_bytes text.old ++ spec.item_text item) }
 {
     let Some(index) = item else {
         return Ok(());
@@ -34,7 +31,7 @@ fn put_item(text: &mut String, item: Option<usize>) -> Result<(), AllocError>
 
 fn put_step(text: &mut String, names: &Names<'_>, place: &FieldPlace) -> Result<(), AllocError>
     ensures { OnOk result (string_bytes text.new
-        ≡ string_bytes text.old ++ step_text (names_of names.now) place.now) }
+        ≡ string_bytes text.old ++ spec.step_text (spec.names_of names.now) place.now) }
 {
     text.push_str(field_named(names.fields, place.table, place.slot))?;
     put_item(text, place.item)
@@ -42,7 +39,7 @@ fn put_step(text: &mut String, names: &Names<'_>, place: &FieldPlace) -> Result<
 
 fn put_further(text: &mut String, names: &Names<'_>, place: &FieldPlace) -> Result<(), AllocError>
     ensures { OnOk result (string_bytes text.new
-        ≡ string_bytes text.old ++ further_text (names_of names.now) place.now) }
+        ≡ string_bytes text.old ++ spec.further_text (spec.names_of names.now) place.now) }
 {
     text.push_str(".")?;
     put_step(text, names, place)
@@ -50,7 +47,7 @@ fn put_further(text: &mut String, names: &Names<'_>, place: &FieldPlace) -> Resu
 
 fn put_rest(text: &mut String, names: &Names<'_>, places: &[FieldPlace]) -> Result<(), AllocError>
     ensures { OnOk result (string_bytes text.new
-        ≡ string_bytes text.old ++ further_texts (names_of names.now) places.now) }
+        ≡ string_bytes text.old ++ spec.further_texts (spec.names_of names.now) places.now) }
 {
     for place in places {
         put_further(text, names, place)?;
@@ -65,7 +62,7 @@ pub(crate) fn trail_text(
     places: &[FieldPlace],
 ) -> Result<String, AllocError>
     ensures { IfOk result (λ text. string_bytes text
-        ≡ trail_text_lem (names_of names.now) places.now) }
+        ≡ spec.trail_text (spec.names_of names.now) places.now) }
 {
     let mut text = String::new(alloc);
     if let Some((first, rest)) = places.split_first() {

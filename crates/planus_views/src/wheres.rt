@@ -2,11 +2,8 @@
 
 ghost use Rattle.std.specs.Prelude.{◌≡◌};
 ghost use Rattle.planus_verify.specs.Schemas.{shapes};
-ghost use Rattle.planus_views.specs.Names.{names_of};
-ghost use Rattle.planus_views.specs.Names.{table_named as table_named_lem};
-ghost use Rattle.planus_views.specs.Names.{slot_named as slot_named_lem};
-ghost use Rattle.planus_views.specs.Wheres.{IsWhere, IsWhereFault, IsWhereAt};
-ghost use Rattle.planus_views.specs.Wheres.{sought_named as sought_named_lem};
+ghost use Rattle.planus_views.specs.Names as spec;
+ghost use Rattle.planus_views.specs.Wheres as wheres_spec;
 
 use crate::field_path::FieldPath;
 use crate::names::{FieldName, Names, TableName};
@@ -16,7 +13,7 @@ use planus_verify::{Fault, FieldPlace, Limits, Sought, VerifiedKind, trail};
 use std::alloc::{AllocError, Global};
 
 fn table_named(tables: &[TableName<'_>], name: &str) -> Option<usize>
-    ensures { result ≡ table_named_lem tables.now name.now }
+    ensures { result ≡ spec.table_named tables.now name.now }
 {
     for one in tables {
         if one.table.as_bytes() == name.as_bytes() {
@@ -27,7 +24,7 @@ fn table_named(tables: &[TableName<'_>], name: &str) -> Option<usize>
 }
 
 fn slot_named(fields: &[FieldName<'_>], table: usize, name: &str) -> Option<usize>
-    ensures { result ≡ slot_named_lem fields.now table name.now }
+    ensures { result ≡ spec.slot_named fields.now table name.now }
 {
     for one in fields {
         if one.table == table && one.field.as_bytes() == name.as_bytes() {
@@ -38,7 +35,7 @@ fn slot_named(fields: &[FieldName<'_>], table: usize, name: &str) -> Option<usiz
 }
 
 fn sought_named(names: &Names<'_>, location: &ErrorLocation) -> Sought
-    ensures { result ≡ sought_named_lem (names_of names.now) location.now }
+    ensures { result ≡ wheres_spec.sought_named (spec.names_of names.now) location.now }
 {
     let start = location.byte_offset;
     let Some(table) = table_named(names.tables, location.type_) else {
@@ -62,7 +59,8 @@ fn where_at<K: VerifiedKind>(
     bytes: &[u8],
     limits: Limits,
 ) -> Result<Option<FieldPath>, AllocError>
-    ensures { IsWhereAt K.schema (names_of names.now) K.index limits sought bytes.now result }
+    ensures { wheres_spec.IsWhereAt K.schema (spec.names_of names.now) K.index limits sought
+        bytes.now result }
 {
     match trail(&K::schema(), K::index(), bytes, limits, sought, alloc)? {
         Some(places) => {
@@ -84,7 +82,8 @@ pub fn where_is<K: VerifiedKind>(
     bytes: &[u8],
     limits: Limits,
 ) -> Result<Option<FieldPath>, AllocError>
-    ensures { IsWhere K.schema (names_of names.now) K.index limits error.now bytes.now result }
+    ensures { wheres_spec.IsWhere K.schema (spec.names_of names.now) K.index limits error.now
+        bytes.now result }
 {
     let sought = sought_named(names, &error.source_location);
     where_at::<K>(alloc, names, sought, bytes, limits)
@@ -98,7 +97,8 @@ pub fn where_fault_is<K: VerifiedKind>(
     bytes: &[u8],
     limits: Limits,
 ) -> Result<Option<FieldPath>, AllocError>
-    ensures { IsWhereFault K.schema (names_of names.now) K.index limits fault.now bytes.now result }
+    ensures { wheres_spec.IsWhereFault K.schema (spec.names_of names.now) K.index limits fault.now
+        bytes.now result }
 {
     match *fault {
         Fault::Field(place, _) => where_at::<K>(alloc, names, Sought::Field(place), bytes, limits),

@@ -5,14 +5,7 @@ ghost use Rattle.std.specs.Option.{option_map};
 ghost use Rattle.planus_syntax.specs.Tokens.{pieces_of};
 ghost use Rattle.planus_syntax.specs.Values.{Name, AttributeV, names_of, path_of};
 ghost use Rattle.planus_syntax.specs.Values.{attribute_of};
-ghost use Rattle.planus_syntax.specs.Reading.{Gives, list_at, optional_at};
-ghost use Rattle.planus_syntax.specs.Reading.{begins_mark as begins_mark_lem};
-ghost use Rattle.planus_syntax.specs.Reading.{begins_doc as begins_doc_lem, doc_at as doc_at_lem};
-ghost use Rattle.planus_syntax.specs.Reading.{path_at as path_at_lem};
-ghost use Rattle.planus_syntax.specs.Reading.{attribute_at as attribute_at_lem};
-ghost use Rattle.planus_syntax.specs.Reading.{next_attribute_at as next_attribute_at_lem};
-ghost use Rattle.planus_syntax.specs.Reading.{attributes_at as attributes_at_lem};
-ghost use Rattle.planus_syntax.specs.Reading.{closing_at as closing_at_lem};
+ghost use Rattle.planus_syntax.specs.Reading as spec;
 ghost use Rattle.planus_syntax.specs.Counting.{AttributeCounted, AttributesCounted, GivesCounted};
 ghost use Rattle.planus_syntax.specs.Counting.{IfAny, PathCounted};
 ghost use Rattle.planus_syntax.specs.Values.{attribute_before, doc_before, next_before};
@@ -33,7 +26,7 @@ pub(crate) fn target_at(
 ) -> Result<(Option<Path>, &[Token]), ReadError>
     ensures { GivesCounted (λ x. IfAny PathCounted x.0 (pieces_of x.1.now))
         (λ x. (option_map path_of x.0, pieces_of x.1.now)) result
-        (optional_at 58 path_at_lem (pieces_of tokens.now)) }
+        (spec.optional_at 58 spec.path_at (pieces_of tokens.now)) }
 {
     match after_mark(tokens, b':') {
         Some(rest) => {
@@ -47,7 +40,7 @@ pub(crate) fn target_at(
 fn attribute_at(alloc: Global, tokens: &[Token]) -> Result<(Attribute, &[Token]), ReadError>
     ensures { GivesCounted (λ x. AttributeCounted x.0 (pieces_of x.1.now))
         (λ x. (attribute_of x.0, pieces_of x.1.now)) result
-        (attribute_at_lem (pieces_of tokens.now)) }
+        (spec.attribute_at (pieces_of tokens.now)) }
 {
     let (label, rest) = or_return!(label_at(alloc, tokens));
     let (value, rest) = or_return!(literal_after(alloc, b':', rest));
@@ -60,9 +53,9 @@ pub(crate) struct MoreAttributes;
 impl Items for MoreAttributes {
     ghost Value = { AttributeV };
 
-    ghost goes_on = { begins_mark_lem 44 };
+    ghost goes_on = { spec.begins_mark 44 };
 
-    ghost item_at = { next_attribute_at_lem };
+    ghost item_at = { spec.next_attribute_at };
 
     ghost value_of = { attribute_of };
 
@@ -89,7 +82,7 @@ pub(crate) fn attributes_at(
 ) -> Result<(Vec<Attribute>, &[Token]), ReadError>
     ensures { GivesCounted (λ x. AttributesCounted x.0.items (pieces_of x.1.now))
         (λ x. (map attribute_of x.0.items, pieces_of x.1.now)) result
-        (attributes_at_lem (pieces_of tokens.now)) }
+        (spec.attributes_at (pieces_of tokens.now)) }
 {
     match after_mark(tokens, b'(') {
         Some(rest) => {
@@ -108,9 +101,9 @@ pub(crate) struct Docs;
 impl Items for Docs {
     ghost Value = { Name };
 
-    ghost goes_on = { begins_doc_lem };
+    ghost goes_on = { spec.begins_doc };
 
-    ghost item_at = { doc_at_lem };
+    ghost item_at = { spec.doc_at };
 
     ghost value_of = { λ line. line.items };
 
@@ -142,8 +135,8 @@ pub(crate) fn docs_at(
     alloc: Global,
     tokens: &[Token],
 ) -> Result<(Vec<Vec<u8>>, &[Token]), ReadError>
-    ensures { Gives (λ x. (names_of x.0.items, pieces_of x.1.now)) result
-        (list_at begins_doc_lem doc_at_lem (pieces_of tokens.now)) }
+    ensures { spec.Gives (λ x. (names_of x.0.items, pieces_of x.1.now)) result
+        (spec.list_at spec.begins_doc spec.doc_at (pieces_of tokens.now)) }
 {
     list_of::<Docs>(alloc, tokens)
 }
@@ -153,8 +146,8 @@ pub(crate) fn closing_at(
     alloc: Global,
     tokens: &[Token],
 ) -> Result<(Vec<Vec<u8>>, &[Token]), ReadError>
-    ensures { Gives (λ x. (names_of x.0.items, pieces_of x.1.now)) result
-        (closing_at_lem (pieces_of tokens.now)) }
+    ensures { spec.Gives (λ x. (names_of x.0.items, pieces_of x.1.now)) result
+        (spec.closing_at (pieces_of tokens.now)) }
 {
     let (docs, rest) = or_return!(docs_at(alloc, tokens));
     let rest = or_return!(mark_at(rest, b'}'));

@@ -4,13 +4,7 @@ ghost use Rattle.std.specs.Prelude.{map};
 ghost use Rattle.planus_syntax.specs.Tokens.{pieces_of};
 ghost use Rattle.planus_syntax.specs.Values.{VariantV, variant_of, item_of};
 ghost use Rattle.planus_syntax.specs.Values.{enumeration as enumeration_item};
-ghost use Rattle.planus_syntax.specs.Reading.{Gives, as_item, if_inside};
-ghost use Rattle.planus_syntax.specs.Reading.{begins_next as begins_next_lem};
-ghost use Rattle.planus_syntax.specs.Reading.{comma_at as comma_at_lem};
-ghost use Rattle.planus_syntax.specs.Reading.{variant_at as variant_at_lem};
-ghost use Rattle.planus_syntax.specs.Reading.{next_variant_at as next_variant_at_lem};
-ghost use Rattle.planus_syntax.specs.Reading.{variants_at as variants_at_lem};
-ghost use Rattle.planus_syntax.specs.Reading.{enumeration_at as enumeration_at_lem};
+ghost use Rattle.planus_syntax.specs.Reading as spec;
 ghost use Rattle.planus_syntax.specs.Counting.{EachCounted, GivesCounted, ItemCounted, VariantCounted};
 ghost use Rattle.planus_syntax.specs.Values.{next_before, variant_before};
 
@@ -24,7 +18,8 @@ use crate::value::{Enumeration, Item, Variant};
 use std::alloc::Global;
 
 pub(crate) fn comma_at(tokens: &[Token]) -> Result<(bool, &[Token]), ReadError>
-    ensures { Gives (λ x. (x.0, pieces_of x.1.now)) result (comma_at_lem (pieces_of tokens.now)) }
+    ensures { spec.Gives (λ x. (x.0, pieces_of x.1.now)) result (spec.comma_at
+        (pieces_of tokens.now)) }
 {
     match after_mark(tokens, b',') {
         Some(rest) => Ok((true, rest)),
@@ -35,7 +30,7 @@ pub(crate) fn comma_at(tokens: &[Token]) -> Result<(bool, &[Token]), ReadError>
 fn variant_at(alloc: Global, tokens: &[Token]) -> Result<(Variant, &[Token]), ReadError>
     ensures { GivesCounted (λ x. VariantCounted x.0 (pieces_of x.1.now))
         (λ x. (variant_of x.0, pieces_of x.1.now)) result
-        (variant_at_lem (pieces_of tokens.now)) }
+        (spec.variant_at (pieces_of tokens.now)) }
 {
     let (docs, start) = or_return!(docs_at(alloc, tokens));
     let (name, rest) = or_return!(word_at(alloc, start));
@@ -57,9 +52,9 @@ pub(crate) struct MoreVariants;
 impl Items for MoreVariants {
     ghost Value = { VariantV };
 
-    ghost goes_on = { begins_next_lem };
+    ghost goes_on = { spec.begins_next };
 
-    ghost item_at = { next_variant_at_lem };
+    ghost item_at = { spec.next_variant_at };
 
     ghost value_of = { variant_of };
 
@@ -80,18 +75,20 @@ impl Items for MoreVariants {
 }
 
 fn variants_at(alloc: Global, tokens: &[Token]) -> Result<(Vec<Variant>, &[Token]), ReadError>
-    ensures { GivesCounted (λ x. EachCounted VariantCounted variant_of (next_before variant_before) x.0.items
+    ensures { GivesCounted (λ x. EachCounted VariantCounted variant_of
+        (next_before variant_before) x.0.items
         (pieces_of x.1.now)) (λ x. (map variant_of x.0.items, pieces_of x.1.now)) result
-        (variants_at_lem (pieces_of tokens.now)) }
+        (spec.variants_at (pieces_of tokens.now)) }
 {
     let (first, rest) = or_return!(variant_at(alloc, tokens));
     list_after::<MoreVariants>(alloc, first, rest)
 }
 
 fn variants_inside(alloc: Global, tokens: &[Token]) -> Result<(Vec<Variant>, &[Token]), ReadError>
-    ensures { GivesCounted (λ x. EachCounted VariantCounted variant_of (next_before variant_before) x.0.items
+    ensures { GivesCounted (λ x. EachCounted VariantCounted variant_of
+        (next_before variant_before) x.0.items
         (pieces_of x.1.now)) (λ x. (map variant_of x.0.items, pieces_of x.1.now)) result
-        (if_inside variants_at_lem (pieces_of tokens.now)) }
+        (spec.if_inside spec.variants_at (pieces_of tokens.now)) }
 {
     if inside(tokens) {
         variants_at(alloc, tokens)
@@ -103,7 +100,7 @@ fn variants_inside(alloc: Global, tokens: &[Token]) -> Result<(Vec<Variant>, &[T
 pub(crate) fn enumeration_at(alloc: Global, tokens: &[Token]) -> Result<(Item, &[Token]), ReadError>
     ensures { GivesCounted (λ x. ItemCounted x.0 (pieces_of x.1.now))
         (λ x. (item_of x.0, pieces_of x.1.now)) result
-        (as_item enumeration_item (enumeration_at_lem (pieces_of tokens.now))) }
+        (spec.as_item enumeration_item (spec.enumeration_at (pieces_of tokens.now))) }
 {
     let (name, rest) = or_return!(word_at(alloc, tokens));
     let rest = or_return!(mark_at(rest, b':'));

@@ -3,9 +3,8 @@
 ghost use Rattle.std.specs.Option.{option_map};
 ghost use Rattle.planus_syntax.specs.Tokens.{pieces_of};
 ghost use Rattle.planus_syntax.specs.Values.{literal_of};
-ghost use Rattle.planus_syntax.specs.Reading.{Gives, optional_at, brackets_at as brackets_at_lem};
-ghost use Rattle.planus_syntax.specs.Reading.{name_at as name_at_lem};
-ghost use Rattle.planus_syntax.specs.Reading.{literal_at as literal_at_lem};
+ghost use Rattle.planus_syntax.specs.Reading as spec;
+ghost use Rattle.planus_syntax.specs.Reading.{Gives};
 ghost use Rattle.planus_syntax.specs.Counting.{GivesCounted, IfAny, LiteralCounted};
 
 use crate::parse::paths::path_at;
@@ -19,7 +18,7 @@ use std::alloc::Global;
 fn brackets_at(tokens: &[Token]) -> Result<(Literal, &[Token]), ReadError>
     ensures { GivesCounted (λ x. LiteralCounted x.0 (pieces_of x.1.now))
         (λ x. (literal_of x.0, pieces_of x.1.now)) result
-        (brackets_at_lem (pieces_of tokens.now)) }
+        (spec.brackets_at (pieces_of tokens.now)) }
 {
     let rest = or_return!(mark_at(tokens, b'['));
     let rest = or_return!(mark_at(rest, b']'));
@@ -29,7 +28,7 @@ fn brackets_at(tokens: &[Token]) -> Result<(Literal, &[Token]), ReadError>
 fn name_at(alloc: Global, tokens: &[Token]) -> Result<(Literal, &[Token]), ReadError>
     ensures { GivesCounted (λ x. LiteralCounted x.0 (pieces_of x.1.now))
         (λ x. (literal_of x.0, pieces_of x.1.now)) result
-        (name_at_lem (pieces_of tokens.now)) }
+        (spec.name_at (pieces_of tokens.now)) }
 {
     let (path, rest) = or_return!(path_at(alloc, tokens));
     Ok((Literal::Name(path), rest))
@@ -38,7 +37,7 @@ fn name_at(alloc: Global, tokens: &[Token]) -> Result<(Literal, &[Token]), ReadE
 fn literal_at(alloc: Global, tokens: &[Token]) -> Result<(Literal, &[Token]), ReadError>
     ensures { GivesCounted (λ x. LiteralCounted x.0 (pieces_of x.1.now))
         (λ x. (literal_of x.0, pieces_of x.1.now)) result
-        (literal_at_lem (pieces_of tokens.now)) }
+        (spec.literal_at (pieces_of tokens.now)) }
 {
     match tokens.split_first() {
         Some((Token::Word(_), _)) => name_at(alloc, tokens),
@@ -63,7 +62,7 @@ pub(crate) fn literal_after(
 ) -> Result<(Option<Literal>, &[Token]), ReadError>
     ensures { GivesCounted (λ x. IfAny LiteralCounted x.0 (pieces_of x.1.now))
         (λ x. (option_map literal_of x.0, pieces_of x.1.now)) result
-        (optional_at mark literal_at_lem (pieces_of tokens.now)) }
+        (spec.optional_at mark spec.literal_at (pieces_of tokens.now)) }
 {
     match after_mark(tokens, mark) {
         Some(rest) => {

@@ -3,10 +3,8 @@
 ghost use Rattle.std.specs.Prelude.{◌≡◌, ◌∷◌, List};
 ghost use Rattle.planus_syntax.specs.Tokens.{Piece, mark, pieces_of};
 ghost use Rattle.planus_syntax.specs.Values.{Name, path_of, kind_of, digits_of};
-ghost use Rattle.planus_syntax.specs.Reading.{Gives, begins_mark as begins_mark_lem};
-ghost use Rattle.planus_syntax.specs.Reading.{dotted_at as dotted_at_lem, path_at as path_at_lem};
-ghost use Rattle.planus_syntax.specs.Reading.{kind_at as kind_at_lem};
-ghost use Rattle.planus_syntax.specs.Reading.{kind_in_brackets as kind_in_brackets_lem};
+ghost use Rattle.planus_syntax.specs.Reading as spec;
+ghost use Rattle.planus_syntax.specs.Reading.{Gives};
 ghost use Rattle.planus_syntax.specs.Counting.{GivesCounted, KindCounted, PathCounted};
 ghost use Rattle.planus_syntax.specs.Values.{after_before, dotted_before, number_before};
 
@@ -23,9 +21,9 @@ pub(crate) struct MoreWords;
 impl Items for MoreWords {
     ghost Value = { Name };
 
-    ghost goes_on = { begins_mark_lem 46 };
+    ghost goes_on = { spec.begins_mark 46 };
 
-    ghost item_at = { dotted_at_lem };
+    ghost item_at = { spec.dotted_at };
 
     ghost value_of = { λ word. word.items };
 
@@ -48,7 +46,7 @@ impl Items for MoreWords {
 pub(crate) fn path_at(alloc: Global, tokens: &[Token]) -> Result<(Path, &[Token]), ReadError>
     ensures { GivesCounted (λ x. PathCounted x.0 (pieces_of x.1.now))
         (λ x. (path_of x.0, pieces_of x.1.now)) result
-        (path_at_lem (pieces_of tokens.now)) }
+        (spec.path_at (pieces_of tokens.now)) }
 {
     let (first, rest) = or_return!(word_at(alloc, tokens));
     let (more, rest) = or_return!(list_of::<MoreWords>(alloc, rest));
@@ -64,7 +62,7 @@ pub(crate) fn path_at(alloc: Global, tokens: &[Token]) -> Result<(Path, &[Token]
 
 fn kind_in_brackets(path: Path, count: Option<Vec<u8>>) -> Kind
     ensures value { kind_of result
-        ≡ kind_in_brackets_lem (path_of path) (digits_of count) }
+        ≡ spec.kind_in_brackets (path_of path) (digits_of count) }
     ensures counted { (rest : List Piece)
         → PathCounted path (after_before 58 number_before (digits_of count)
         (mark 93 ∷ rest)) → KindCounted result rest }
@@ -78,7 +76,7 @@ fn kind_in_brackets(path: Path, count: Option<Vec<u8>>) -> Kind
 pub(crate) fn kind_at(alloc: Global, tokens: &[Token]) -> Result<(Kind, &[Token]), ReadError>
     ensures { GivesCounted (λ x. KindCounted x.0 (pieces_of x.1.now))
         (λ x. (kind_of x.0, pieces_of x.1.now)) result
-        (kind_at_lem (pieces_of tokens.now)) }
+        (spec.kind_at (pieces_of tokens.now)) }
 {
     match after_mark(tokens, b'[') {
         Some(rest) => {

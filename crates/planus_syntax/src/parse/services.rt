@@ -2,9 +2,8 @@
 
 ghost use Rattle.planus_syntax.specs.Tokens.{pieces_of};
 ghost use Rattle.planus_syntax.specs.Values.{MethodV, method_of, item_of, service as service_item};
-ghost use Rattle.planus_syntax.specs.Reading.{Gives, as_item, inside as inside_lem};
-ghost use Rattle.planus_syntax.specs.Reading.{method_at as method_at_lem};
-ghost use Rattle.planus_syntax.specs.Reading.{service_at as service_at_lem};
+ghost use Rattle.planus_syntax.specs.Reading as spec;
+ghost use Rattle.planus_syntax.specs.Reading.{Gives};
 ghost use Rattle.planus_syntax.specs.Counting.{GivesCounted, ItemCounted, MethodCounted};
 ghost use Rattle.planus_syntax.specs.Values.{method_before};
 
@@ -23,9 +22,9 @@ pub(crate) struct Methods;
 impl Items for Methods {
     ghost Value = { MethodV };
 
-    ghost goes_on = { inside_lem };
+    ghost goes_on = { spec.inside };
 
-    ghost item_at = { method_at_lem };
+    ghost item_at = { spec.method_at };
 
     ghost value_of = { method_of };
 
@@ -66,7 +65,7 @@ impl Items for Methods {
 pub(crate) fn service_at(alloc: Global, tokens: &[Token]) -> Result<(Item, &[Token]), ReadError>
     ensures { GivesCounted (λ x. ItemCounted x.0 (pieces_of x.1.now))
         (λ x. (item_of x.0, pieces_of x.1.now)) result
-        (as_item service_item (service_at_lem (pieces_of tokens.now))) }
+        (spec.as_item service_item (spec.service_at (pieces_of tokens.now))) }
 {
     let (name, rest) = or_return!(word_at(alloc, tokens));
     let (attributes, rest) = or_return!(attributes_at(alloc, rest));

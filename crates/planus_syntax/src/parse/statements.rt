@@ -5,12 +5,7 @@ ghost use Rattle.std.specs.Str.{bytes_eq};
 ghost use Rattle.planus_syntax.specs.Tokens.{pieces_of};
 ghost use Rattle.planus_syntax.specs.Values.{path_of, item_of, namespace as namespace_item};
 ghost use Rattle.planus_syntax.specs.Values.{attribute as attribute_item};
-ghost use Rattle.planus_syntax.specs.Reading.{Gives, as_item, quoted_at as quoted_at_lem};
-ghost use Rattle.planus_syntax.specs.Reading.{rooted_at as rooted_at_lem};
-ghost use Rattle.planus_syntax.specs.Reading.{namespace_at as namespace_at_lem};
-ghost use Rattle.planus_syntax.specs.Reading.{declared_at as declared_at_lem};
-ghost use Rattle.planus_syntax.specs.Reading.{statement_at as statement_at_lem};
-ghost use Rattle.planus_syntax.specs.Reading.{item_at as item_at_lem};
+ghost use Rattle.planus_syntax.specs.Reading as spec;
 ghost use Rattle.planus_syntax.specs.Counting.{GivesCounted, ItemCounted, PathCounted};
 ghost use Rattle.std.specs.Prelude.{◌∷◌};
 ghost use Rattle.planus_syntax.specs.Tokens.{mark};
@@ -28,8 +23,8 @@ use crate::value::{Item, Path};
 use std::alloc::Global;
 
 fn quoted_at(alloc: Global, tokens: &[Token]) -> Result<(Vec<u8>, &[Token]), ReadError>
-    ensures { Gives (λ x. (x.0.items, pieces_of x.1.now)) result
-        (quoted_at_lem (pieces_of tokens.now)) }
+    ensures { spec.Gives (λ x. (x.0.items, pieces_of x.1.now)) result
+        (spec.quoted_at (pieces_of tokens.now)) }
 {
     let (text, rest) = or_return!(text_at(alloc, tokens));
     let rest = or_return!(mark_at(rest, b';'));
@@ -39,7 +34,7 @@ fn quoted_at(alloc: Global, tokens: &[Token]) -> Result<(Vec<u8>, &[Token]), Rea
 fn rooted_at(alloc: Global, tokens: &[Token]) -> Result<(Path, &[Token]), ReadError>
     ensures { GivesCounted (λ x. PathCounted x.0 (mark 59 ∷ pieces_of x.1.now))
         (λ x. (path_of x.0, pieces_of x.1.now)) result
-        (rooted_at_lem (pieces_of tokens.now)) }
+        (spec.rooted_at (pieces_of tokens.now)) }
 {
     let (path, rest) = or_return!(path_at(alloc, tokens));
     let rest = or_return!(mark_at(rest, b';'));
@@ -49,7 +44,7 @@ fn rooted_at(alloc: Global, tokens: &[Token]) -> Result<(Path, &[Token]), ReadEr
 fn namespace_at(alloc: Global, tokens: &[Token]) -> Result<(Item, &[Token]), ReadError>
     ensures { GivesCounted (λ x. ItemCounted x.0 (pieces_of x.1.now))
         (λ x. (item_of x.0, pieces_of x.1.now)) result
-        (as_item namespace_item (namespace_at_lem (pieces_of tokens.now))) }
+        (spec.as_item namespace_item (spec.namespace_at (pieces_of tokens.now))) }
 {
     match after_mark(tokens, b';') {
         Some(rest) => Ok((Item::Namespace(None), rest)),
@@ -63,7 +58,7 @@ fn namespace_at(alloc: Global, tokens: &[Token]) -> Result<(Item, &[Token]), Rea
 fn declared_at(alloc: Global, tokens: &[Token]) -> Result<(Item, &[Token]), ReadError>
     ensures { GivesCounted (λ x. ItemCounted x.0 (pieces_of x.1.now))
         (λ x. (item_of x.0, pieces_of x.1.now)) result
-        (as_item attribute_item (declared_at_lem (pieces_of tokens.now))) }
+        (spec.as_item attribute_item (spec.declared_at (pieces_of tokens.now))) }
 {
     let (label, rest) = or_return!(label_at(alloc, tokens));
     let rest = or_return!(mark_at(rest, b';'));
@@ -85,7 +80,7 @@ fn statement_at<'a>(
 ) -> Result<(Item, &'a [Token]), ReadError>
     ensures { GivesCounted (λ x. ItemCounted x.0 (pieces_of x.1.now))
         (λ x. (item_of x.0, pieces_of x.1.now)) result
-        (statement_at_lem key.now left (pieces_of tokens.now)) }
+        (spec.statement_at key.now left (pieces_of tokens.now)) }
 {
     if is_word(key, b"include") {
         let (held, rest) = or_return!(quoted_at(alloc, tokens));
@@ -122,7 +117,7 @@ pub(crate) fn item_at<'a>(
 ) -> Result<(Item, &'a [Token]), ReadError>
     ensures { GivesCounted (λ x. ItemCounted x.0 (pieces_of x.1.now))
         (λ x. (item_of x.0, pieces_of x.1.now)) result
-        (item_at_lem key.now left (pieces_of tokens.now)) }
+        (spec.item_at key.now left (pieces_of tokens.now)) }
 {
     if is_word(key, b"table") {
         let (held, rest) = or_return!(record_at(alloc, tokens));

@@ -2,9 +2,8 @@
 
 ghost use Rattle.planus_syntax.specs.Tokens.{pieces_of};
 ghost use Rattle.planus_syntax.specs.Values.{FieldV, field_of, record_of};
-ghost use Rattle.planus_syntax.specs.Reading.{Gives, inside as inside_lem};
-ghost use Rattle.planus_syntax.specs.Reading.{field_at as field_at_lem};
-ghost use Rattle.planus_syntax.specs.Reading.{record_at as record_at_lem};
+ghost use Rattle.planus_syntax.specs.Reading as spec;
+ghost use Rattle.planus_syntax.specs.Reading.{Gives};
 ghost use Rattle.planus_syntax.specs.Counting.{FieldCounted, GivesCounted, RecordCounted};
 ghost use Rattle.planus_syntax.specs.Values.{field_before};
 
@@ -24,9 +23,9 @@ pub(crate) struct Fields;
 impl Items for Fields {
     ghost Value = { FieldV };
 
-    ghost goes_on = { inside_lem };
+    ghost goes_on = { spec.inside };
 
-    ghost item_at = { field_at_lem };
+    ghost item_at = { spec.field_at };
 
     ghost value_of = { field_of };
 
@@ -65,7 +64,7 @@ impl Items for Fields {
 pub(crate) fn record_at(alloc: Global, tokens: &[Token]) -> Result<(Record, &[Token]), ReadError>
     ensures { GivesCounted (λ x. RecordCounted x.0 (pieces_of x.1.now))
         (λ x. (record_of x.0, pieces_of x.1.now)) result
-        (record_at_lem (pieces_of tokens.now)) }
+        (spec.record_at (pieces_of tokens.now)) }
 {
     let (name, rest) = or_return!(word_at(alloc, tokens));
     let (attributes, rest) = or_return!(attributes_at(alloc, rest));

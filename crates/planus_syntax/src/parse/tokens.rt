@@ -3,13 +3,7 @@
 ghost use Rattle.std.specs.Prelude.{◌≡◌, true, false, Ok, MatchOption};
 ghost use Rattle.planus_syntax.specs.Tokens.{pieces_of};
 ghost use Rattle.planus_syntax.specs.Values.{digits_of, label_of};
-ghost use Rattle.planus_syntax.specs.Reading.{Gives, begins_mark as begins_mark_lem};
-ghost use Rattle.planus_syntax.specs.Reading.{begins_next as begins_next_lem};
-ghost use Rattle.planus_syntax.specs.Reading.{inside as inside_lem, has_more as has_more_lem};
-ghost use Rattle.planus_syntax.specs.Reading.{begins_closing as begins_closing_lem};
-ghost use Rattle.planus_syntax.specs.Reading.{mark_at as mark_at_lem, word_at as word_at_lem};
-ghost use Rattle.planus_syntax.specs.Reading.{optional_at, number_at as number_at_lem};
-ghost use Rattle.planus_syntax.specs.Reading.{text_at as text_at_lem, label_at as label_at_lem};
+ghost use Rattle.planus_syntax.specs.Reading as spec;
 ghost use Rattle.planus_syntax.specs.Counting.{GivesCounted, LabelCounted};
 
 use crate::parse_fault::ParseFault;
@@ -19,7 +13,7 @@ use crate::value::Label;
 use std::alloc::Global;
 
 pub(crate) fn begins_mark(tokens: &[Token], mark: u8) -> bool
-    ensures { result ≡ begins_mark_lem mark (pieces_of tokens.now) }
+    ensures { result ≡ spec.begins_mark mark (pieces_of tokens.now) }
 {
     match tokens.split_first() {
         Some((Token::Mark(byte), _)) => *byte == mark,
@@ -28,7 +22,7 @@ pub(crate) fn begins_mark(tokens: &[Token], mark: u8) -> bool
 }
 
 fn begins_closing(tokens: &[Token]) -> bool
-    ensures { result ≡ begins_closing_lem (pieces_of tokens.now) }
+    ensures { result ≡ spec.begins_closing (pieces_of tokens.now) }
 {
     let mut rest = tokens;
     'tokens: while let Some((token, after)) = rest.split_first() {
@@ -42,7 +36,7 @@ fn begins_closing(tokens: &[Token]) -> bool
 }
 
 pub(crate) fn begins_next(tokens: &[Token]) -> bool
-    ensures { result ≡ begins_next_lem (pieces_of tokens.now) }
+    ensures { result ≡ spec.begins_next (pieces_of tokens.now) }
 {
     match tokens.split_first() {
         Some((Token::Mark(byte), rest)) => *byte == b',' && !begins_closing(rest),
@@ -51,14 +45,14 @@ pub(crate) fn begins_next(tokens: &[Token]) -> bool
 }
 
 pub(crate) fn inside(tokens: &[Token]) -> bool
-    ensures { result ≡ inside_lem (pieces_of tokens.now) }
+    ensures { result ≡ spec.inside (pieces_of tokens.now) }
 {
     !tokens.is_empty() && !begins_closing(tokens)
 }
 
 /// Returns whether there is more than documentation.
 pub(crate) fn has_more(tokens: &[Token]) -> bool
-    ensures { result ≡ has_more_lem (pieces_of tokens.now) }
+    ensures { result ≡ spec.has_more (pieces_of tokens.now) }
 {
     let mut rest = tokens;
     'tokens: while let Some((token, after)) = rest.split_first() {
@@ -71,8 +65,8 @@ pub(crate) fn has_more(tokens: &[Token]) -> bool
 }
 
 pub(crate) fn mark_at(tokens: &[Token], mark: u8) -> Result<&[Token], ReadError>
-    ensures { Gives (λ rest. pieces_of rest.now) result
-        (mark_at_lem mark (pieces_of tokens.now)) }
+    ensures { spec.Gives (λ rest. pieces_of rest.now) result
+        (spec.mark_at mark (pieces_of tokens.now)) }
 {
     match tokens.split_first() {
         Some((Token::Mark(byte), rest)) if *byte == mark => Ok(rest),
@@ -84,9 +78,9 @@ pub(crate) fn mark_at(tokens: &[Token], mark: u8) -> Result<&[Token], ReadError>
 }
 
 pub(crate) fn after_mark(tokens: &[Token], mark: u8) -> Option<&[Token]>
-    ensures { MatchOption result (begins_mark_lem mark (pieces_of tokens.now) ≡ false)
-        (λ rest. (begins_mark_lem mark (pieces_of tokens.now) ≡ true)
-        × (mark_at_lem mark (pieces_of tokens.now) ≡ Ok (pieces_of rest.now))) }
+    ensures { MatchOption result (spec.begins_mark mark (pieces_of tokens.now) ≡ false)
+        (λ rest. (spec.begins_mark mark (pieces_of tokens.now) ≡ true)
+        × (spec.mark_at mark (pieces_of tokens.now) ≡ Ok (pieces_of rest.now))) }
 {
     match tokens.split_first() {
         Some((Token::Mark(byte), rest)) if *byte == mark => Some(rest),
@@ -95,8 +89,8 @@ pub(crate) fn after_mark(tokens: &[Token], mark: u8) -> Option<&[Token]>
 }
 
 pub(crate) fn word_at(alloc: Global, tokens: &[Token]) -> Result<(Vec<u8>, &[Token]), ReadError>
-    ensures { Gives (λ x. (x.0.items, pieces_of x.1.now)) result
-        (word_at_lem (pieces_of tokens.now)) }
+    ensures { spec.Gives (λ x. (x.0.items, pieces_of x.1.now)) result
+        (spec.word_at (pieces_of tokens.now)) }
 {
     match tokens.split_first() {
         Some((Token::Word(bytes), rest)) => Ok((Vec::from_slice(alloc, bytes)?, rest)),
@@ -108,8 +102,8 @@ pub(crate) fn word_at(alloc: Global, tokens: &[Token]) -> Result<(Vec<u8>, &[Tok
 }
 
 pub(crate) fn number_at(alloc: Global, tokens: &[Token]) -> Result<(Vec<u8>, &[Token]), ReadError>
-    ensures { Gives (λ x. (x.0.items, pieces_of x.1.now)) result
-        (number_at_lem (pieces_of tokens.now)) }
+    ensures { spec.Gives (λ x. (x.0.items, pieces_of x.1.now)) result
+        (spec.number_at (pieces_of tokens.now)) }
 {
     match tokens.split_first() {
         Some((Token::Number(bytes), rest)) => Ok((Vec::from_slice(alloc, bytes)?, rest)),
@@ -126,8 +120,8 @@ pub(crate) fn number_after(
     mark: u8,
     tokens: &[Token],
 ) -> Result<(Option<Vec<u8>>, &[Token]), ReadError>
-    ensures { Gives (λ x. (digits_of x.0, pieces_of x.1.now)) result
-        (optional_at mark number_at_lem (pieces_of tokens.now)) }
+    ensures { spec.Gives (λ x. (digits_of x.0, pieces_of x.1.now)) result
+        (spec.optional_at mark spec.number_at (pieces_of tokens.now)) }
 {
     match after_mark(tokens, mark) {
         Some(rest) => {
@@ -139,8 +133,8 @@ pub(crate) fn number_after(
 }
 
 pub(crate) fn text_at(alloc: Global, tokens: &[Token]) -> Result<(Vec<u8>, &[Token]), ReadError>
-    ensures { Gives (λ x. (x.0.items, pieces_of x.1.now)) result
-        (text_at_lem (pieces_of tokens.now)) }
+    ensures { spec.Gives (λ x. (x.0.items, pieces_of x.1.now)) result
+        (spec.text_at (pieces_of tokens.now)) }
 {
     match tokens.split_first() {
         Some((Token::Text(bytes), rest)) => Ok((Vec::from_slice(alloc, bytes)?, rest)),
@@ -154,7 +148,7 @@ pub(crate) fn text_at(alloc: Global, tokens: &[Token]) -> Result<(Vec<u8>, &[Tok
 pub(crate) fn label_at(alloc: Global, tokens: &[Token]) -> Result<(Label, &[Token]), ReadError>
     ensures { GivesCounted (λ x. LabelCounted x.0 (pieces_of x.1.now))
         (λ x. (label_of x.0, pieces_of x.1.now)) result
-        (label_at_lem (pieces_of tokens.now)) }
+        (spec.label_at (pieces_of tokens.now)) }
 {
     match tokens.split_first() {
         Some((Token::Word(bytes), rest)) => Ok((

@@ -3,12 +3,8 @@
 ghost use Rattle.std.specs.Prelude.{map};
 ghost use Rattle.planus_syntax.specs.Tokens.{pieces_of};
 ghost use Rattle.planus_syntax.specs.Values.{MemberV, member_of, item_of, union as union_item};
-ghost use Rattle.planus_syntax.specs.Reading.{Gives, as_item, if_inside};
-ghost use Rattle.planus_syntax.specs.Reading.{begins_next as begins_next_lem};
-ghost use Rattle.planus_syntax.specs.Reading.{member_at as member_at_lem};
-ghost use Rattle.planus_syntax.specs.Reading.{next_member_at as next_member_at_lem};
-ghost use Rattle.planus_syntax.specs.Reading.{members_at as members_at_lem};
-ghost use Rattle.planus_syntax.specs.Reading.{union_at as union_at_lem};
+ghost use Rattle.planus_syntax.specs.Reading as spec;
+ghost use Rattle.planus_syntax.specs.Reading.{Gives};
 ghost use Rattle.planus_syntax.specs.Counting.{EachCounted, GivesCounted, ItemCounted, MemberCounted};
 ghost use Rattle.planus_syntax.specs.Values.{member_before, next_before};
 
@@ -25,7 +21,7 @@ use std::alloc::Global;
 fn member_at(alloc: Global, tokens: &[Token]) -> Result<(Member, &[Token]), ReadError>
     ensures { GivesCounted (λ x. MemberCounted x.0 (pieces_of x.1.now))
         (λ x. (member_of x.0, pieces_of x.1.now)) result
-        (member_at_lem (pieces_of tokens.now)) }
+        (spec.member_at (pieces_of tokens.now)) }
 {
     let (docs, rest) = or_return!(docs_at(alloc, tokens));
     let (path, rest) = or_return!(path_at(alloc, rest));
@@ -48,9 +44,9 @@ pub(crate) struct MoreMembers;
 impl Items for MoreMembers {
     ghost Value = { MemberV };
 
-    ghost goes_on = { begins_next_lem };
+    ghost goes_on = { spec.begins_next };
 
-    ghost item_at = { next_member_at_lem };
+    ghost item_at = { spec.next_member_at };
 
     ghost value_of = { member_of };
 
@@ -71,18 +67,20 @@ impl Items for MoreMembers {
 }
 
 fn members_at(alloc: Global, tokens: &[Token]) -> Result<(Vec<Member>, &[Token]), ReadError>
-    ensures { GivesCounted (λ x. EachCounted MemberCounted member_of (next_before member_before) x.0.items
+    ensures { GivesCounted (λ x. EachCounted MemberCounted member_of (next_before member_before)
+        x.0.items
         (pieces_of x.1.now)) (λ x. (map member_of x.0.items, pieces_of x.1.now)) result
-        (members_at_lem (pieces_of tokens.now)) }
+        (spec.members_at (pieces_of tokens.now)) }
 {
     let (first, rest) = or_return!(member_at(alloc, tokens));
     list_after::<MoreMembers>(alloc, first, rest)
 }
 
 fn members_inside(alloc: Global, tokens: &[Token]) -> Result<(Vec<Member>, &[Token]), ReadError>
-    ensures { GivesCounted (λ x. EachCounted MemberCounted member_of (next_before member_before) x.0.items
+    ensures { GivesCounted (λ x. EachCounted MemberCounted member_of (next_before member_before)
+        x.0.items
         (pieces_of x.1.now)) (λ x. (map member_of x.0.items, pieces_of x.1.now)) result
-        (if_inside members_at_lem (pieces_of tokens.now)) }
+        (spec.if_inside spec.members_at (pieces_of tokens.now)) }
 {
     if inside(tokens) {
         members_at(alloc, tokens)
@@ -94,7 +92,7 @@ fn members_inside(alloc: Global, tokens: &[Token]) -> Result<(Vec<Member>, &[Tok
 pub(crate) fn union_at(alloc: Global, tokens: &[Token]) -> Result<(Item, &[Token]), ReadError>
     ensures { GivesCounted (λ x. ItemCounted x.0 (pieces_of x.1.now))
         (λ x. (item_of x.0, pieces_of x.1.now)) result
-        (as_item union_item (union_at_lem (pieces_of tokens.now))) }
+        (spec.as_item union_item (spec.union_at (pieces_of tokens.now))) }
 {
     let (name, rest) = or_return!(word_at(alloc, tokens));
     let (attributes, rest) = or_return!(attributes_at(alloc, rest));
