@@ -27,8 +27,8 @@ pub record IsNamingOf (ds : List Declared) (names : Names) (n : Naming) : Type 0
   pub modules : n.modules.now ≡ names.modules.items
   pub members : n.members.now ≡ names.members.items
 
--- With names that are fit, the files have the code of each table, and where verified reading is
--- printed, that of its verified view, and the schema as a value.
+-- With names that are fit, the files have the code of each declaration, and where verified reading
+-- is printed, that of each table's verified view, and the schema as a value.
 pub record IsPrinted (verified : Bool) (ds : List Declared) (files : List PrintedFile) : Type 0 where
   pub names : Names
   pub naming : Naming

@@ -431,6 +431,7 @@ fn files_of(context: &Context<'_>) -> Result<Vec<PrintedFile>, AllocError> {
 ///
 /// They are read again before: each table has its accessors and its lines, its verified view has
 /// its accessors, both have the look-up by the table's key, and there is the schema as a value.
+/// Each enum has its numbers, each union its tags, each struct its layout, each set of flags its bits.
 /// [`Refusal::Unsupported`] where something in it has no form in code, [`Refusal::Untied`] where
 /// the printed code isn't the schema's.
 pub fn print_crate(

@@ -1,5 +1,6 @@
 -- Entries that are added in turn.
 use Rattle.std.proofs.Common.{◌≡◌, ◌∙◌, ap, sym, ℕ, ◌+◌, ◌<◌, List, [], ◌∷◌, ◌++◌, length, take, drop, get_or, append_assoc, drop-cons, add-one}
+use Rattle.std.specs.Prelude.{Result, Ok, Err, OnOk}
 use Rattle.std.specs.List.{flat_map}
 use Rattle.planus_schema.specs.declared.plan.Line.{Line}
 use Rattle.planus_tie.specs.Wanted.{part_text, parts_text}
@@ -28,6 +29,15 @@ text_added f xs i d one first old new l is h a =
 -- two texts are added one after the other
 pub both_added : (old mid new a b : List ℕ) → mid ≡ old ++ a → new ≡ mid ++ b → new ≡ old ++ (a ++ b)
 both_added old mid new a b m n = n ∙ ap (λ t. t ++ b) m ∙ append_assoc old a b
+
+-- a text is added, and then another one where memory allows
+pub then_added : {A E : Type 0} (r : Result A E) (old mid new a b : List ℕ) → mid ≡ old ++ a → OnOk r (new ≡ mid ++ b) → OnOk r (new ≡ old ++ (a ++ b))
+then_added (Err e) old mid new a b m n = tt
+then_added (Ok v) old mid new a b m n = both_added old mid new a b m n
+
+-- a text is added to none
+pub added_to_none : (first new a : List ℕ) → first ≡ [] → new ≡ first ++ a → new ≡ a
+added_to_none first new a f h = h ∙ ap (λ t. t ++ a) f
 
 -- three texts are added to none
 pub three_added : (first mid next new a b e : List ℕ) → first ≡ [] → mid ≡ first ++ a → next ≡ mid ++ b → new ≡ next ++ e → new ≡ a ++ (b ++ e)

@@ -1,6 +1,7 @@
 -- The files of a printed crate.
 use Rattle.std.specs.Prelude.{ℕ, ◌+◌, Bool, IsTrue, ⊤, List, [], ◌∷◌, ◌++◌, fold, codes, Option, Some}
 use Rattle.std.specs.Prelude.{None, if◌then◌else◌}
+use Rattle.std.specs.Bool.{MatchBool}
 use Rattle.std.specs.List.{list_any}
 use Rattle.std.specs.Str.{bytes_eq}
 use Rattle.std.specs.String.{string_bytes}
@@ -8,9 +9,13 @@ use Rattle.planus_schema.specs.declared.schema.Body.{Body}
 use Rattle.planus_schema.specs.declared.schema.Body.TheVariants as body
 use Rattle.planus_schema.specs.declared.schema.Declared.{Declared}
 use Rattle.planus_schema.specs.declared.schema.Table.{Table}
+use Rattle.planus_tie.specs.Enums.{IsEnumTied}
+use Rattle.planus_tie.specs.Flags.{IsFlagsTied}
 use Rattle.planus_tie.specs.Ranks.{is_table, ranks_of, totals_of}
 use Rattle.planus_tie.specs.SchemaTies.{IsSchemaTied}
+use Rattle.planus_tie.specs.Structs.{IsStructTied}
 use Rattle.planus_tie.specs.Ties.{IsTableTied}
+use Rattle.planus_tie.specs.Unions.{IsUnionTied}
 use Rattle.planus_tie.specs.Views.{IsViewTied}
 use Rattle.planus_tie.specs.Wanted.{module_of}
 use Rattle.planus_tie.specs.declared.files.PrintedFile.{PrintedFile}
@@ -27,19 +32,27 @@ newer path found f = if bytes_eq (string_bytes f.path) path then Some (string_by
 abbrev pub text_at : List ℕ → List PrintedFile → Option (List ℕ)
 text_at path files = fold (newer path) None files
 
-abbrev pub IsTextTied : Naming → ℕ → Table → Option (List ℕ) → Type 0
-IsTextTied n i one None = ⊥
-IsTextTied n i one (Some text) = IsTableTied n i one text
+-- a text is that of a declaration
+abbrev pub IsTextTied : Naming → ℕ → Body → List ℕ → Type 0
+IsTextTied n i (body.Table one) text = IsTableTied n i one text
+IsTextTied n i (body.Enum one) text =
+    MatchBool one.flags (IsFlagsTied n i one text) (IsEnumTied n i one text)
+IsTextTied n i (body.Union one) text = IsUnionTied n i one text
+IsTextTied n i (body.Struct one) text = IsStructTied n i one text
 
--- a table's file is there, and is the table's
+abbrev pub IsFileTied : Naming → ℕ → Body → Option (List ℕ) → Type 0
+IsFileTied n i b None = ⊥
+IsFileTied n i b (Some text) = IsTextTied n i b text
+
+-- a declaration's file is there, and is the declaration's
 abbrev pub IsBodyTied : Naming → List PrintedFile → ℕ → Body → Type 0
-IsBodyTied n files i (body.Table one) = IsTextTied n i one (text_at (path_of n i) files)
-IsBodyTied n files i b = ⊤
+IsBodyTied n files i b = IsFileTied n i b (text_at (path_of n i) files)
 
 -- of each declaration from an index on
-abbrev pub AreTablesTied : Naming → List PrintedFile → ℕ → List Declared → Type 0
-AreTablesTied n files i [] = ⊤
-AreTablesTied n files i (d ∷ ds) = IsBodyTied n files i d.body × AreTablesTied n files (i + 1) ds
+abbrev pub AreDeclaredTied : Naming → List PrintedFile → ℕ → List Declared → Type 0
+AreDeclaredTied n files i [] = ⊤
+AreDeclaredTied n files i (d ∷ ds) =
+    IsBodyTied n files i d.body × AreDeclaredTied n files (i + 1) ds
 
 abbrev pub view_path_of : Naming → ℕ → List ℕ
 view_path_of n i = codes "src/verified/" ++ (module_of n i ++ codes ".rt")
@@ -79,8 +92,8 @@ AreVerifiedTied n files =
     AreViewsTied n (ranks_of n.declared.now) (totals_of n.declared.now) files 0 n.declared.now
     × HasSchema n (ranks_of n.declared.now) files
 
--- Each table has its file, and where verified reading is printed, that of its view, and there is the
--- schema's value.
+-- Each declaration has its file, and where verified reading is printed, each table has that of its
+-- view, and there is the schema's value.
 pub record AreTied (verified : Bool) (n : Naming) (files : List PrintedFile) : Type 0 where
-  pub tables : AreTablesTied n files 0 n.declared.now
+  pub declared : AreDeclaredTied n files 0 n.declared.now
   pub views : IsTrue verified → AreVerifiedTied n files

@@ -1,11 +1,17 @@
 pub mod Bare
+pub mod Enums
 pub mod Files
+pub mod Flags
+pub mod Holes
 pub mod Keys
 pub mod NameLists
+pub mod Plains
 pub mod Ranks
 pub mod Reading
 pub mod SchemaTies
 pub mod Shapes
+pub mod Structs
 pub mod Ties
+pub mod Unions
 pub mod Views
 pub mod Wanted

@@ -27,7 +27,7 @@ pub fn default_number(default: &Option<Value>) -> Number
     }
 }
 
-fn push_integer(out: &mut Vec<u8>, number: Number) -> Result<(), AllocError>
+pub(crate) fn push_integer(out: &mut Vec<u8>, number: Number) -> Result<(), AllocError>
     ensures { OnOk result (out.new.items ≡ out.old.items ++ integer_text number) }
 {
     push_str(out, if number.negative { "-" } else { "" })?;

@@ -3,16 +3,21 @@
 ghost use Rattle.std.specs.Prelude.{◌≡◌, ◌++◌, IfOk, IsTrue, codes, None};
 ghost use Rattle.std.specs.Option.{option_copied};
 ghost use Rattle.planus_tie.specs.Files.{path_of as path_of_lem, text_at as text_at_lem};
-ghost use Rattle.planus_tie.specs.Files.{newer as newer_lem, IsBodyTied, AreTablesTied};
+ghost use Rattle.planus_tie.specs.Files.{newer as newer_lem, IsTextTied, IsBodyTied};
+ghost use Rattle.planus_tie.specs.Files.{AreDeclaredTied};
 ghost use Rattle.planus_tie.specs.Files.{view_path_of as view_path_of_lem, IsBodyViewTied};
 ghost use Rattle.planus_tie.specs.Files.{AreViewsTied, has_tables as has_tables_lem, HasSchema};
 ghost use Rattle.planus_tie.specs.Files.{AreTied, AreVerifiedTied, IsViewTextTied};
 
+use crate::enums::is_enum_tied;
+use crate::flags::is_flags_tied;
 use crate::naming::Naming;
 use crate::pieces::push_str;
 use crate::ranks::{is_table, ranks_of, totals_of};
 use crate::schema::is_schema_tied;
+use crate::structs::is_struct_tied;
 use crate::tie::is_table_tied;
+use crate::unions::is_union_tied;
 use crate::views::is_view_tied;
 use planus_schema::{Body, Declared, Table};
 use std::alloc::{AllocError, Global};
@@ -54,6 +59,24 @@ fn text_at<'a>(files: &'a [PrintedFile], path: &[u8]) -> Option<&'a [u8]>
     found
 }
 
+fn is_text_tied(
+    alloc: Global,
+    naming: &Naming<'_>,
+    index: usize,
+    body: &Body,
+    text: &[u8],
+) -> Result<bool, AllocError>
+    ensures { IfOk result (λ b. IsTrue b → IsTextTied naming.now index body.now text.now) }
+{
+    match body {
+        Body::Table(one) => is_table_tied(alloc, naming, index, one, text),
+        Body::Enum(one) if one.flags => is_flags_tied(alloc, naming, index, one, text),
+        Body::Enum(one) => is_enum_tied(alloc, naming, index, one, text),
+        Body::Struct(one) => is_struct_tied(alloc, naming, index, one, text),
+        Body::Union(one) => is_union_tied(alloc, naming, index, one, text),
+    }
+}
+
 fn is_body_tied(
     alloc: Global,
     naming: &Naming<'_>,
@@ -63,24 +86,21 @@ fn is_body_tied(
 ) -> Result<bool, AllocError>
     ensures { IfOk result (λ b. IsTrue b → IsBodyTied naming.now files.now index body.now) }
 {
-    let Body::Table(one) = body else {
-        return Ok(true);
-    };
     let path = path_of(alloc, naming, index)?;
     match text_at(files, &path) {
-        Some(text) => is_table_tied(alloc, naming, index, one, text),
+        Some(text) => is_text_tied(alloc, naming, index, body, text),
         None => Ok(false),
     }
 }
 
-/// Returns whether the file of each table is the table's.
-fn are_tables_tied(
+/// Returns whether the file of each declaration is the declaration's.
+fn are_declared_tied(
     alloc: Global,
     naming: &Naming<'_>,
     files: &[PrintedFile],
 ) -> Result<bool, AllocError>
     ensures { IfOk result (λ b. IsTrue b
-        → AreTablesTied naming.now files.now 0 naming.now.declared.now) }
+        → AreDeclaredTied naming.now files.now 0 naming.now.declared.now) }
 {
     let mut index = 0;
     'declared: for one in naming.declared {
@@ -204,8 +224,8 @@ fn are_verified_tied(
     has_schema(alloc, naming, &ranks, files)
 }
 
-/// Returns whether the file of each table is the table's, and where verified reading is printed,
-/// that of its view is, and the schema's value is the schema's.
+/// Returns whether the file of each declaration is the declaration's, and where verified reading is
+/// printed, that of each table's view is the table's, and the schema's value is the schema's.
 pub fn are_tied(
     alloc: Global,
     naming: &Naming<'_>,
@@ -214,7 +234,7 @@ pub fn are_tied(
 ) -> Result<bool, AllocError>
     ensures { IfOk result (λ b. IsTrue b → AreTied verified naming.now files.now) }
 {
-    if !are_tables_tied(alloc, naming, files)? {
+    if !are_declared_tied(alloc, naming, files)? {
         return Ok(false);
     }
     if !verified {

@@ -1,25 +1,32 @@
 //! Printed text, read again: the accessors of tables and of their verified views, the look-up of both
-//! by a key, the lines of what is created and the schema's value are those that a schema wants.
+//! by a key, the lines of what is created, the schema's value, enums, unions, structs and flags are
+//! those that a schema wants.
 #![tactic(auto)]
 
 mod bare;
 mod calls;
 mod defaults;
 mod entries;
+mod enums;
 mod files;
+mod flags;
 mod groups;
+mod holes;
 mod keys;
 mod kinds;
 mod name_lists;
 mod naming;
 mod pieces;
+mod plains;
 mod ranks;
 mod reading;
 mod schema;
 mod shapes;
 mod shares;
 mod spelling;
+mod structs;
 mod tie;
+mod unions;
 mod views;
 
 pub use defaults::default_number;

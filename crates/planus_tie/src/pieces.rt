@@ -1,7 +1,7 @@
 //! Pieces of wanted text.
 
 ghost use Rattle.std.specs.Prelude.{◌≡◌, ◌++◌, OnOk, decimal, map};
-ghost use Rattle.std.specs.Char.{to_ascii_uppercase};
+ghost use Rattle.std.specs.Char.{to_ascii_uppercase, to_ascii_lowercase};
 ghost use Rattle.planus_tie.specs.Wanted.{base_word};
 
 use crate::kinds::scalar_name;
@@ -27,6 +27,15 @@ pub(crate) fn push_capitals(out: &mut Vec<u8>, name: &[u8]) -> Result<(), AllocE
 {
     for letter in name {
         out.push(letter.to_ascii_uppercase())?;
+    }
+    Ok(())
+}
+
+pub(crate) fn push_small(out: &mut Vec<u8>, name: &[u8]) -> Result<(), AllocError>
+    ensures { OnOk result (out.new.items ≡ out.old.items ++ map to_ascii_lowercase name.now) }
+{
+    for letter in name {
+        out.push(letter.to_ascii_lowercase())?;
     }
     Ok(())
 }

@@ -1,0 +1,165 @@
+//! Whether the text of a struct is its schema's.
+
+ghost use Rattle.std.specs.Prelude.{◌≡◌, ◌++◌, IfOk, OnOk, IsTrue};
+ghost use Rattle.planus_tie.specs.Structs.{struct_holes as struct_holes_lem};
+ghost use Rattle.planus_tie.specs.Structs.{field_holes as field_holes_lem};
+ghost use Rattle.planus_tie.specs.Structs.{offset_of as offset_of_lem, fields_from, fields_text};
+ghost use Rattle.planus_tie.specs.Structs.{put_text, taken_text, struct_text as struct_text_lem};
+ghost use Rattle.planus_tie.specs.Structs.{is_struct_text as is_struct_text_lem, IsStructTied};
+
+use crate::bare::bare;
+use crate::holes::{Holes, has_text, push_each, push_filled};
+use crate::naming::Naming;
+use crate::plains::{push_layout, push_read};
+use planus_schema::{Base, Number, Struct, StructField};
+use std::alloc::{AllocError, Global};
+
+fn struct_holes(index: usize, one: &Struct) -> Holes
+    ensures { result ≡ struct_holes_lem index one.now }
+{
+    Holes {
+        index,
+        place: 0,
+        base: Base::Struct(index),
+        number: Number {
+            negative: false,
+            magnitude: 0,
+        },
+        size: one.size,
+        alignment: one.alignment,
+        count: None,
+        padding: 0,
+    }
+}
+
+fn field_holes(index: usize, place: usize, next: usize, field: &StructField) -> Holes
+    ensures { result ≡ field_holes_lem index place next field.now }
+{
+    Holes {
+        index,
+        place,
+        base: field.base,
+        number: Number {
+            negative: false,
+            magnitude: field.distance as u64,
+        },
+        size: field.size,
+        alignment: field.alignment,
+        count: field.count,
+        padding: next
+            .saturating_sub(field.distance)
+            .saturating_sub(field.size),
+    }
+}
+
+fn offset_of(size: usize, fields: &[StructField]) -> usize
+    ensures { result ≡ offset_of_lem size fields.now }
+{
+    match fields.split_first() {
+        Some((field, _)) => field.distance,
+        None => size,
+    }
+}
+
+fn fields_of(alloc: Global, index: usize, one: &Struct) -> Result<Vec<Holes>, AllocError>
+    ensures { IfOk result (λ fields. fields.items
+        ≡ fields_from index one.now.size 0 one.now.fields.items) }
+{
+    let mut fields = Vec::new(alloc);
+    let mut place = 0;
+    let mut rest = one.fields.as_slice();
+    'fields: while let Some((field, after)) = rest.split_first() {
+        let next = offset_of(one.size, after);
+        fields.push(field_holes(index, place, next, field))?;
+        place += 1;
+        rest = after;
+    }
+    Ok(fields)
+}
+
+fn push_fields(
+    out: &mut Vec<u8>,
+    naming: &Naming<'_>,
+    own: Holes,
+    fields: &[Holes],
+) -> Result<(), AllocError>
+    ensures { OnOk result (out.new.items ≡ out.old.items
+        ++ fields_text naming.now own fields.now) }
+{
+    push_filled(out, naming, own, "pub struct $T {")?;
+    push_each(out, naming, fields, "pub $n: $t,")?;
+    push_filled(out, naming, own, "}")
+}
+
+fn push_put(
+    out: &mut Vec<u8>,
+    naming: &Naming<'_>,
+    own: Holes,
+    fields: &[Holes],
+) -> Result<(), AllocError>
+    ensures { OnOk result (out.new.items ≡ out.old.items
+        ++ put_text naming.now own fields.now) }
+{
+    push_filled(out, naming, own, "put_fields!(self, bytes;")?;
+    push_each(out, naming, fields, "$n: $z, $x")?;
+    push_filled(out, naming, own, ");")
+}
+
+fn push_taken(
+    out: &mut Vec<u8>,
+    naming: &Naming<'_>,
+    own: Holes,
+    fields: &[Holes],
+) -> Result<(), AllocError>
+    ensures { OnOk result (out.new.items ≡ out.old.items
+        ++ taken_text naming.now own fields.now) }
+{
+    push_filled(out, naming, own, "read_fields!($T, buffer, offset;")?;
+    push_each(out, naming, fields, "$w,")?;
+    push_filled(out, naming, own, ") } }")
+}
+
+fn struct_text(
+    alloc: Global,
+    naming: &Naming<'_>,
+    own: Holes,
+    fields: &[Holes],
+) -> Result<Vec<u8>, AllocError>
+    ensures { IfOk result (λ out. out.items ≡ struct_text_lem naming.now own fields.now) }
+{
+    let mut out = Vec::new(alloc);
+    push_fields(&mut out, naming, own, fields)?;
+    push_layout(&mut out, naming, own)?;
+    push_put(&mut out, naming, own, fields)?;
+    push_read(&mut out, naming, own)?;
+    push_taken(&mut out, naming, own, fields)?;
+    Ok(out)
+}
+
+fn is_struct_text(
+    alloc: Global,
+    naming: &Naming<'_>,
+    own: Holes,
+    fields: &[Holes],
+    text: &[u8],
+) -> Result<bool, AllocError>
+    ensures { IfOk result (λ b. b ≡ is_struct_text_lem naming.now own fields.now text.now) }
+{
+    let wanted = struct_text(alloc, naming, own, fields)?;
+    has_text(alloc, text, &wanted)
+}
+
+/// Returns whether this is the text of a struct.
+pub(crate) fn is_struct_tied(
+    alloc: Global,
+    naming: &Naming<'_>,
+    index: usize,
+    one: &Struct,
+    text: &[u8],
+) -> Result<bool, AllocError>
+    ensures { IfOk result (λ b. IsTrue b → IsStructTied naming.now index one.now text.now) }
+{
+    let fields = fields_of(alloc, index, one)?;
+    let without = bare(alloc, text)?;
+    is_struct_text(alloc, naming, struct_holes(index, one), &fields, &without)
+}
