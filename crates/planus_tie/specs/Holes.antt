@@ -1,7 +1,7 @@
 -- Texts with holes: what their letters stand for in a declaration, or in one of its members.
 use Rattle.std.specs.Prelude.{ℕ, ◌%◌, Bool, true, false, ◌==◌, not, is_none, List, [], ◌∷◌, ◌++◌}
 use Rattle.std.specs.Prelude.{codes, decimal, map, Option, Some, None, if◌then◌else◌}
-use Rattle.std.specs.Char.{to_ascii_lowercase}
+use Rattle.std.specs.Char.{to_ascii_lowercase, to_ascii_uppercase}
 use Rattle.std.specs.List.{flat_map}
 use Rattle.planus_schema.specs.Numbers.{fits}
 use Rattle.planus_schema.specs.declared.schema.Base.{Base}
@@ -55,11 +55,12 @@ view_call (base.Table i) = codes "read_view(buffer, offset)?"
 view_call (base.Struct i) = codes "read_plain_ref(buffer, offset)?"
 view_call b = codes "TableRead::from_buffer(buffer, offset)?"
 
--- of a union's member `V` its name in small letters, `G` an offset to it, `R` its type as it is
--- read, `E` the call that reads it
+-- `V` a member's name in small letters, `N` in capitals; of a union's member `G` an offset to it,
+-- `R` its type as it is read, `E` the call that reads it
 abbrev pub member_hole : Naming → Holes → ℕ → List ℕ
 member_hole n h letter =
     if letter == 86 then map to_ascii_lowercase (member_of n h.index h.place)
+    else if letter == 78 then map to_ascii_uppercase (member_of n h.index h.place)
     else if letter == 71 then offset_word h.base
     else if letter == 82 then view_type n h.base
     else if letter == 69 then view_call h.base

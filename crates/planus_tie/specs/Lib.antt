@@ -1,4 +1,5 @@
 pub mod Bare
+pub mod Constants
 pub mod Enums
 pub mod Files
 pub mod Flags

@@ -3,6 +3,7 @@ use Rattle.std.specs.Prelude.{◌≡◌, ℕ, Bool, true, false, ◌&&◌, ◌||
 use Rattle.std.specs.Prelude.{Option, Some, None, take, drop, ◌==◌}
 use Rattle.planus_schema.specs.Plans.{LineV, line_of, IsPlan}
 use Rattle.planus_tie.specs.Bare.{bare}
+use Rattle.planus_tie.specs.Constants.{have_constants}
 use Rattle.planus_tie.specs.Keys.{have_keys}
 use Rattle.planus_tie.specs.Reading.{method_mark, body_of, after, list_in, begins, if_begins}
 use Rattle.planus_tie.specs.Wanted.{call_text, list_text, member_of, group_mark, group_text}
@@ -43,8 +44,10 @@ is_plan_tied n es p text = list_all (is_spelled n) (map line_of p.lines.items)
     && have_accessors n (Some text) (map line_of p.lines.items)
     && has_lines n text p.table es p.order.items
     && have_keys n None (Some text) (map line_of p.lines.items)
+    && have_constants n (Some text) (map line_of p.lines.items)
 
--- The text of a table has the accessors and the lines of its plan, and the look-up by its key.
+-- The text of a table has the accessors and the lines of its plan, the look-up by its key, and the
+-- constants of defaults.
 pub record IsTableTied (n : Naming) (table : ℕ) (one : Table) (text : List ℕ) : Type 0 where
   pub plan : Plan
   pub entries : List Entry

@@ -14,7 +14,7 @@ ghost use Rattle.planus_tie.specs.Holes.{chained_arm, chained, has_text as has_t
 use crate::bare::bare;
 use crate::defaults::push_integer;
 use crate::naming::Naming;
-use crate::pieces::{push_base, push_number, push_small, push_str};
+use crate::pieces::{push_base, push_capitals, push_number, push_small, push_str};
 use crate::reading::after;
 use planus_schema::{Base, Number};
 use std::alloc::{AllocError, Global};
@@ -127,6 +127,7 @@ fn push_member_hole(
 {
     match letter {
         b'V' => push_small(out, naming.member_of(holes.index, holes.place)),
+        b'N' => push_capitals(out, naming.member_of(holes.index, holes.place)),
         b'G' => push_str(out, offset_word(holes.base)),
         b'R' => push_view_type(out, naming, holes.base),
         b'E' => push_str(out, view_call(holes.base)),

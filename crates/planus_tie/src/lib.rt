@@ -5,6 +5,7 @@
 
 mod bare;
 mod calls;
+mod constants;
 mod defaults;
 mod entries;
 mod enums;

@@ -12,6 +12,7 @@ ghost use Rattle.planus_tie.specs.Wanted.{group_mark as group_mark_lem, group_te
 
 use crate::bare::bare;
 use crate::calls::call_of;
+use crate::constants::have_constants;
 use crate::entries::{back, front, group_mark, group_of, list_of};
 use crate::groups::{Entry, entries_of};
 use crate::keys::have_keys;
@@ -134,7 +135,10 @@ fn is_plan_tied(
     if !has_lines(alloc, naming, plan.table, entries, &plan.order, text)? {
         return Ok(false);
     }
-    have_keys(alloc, naming, None, &plan.lines, text)
+    if !have_keys(alloc, naming, None, &plan.lines, text)? {
+        return Ok(false);
+    }
+    have_constants(alloc, naming, &plan.lines, text)
 }
 
 /// Returns whether this is the text of a table.

@@ -57,7 +57,7 @@ fn is_flags(declared: &[Declared], index: usize) -> bool
     }
 }
 
-fn is_constant(naming: &Naming<'_>, base: Base) -> bool
+pub(crate) fn is_constant(naming: &Naming<'_>, base: Base) -> bool
     ensures { result ≡ is_constant_lem naming.now base }
 {
     match base {
