@@ -1,9 +1,7 @@
 //! A text without its layout.
 
 ghost use Rattle.std.specs.Prelude.{◌≡◌, ◌++◌, ◌∷◌, IfOk, OnOk, List, ℕ, ◌==◌, false, if◌then◌else◌};
-ghost use Rattle.planus_tie.specs.Bare.{bare as bare_lem, bare_from, widened as widened_lem};
-ghost use Rattle.planus_tie.specs.Bare.{is_blank as is_blank_lem, is_letter as is_letter_lem};
-ghost use Rattle.planus_tie.specs.Bare.{joint, begins_comment as begins_comment_lem};
+ghost use Rattle.planus_tie.specs.Bare as spec;
 
 use std::alloc::{AllocError, Global};
 
@@ -16,31 +14,31 @@ struct Before {
 }
 
 fn is_blank(b: u8) -> bool
-    ensures { result ≡ is_blank_lem b }
+    ensures { result ≡ spec.is_blank b }
 {
     b == b' ' || b == b'\n'
 }
 
 fn is_letter(b: u8) -> bool
-    ensures { result ≡ is_letter_lem b }
+    ensures { result ≡ spec.is_letter b }
 {
     b.is_ascii_alphanumeric() || b == b'_'
 }
 
 fn widened(gap: u8) -> u8
-    ensures { result ≡ widened_lem gap }
+    ensures { result ≡ spec.widened gap }
 {
     if gap == b',' { b',' } else { b' ' }
 }
 
 fn begins_comment(b: u8, after: &[u8]) -> bool
-    ensures { result ≡ begins_comment_lem b after.now }
+    ensures { result ≡ spec.begins_comment b after.now }
 {
     b == b'/' && after.starts_with(b"/")
 }
 
 fn push_joint(out: &mut Vec<u8>, before: Before, b: u8) -> Result<(), AllocError>
-    ensures { OnOk result (out.new.items ≡ out.old.items ++ joint before.last before.gap b) }
+    ensures { OnOk result (out.new.items ≡ out.old.items ++ spec.joint before.last before.gap b) }
 {
     if before.gap == b',' {
         if b != b')' && b != b'}' {
@@ -54,9 +52,9 @@ fn push_joint(out: &mut Vec<u8>, before: Before, b: u8) -> Result<(), AllocError
 
 fn put(out: &mut Vec<u8>, before: Before, b: u8) -> Result<Before, AllocError>
     ensures { IfOk result (λ now. (bs : List ℕ) →
-        out.new.items ++ bare_from now.comment now.last now.gap bs
-        ≡ out.old.items ++ (joint before.last before.gap b
-        ++ (if b == 44 then bare_from false b b bs else b ∷ bare_from false b 0 bs))) }
+        out.new.items ++ spec.bare_from now.comment now.last now.gap bs
+        ≡ out.old.items ++ (spec.joint before.last before.gap b
+        ++ (if b == 44 then spec.bare_from false b b bs else b ∷ spec.bare_from false b 0 bs))) }
 {
     push_joint(out, before, b)?;
     let comma = b == b',';
@@ -71,8 +69,9 @@ fn put(out: &mut Vec<u8>, before: Before, b: u8) -> Result<Before, AllocError>
 }
 
 fn step(out: &mut Vec<u8>, before: Before, b: u8, after: &[u8]) -> Result<Before, AllocError>
-    ensures { IfOk result (λ now. out.new.items ++ bare_from now.comment now.last now.gap after.now
-        ≡ out.old.items ++ bare_from before.comment before.last before.gap (b ∷ after.now)) }
+    ensures { IfOk result (λ now. out.new.items ++ spec.bare_from now.comment now.last now.gap
+        after.now
+        ≡ out.old.items ++ spec.bare_from before.comment before.last before.gap (b ∷ after.now)) }
 {
     if before.comment {
         return Ok(Before {
@@ -94,7 +93,7 @@ fn step(out: &mut Vec<u8>, before: Before, b: u8, after: &[u8]) -> Result<Before
 
 /// Returns a text without comments, blanks but between words, and commas before brackets.
 pub(crate) fn bare(alloc: Global, text: &[u8]) -> Result<Vec<u8>, AllocError>
-    ensures { IfOk result (λ out. out.items ≡ bare_lem text.now) }
+    ensures { IfOk result (λ out. out.items ≡ spec.bare text.now) }
 {
     let mut out = Vec::new(alloc);
     let mut before = Before {

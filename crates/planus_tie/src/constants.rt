@@ -3,13 +3,8 @@
 ghost use Rattle.std.specs.Prelude.{◌≡◌, IfOk, Some, map};
 ghost use Rattle.std.specs.Option.{option_copied};
 ghost use Rattle.planus_schema.specs.Plans.{line_of};
-ghost use Rattle.planus_tie.specs.Bare.{bare as bare_lem};
-ghost use Rattle.planus_tie.specs.Constants.{default_holes as default_holes_lem};
-ghost use Rattle.planus_tie.specs.Constants.{is_float_text as is_float_text_lem};
-ghost use Rattle.planus_tie.specs.Constants.{is_counted as is_counted_lem};
-ghost use Rattle.planus_tie.specs.Constants.{constant_text as constant_text_lem};
-ghost use Rattle.planus_tie.specs.Constants.{constant_after as constant_after_lem};
-ghost use Rattle.planus_tie.specs.Constants.{have_constants as have_constants_lem};
+ghost use Rattle.planus_tie.specs.Bare as bare_spec;
+ghost use Rattle.planus_tie.specs.Constants as spec;
 ghost use Rattle.planus_tie.specs.Holes.{filled};
 
 use crate::bare::bare;
@@ -23,7 +18,7 @@ use planus_schema::{Base, Line, Value};
 use std::alloc::{AllocError, Global};
 
 fn default_holes(line: &Line<'_>) -> Holes
-    ensures { result ≡ default_holes_lem (line_of line.now) }
+    ensures { result ≡ spec.default_holes (line_of line.now) }
 {
     Holes {
         index: line.table,
@@ -38,7 +33,7 @@ fn default_holes(line: &Line<'_>) -> Holes
 }
 
 fn is_float_text(default: &Option<Value>) -> bool
-    ensures { result ≡ is_float_text_lem default.now }
+    ensures { result ≡ spec.is_float_text default.now }
 {
     match default {
         Some(Value::Float(_)) => true,
@@ -47,7 +42,7 @@ fn is_float_text(default: &Option<Value>) -> bool
 }
 
 fn is_counted(naming: &Naming<'_>, line: &Line<'_>) -> bool
-    ensures { result ≡ is_counted_lem naming.now (line_of line.now) }
+    ensures { result ≡ spec.is_counted naming.now (line_of line.now) }
 {
     has_default(line.field)
         && is_constant(naming, line.field.kind.base)
@@ -55,7 +50,7 @@ fn is_counted(naming: &Naming<'_>, line: &Line<'_>) -> bool
 }
 
 fn constant_text(base: Base) -> &'static str
-    ensures { result.now ≡ constant_text_lem base }
+    ensures { result.now ≡ spec.constant_text base }
 {
     match base {
         Base::Enum(_) => "pub const DEFAULT_$N: $b = $b { bits: $i };",
@@ -64,8 +59,8 @@ fn constant_text(base: Base) -> &'static str
 }
 
 fn constant_of(alloc: Global, naming: &Naming<'_>, line: &Line<'_>) -> Result<Vec<u8>, AllocError>
-    ensures { IfOk result (λ out. out.items ≡ bare_lem (filled naming.now
-        (default_holes_lem (line_of line.now)) (constant_text_lem line.now.field.now.kind.base))) }
+    ensures { IfOk result (λ out. out.items ≡ bare_spec.bare (filled naming.now
+        (spec.default_holes (line_of line.now)) (spec.constant_text line.now.field.now.kind.base))) }
 {
     let mut out = Vec::new(alloc);
     let text = constant_text(line.field.kind.base);
@@ -80,7 +75,7 @@ fn constant_after<'a>(
     text: &'a [u8],
 ) -> Result<Option<&'a [u8]>, AllocError>
     ensures { IfOk result (λ rest. option_copied rest
-        ≡ constant_after_lem naming.now (line_of line.now) text.now) }
+        ≡ spec.constant_after naming.now (line_of line.now) text.now) }
 {
     if !is_counted(naming, line) {
         return Ok(Some(text));
@@ -97,7 +92,7 @@ pub(crate) fn have_constants(
     text: &[u8],
 ) -> Result<bool, AllocError>
     ensures { IfOk result (λ b. b
-        ≡ have_constants_lem naming.now (Some text.now) (map line_of lines.now)) }
+        ≡ spec.have_constants naming.now (Some text.now) (map line_of lines.now)) }
 {
     let mut rest = text;
     for line in lines {

@@ -3,10 +3,7 @@
 ghost use Rattle.std.specs.Prelude.{◌≡◌, ◌++◌, OnOk, codes};
 ghost use Rattle.std.specs.List.{slice_get};
 ghost use Rattle.planus_schema.specs.Plans.{line_of};
-ghost use Rattle.planus_tie.specs.Wanted.{default_number as default_number_lem, integer_text};
-ghost use Rattle.planus_tie.specs.Wanted.{truth_text, constant_text, scalar_default, default_text};
-ghost use Rattle.planus_tie.specs.Wanted.{default_argument, enum_default, is_same as is_same_lem};
-ghost use Rattle.planus_tie.specs.Wanted.{place_of as place_of_lem, type_of, member_of};
+ghost use Rattle.planus_tie.specs.Wanted as spec;
 
 use crate::kinds::has_default;
 use crate::naming::Naming;
@@ -16,7 +13,7 @@ use std::alloc::AllocError;
 
 /// Returns the integer of a default; it is 0 where none is given.
 pub fn default_number(default: &Option<Value>) -> Number
-    ensures { result ≡ default_number_lem default.now }
+    ensures { result ≡ spec.default_number default.now }
 {
     match default {
         Some(Value::Integer(number)) => *number,
@@ -28,14 +25,14 @@ pub fn default_number(default: &Option<Value>) -> Number
 }
 
 pub(crate) fn push_integer(out: &mut Vec<u8>, number: Number) -> Result<(), AllocError>
-    ensures { OnOk result (out.new.items ≡ out.old.items ++ integer_text number) }
+    ensures { OnOk result (out.new.items ≡ out.old.items ++ spec.integer_text number) }
 {
     push_str(out, if number.negative { "-" } else { "" })?;
     push_number(out, number.magnitude)
 }
 
 fn push_truth(out: &mut Vec<u8>, number: Number) -> Result<(), AllocError>
-    ensures { OnOk result (out.new.items ≡ out.old.items ++ truth_text number) }
+    ensures { OnOk result (out.new.items ≡ out.old.items ++ spec.truth_text number) }
 {
     push_str(
         out,
@@ -48,7 +45,7 @@ fn push_truth(out: &mut Vec<u8>, number: Number) -> Result<(), AllocError>
 }
 
 fn push_constant(out: &mut Vec<u8>, name: &[u8]) -> Result<(), AllocError>
-    ensures { OnOk result (out.new.items ≡ out.old.items ++ constant_text name.now) }
+    ensures { OnOk result (out.new.items ≡ out.old.items ++ spec.constant_text name.now) }
 {
     push_str(out, "DEFAULT_")?;
     push_capitals(out, name)
@@ -60,7 +57,8 @@ fn push_scalar(
     name: &[u8],
     number: Number,
 ) -> Result<(), AllocError>
-    ensures { OnOk result (out.new.items ≡ out.old.items ++ scalar_default scalar name.now number) }
+    ensures { OnOk result (out.new.items ≡ out.old.items ++ spec.scalar_default scalar name.now
+        number) }
 {
     match scalar {
         Scalar::Bool => push_truth(out, number),
@@ -70,13 +68,13 @@ fn push_scalar(
 }
 
 fn is_same(a: Number, b: Number) -> bool
-    ensures { result ≡ is_same_lem a b }
+    ensures { result ≡ spec.is_same a b }
 {
     a.negative == b.negative && a.magnitude == b.magnitude
 }
 
 fn place_of(number: Number, values: &[EnumValue]) -> usize
-    ensures { result ≡ place_of_lem number values.now }
+    ensures { result ≡ spec.place_of number values.now }
 {
     let mut place = 0;
     'values: for value in values {
@@ -94,8 +92,8 @@ fn push_variant(
     index: usize,
     place: usize,
 ) -> Result<(), AllocError>
-    ensures { OnOk result (out.new.items ≡ out.old.items ++ (type_of naming.now index
-        ++ (codes "::" ++ member_of naming.now index place))) }
+    ensures { OnOk result (out.new.items ≡ out.old.items ++ (spec.type_of naming.now index
+        ++ (codes "::" ++ spec.member_of naming.now index place))) }
 {
     out.extend_from_slice(naming.type_of(index))?;
     push_str(out, "::")?;
@@ -109,7 +107,7 @@ fn push_enum(
     name: &[u8],
     number: Number,
 ) -> Result<(), AllocError>
-    ensures { OnOk result (out.new.items ≡ out.old.items ++ enum_default naming.now index
+    ensures { OnOk result (out.new.items ≡ out.old.items ++ spec.enum_default naming.now index
         (slice_get naming.now.declared.now index) name.now number) }
 {
     match naming.declared.get(index) {
@@ -129,7 +127,7 @@ pub(crate) fn push_default(
     line: &Line<'_>,
 ) -> Result<(), AllocError>
     ensures { OnOk result (out.new.items ≡ out.old.items
-        ++ default_text naming.now (line_of line.now)) }
+        ++ spec.default_text naming.now (line_of line.now)) }
 {
     let name = naming.member_of(line.table, line.place);
     let number = default_number(&line.field.default);
@@ -147,7 +145,7 @@ pub(crate) fn push_default_argument(
     line: &Line<'_>,
 ) -> Result<(), AllocError>
     ensures { OnOk result (out.new.items ≡ out.old.items
-        ++ default_argument naming.now (line_of line.now)) }
+        ++ spec.default_argument naming.now (line_of line.now)) }
 {
     if has_default(line.field) {
         push_default(out, naming, line)?;

@@ -2,11 +2,7 @@
 
 ghost use Rattle.std.specs.Prelude.{◌≡◌, ◌++◌, IfOk, OnOk, if◌then◌else◌, [], take, drop};
 ghost use Rattle.planus_schema.specs.Plans.{line_of};
-ghost use Rattle.planus_tie.specs.Wanted.{encoded, entry_text, list_text, slots_text, kind_text};
-ghost use Rattle.planus_tie.specs.Wanted.{given_text, or_default_text, value_text};
-ghost use Rattle.planus_tie.specs.Wanted.{lines_text, part_text, parts_text, group_text};
-ghost use Rattle.planus_tie.specs.Wanted.{group_head};
-ghost use Rattle.planus_tie.specs.Wanted.{group_mark as group_mark_lem};
+ghost use Rattle.planus_tie.specs.Wanted as spec;
 
 use crate::defaults::push_default;
 use crate::groups::Entry;
@@ -17,7 +13,7 @@ use planus_schema::{FieldType, Line, TableField};
 use std::alloc::{AllocError, Global};
 
 fn push_slots(out: &mut Vec<u8>, field: &TableField) -> Result<(), AllocError>
-    ensures { OnOk result (out.new.items ≡ out.old.items ++ slots_text field.now) }
+    ensures { OnOk result (out.new.items ≡ out.old.items ++ spec.slots_text field.now) }
 {
     if !is_union(field.kind) {
         return push_number(out, field.slot as u64);
@@ -39,7 +35,7 @@ fn push_if(out: &mut Vec<u8>, wanted: bool, text: &str) -> Result<(), AllocError
 }
 
 fn push_encoded(out: &mut Vec<u8>, naming: &Naming<'_>, kind: FieldType) -> Result<(), AllocError>
-    ensures { OnOk result (out.new.items ≡ out.old.items ++ encoded naming.now kind) }
+    ensures { OnOk result (out.new.items ≡ out.old.items ++ spec.encoded naming.now kind) }
 {
     push_if(out, kind.vector, "Offset<List<")?;
     push_if(out, is_reference(kind.base), "Offset<")?;
@@ -49,7 +45,7 @@ fn push_encoded(out: &mut Vec<u8>, naming: &Naming<'_>, kind: FieldType) -> Resu
 }
 
 fn push_kind(out: &mut Vec<u8>, naming: &Naming<'_>, kind: FieldType) -> Result<(), AllocError>
-    ensures { OnOk result (out.new.items ≡ out.old.items ++ kind_text naming.now kind) }
+    ensures { OnOk result (out.new.items ≡ out.old.items ++ spec.kind_text naming.now kind) }
 {
     if !is_union(kind) {
         return push_encoded(out, naming, kind);
@@ -60,7 +56,7 @@ fn push_kind(out: &mut Vec<u8>, naming: &Naming<'_>, kind: FieldType) -> Result<
 
 fn push_given(out: &mut Vec<u8>, naming: &Naming<'_>, line: &Line<'_>) -> Result<(), AllocError>
     ensures { OnOk result (out.new.items ≡ out.old.items
-        ++ given_text naming.now (line_of line.now)) }
+        ++ spec.given_text naming.now (line_of line.now)) }
 {
     push_str(out, "fields.")?;
     out.extend_from_slice(naming.member_of(line.table, line.place))
@@ -72,7 +68,7 @@ fn push_or_default(
     line: &Line<'_>,
 ) -> Result<(), AllocError>
     ensures { OnOk result (out.new.items ≡ out.old.items
-        ++ or_default_text naming.now (line_of line.now)) }
+        ++ spec.or_default_text naming.now (line_of line.now)) }
 {
     push_str(out, "OrDefault{value:")?;
     push_given(out, naming, line)?;
@@ -81,7 +77,7 @@ fn push_or_default(
 
 fn push_value(out: &mut Vec<u8>, naming: &Naming<'_>, line: &Line<'_>) -> Result<(), AllocError>
     ensures { OnOk result (out.new.items ≡ out.old.items
-        ++ value_text naming.now (line_of line.now)) }
+        ++ spec.value_text naming.now (line_of line.now)) }
 {
     let field = line.field;
     if has_default(field) {
@@ -98,7 +94,7 @@ fn push_value(out: &mut Vec<u8>, naming: &Naming<'_>, line: &Line<'_>) -> Result
 
 fn push_entry(out: &mut Vec<u8>, naming: &Naming<'_>, line: &Line<'_>) -> Result<(), AllocError>
     ensures { OnOk result (out.new.items ≡ out.old.items
-        ++ entry_text naming.now (line_of line.now)) }
+        ++ spec.entry_text naming.now (line_of line.now)) }
 {
     push_slots(out, line.field)?;
     push_str(out, ":")?;
@@ -113,7 +109,7 @@ fn push_entries(
     naming: &Naming<'_>,
     order: &[Line<'_>],
 ) -> Result<(), AllocError>
-    ensures { OnOk result (out.new.items ≡ out.old.items ++ lines_text naming.now order.now) }
+    ensures { OnOk result (out.new.items ≡ out.old.items ++ spec.lines_text naming.now order.now) }
 {
     for line in order {
         push_entry(out, naming, line)?;
@@ -128,7 +124,7 @@ fn push_part(
     lines: &[Line<'_>],
 ) -> Result<(), AllocError>
     ensures { OnOk result (out.new.items
-        ≡ out.old.items ++ part_text naming.now group lines.now) }
+        ≡ out.old.items ++ spec.part_text naming.now group lines.now) }
 {
     if group == 0 {
         return push_entries(out, naming, lines);
@@ -159,7 +155,7 @@ fn push_parts(
     order: &[Line<'_>],
 ) -> Result<(), AllocError>
     ensures { OnOk result (out.new.items
-        ≡ out.old.items ++ parts_text naming.now entries.now order.now) }
+        ≡ out.old.items ++ spec.parts_text naming.now entries.now order.now) }
 {
     let mut rest = order;
     for entry in entries {
@@ -178,7 +174,7 @@ pub(crate) fn list_of(
     order: &[Line<'_>],
 ) -> Result<Vec<u8>, AllocError>
     ensures { IfOk result (λ text. text.items
-        ≡ list_text naming.now table entries.now order.now) }
+        ≡ spec.list_text naming.now table entries.now order.now) }
 {
     let mut out = Vec::new(alloc);
     push_parts(&mut out, naming, entries, order)?;
@@ -190,7 +186,7 @@ pub(crate) fn list_of(
 
 /// Returns how a group's value begins.
 pub(crate) fn group_mark(alloc: Global, group: usize) -> Result<Vec<u8>, AllocError>
-    ensures { IfOk result (λ mark. mark.items ≡ group_mark_lem group) }
+    ensures { IfOk result (λ mark. mark.items ≡ spec.group_mark group) }
 {
     let mut out = Vec::new(alloc);
     push_str(&mut out, "let group")?;
@@ -206,7 +202,7 @@ fn push_group_head(
     group: usize,
 ) -> Result<(), AllocError>
     ensures { OnOk result (out.new.items
-        ≡ out.old.items ++ group_head naming.now table group) }
+        ≡ out.old.items ++ spec.group_head naming.now table group) }
 {
     out.extend_from_slice(naming.type_of(table))?;
     push_number(out, group as u64)?;
@@ -222,7 +218,7 @@ pub(crate) fn group_of(
     lines: &[Line<'_>],
 ) -> Result<Vec<u8>, AllocError>
     ensures { IfOk result (λ text. text.items
-        ≡ group_text naming.now table group lines.now) }
+        ≡ spec.group_text naming.now table group lines.now) }
 {
     let mut out = Vec::new(alloc);
     push_group_head(&mut out, naming, table, group)?;

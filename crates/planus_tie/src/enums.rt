@@ -1,12 +1,7 @@
 //! Whether the text of an enum is its schema's.
 
 ghost use Rattle.std.specs.Prelude.{◌≡◌, ◌++◌, IfOk, OnOk, IsTrue};
-ghost use Rattle.planus_tie.specs.Enums.{holes_of as holes_of_lem, enum_holes as enum_holes_lem};
-ghost use Rattle.planus_tie.specs.Enums.{values_from, variants_text, numbers_text, written_text};
-ghost use Rattle.planus_tie.specs.Enums.{start_text, listed_text as listed_text_lem};
-ghost use Rattle.planus_tie.specs.Enums.{asking_text as asking_text_lem};
-ghost use Rattle.planus_tie.specs.Enums.{found_text as found_text_lem};
-ghost use Rattle.planus_tie.specs.Enums.{is_enum_text as is_enum_text_lem, IsEnumTied};
+ghost use Rattle.planus_tie.specs.Enums as spec;
 
 use crate::bare::bare;
 use crate::holes::{Holes, has_text, push_chained, push_each, push_filled};
@@ -29,7 +24,7 @@ const FOUND_HEAD: &str = "#[tactic(auto, unfolding(crate::specs::$T::from_$p_on)
      $M_numbers.from_$p_on number } { match number {";
 
 pub(crate) fn holes_of(index: usize, one: &Enum, place: usize, number: Number) -> Holes
-    ensures { result ≡ holes_of_lem index one.now place number }
+    ensures { result ≡ spec.holes_of index one.now place number }
 {
     Holes {
         index,
@@ -44,7 +39,7 @@ pub(crate) fn holes_of(index: usize, one: &Enum, place: usize, number: Number) -
 }
 
 fn enum_holes(index: usize, one: &Enum) -> Holes
-    ensures { result ≡ enum_holes_lem index one.now }
+    ensures { result ≡ spec.enum_holes index one.now }
 {
     let number = Number {
         negative: false,
@@ -55,7 +50,7 @@ fn enum_holes(index: usize, one: &Enum) -> Holes
 
 pub(crate) fn values_of(alloc: Global, index: usize, one: &Enum) -> Result<Vec<Holes>, AllocError>
     ensures { IfOk result (λ values. values.items
-        ≡ values_from index one.now 0 one.now.values.items) }
+        ≡ spec.values_from index one.now 0 one.now.values.items) }
 {
     let mut values = Vec::new(alloc);
     let mut place = 0;
@@ -73,7 +68,7 @@ fn push_variants(
     values: &[Holes],
 ) -> Result<(), AllocError>
     ensures { OnOk result (out.new.items ≡ out.old.items
-        ++ variants_text naming.now own values.now) }
+        ++ spec.variants_text naming.now own values.now) }
 {
     push_filled(out, naming, own, "pub enum $T {")?;
     push_each(out, naming, values, "$n = $i,")?;
@@ -87,14 +82,14 @@ fn push_numbers(
     values: &[Holes],
 ) -> Result<(), AllocError>
     ensures { OnOk result (out.new.items ≡ out.old.items
-        ++ numbers_text naming.now own values.now) }
+        ++ spec.numbers_text naming.now own values.now) }
 {
     push_each(out, naming, values, "$T::$n => $i,")?;
     push_filled(out, naming, own, "} } }")
 }
 
 fn push_written(out: &mut Vec<u8>, naming: &Naming<'_>, own: Holes) -> Result<(), AllocError>
-    ensures { OnOk result (out.new.items ≡ out.old.items ++ written_text naming.now own) }
+    ensures { OnOk result (out.new.items ≡ out.old.items ++ spec.written_text naming.now own) }
 {
     push_layout(out, naming, own)?;
     push_filled(out, naming, own, "self.number().put(bytes);")?;
@@ -108,7 +103,7 @@ fn push_start(
     values: &[Holes],
 ) -> Result<(), AllocError>
     ensures { OnOk result (out.new.items ≡ out.old.items
-        ++ start_text naming.now own values.now) }
+        ++ spec.start_text naming.now own values.now) }
 {
     push_variants(out, naming, own, values)?;
     push_numbers(out, naming, own, values)?;
@@ -121,7 +116,7 @@ fn listed_text(
     own: Holes,
     values: &[Holes],
 ) -> Result<Vec<u8>, AllocError>
-    ensures { IfOk result (λ out. out.items ≡ listed_text_lem naming.now own values.now) }
+    ensures { IfOk result (λ out. out.items ≡ spec.listed_text naming.now own values.now) }
 {
     let mut out = Vec::new(alloc);
     push_start(&mut out, naming, own, values)?;
@@ -137,7 +132,7 @@ fn asking_text(
     own: Holes,
     values: &[Holes],
 ) -> Result<Vec<u8>, AllocError>
-    ensures { IfOk result (λ out. out.items ≡ asking_text_lem naming.now own values.now) }
+    ensures { IfOk result (λ out. out.items ≡ spec.asking_text naming.now own values.now) }
 {
     let mut out = Vec::new(alloc);
     push_start(&mut out, naming, own, values)?;
@@ -151,7 +146,7 @@ fn found_text(
     own: Holes,
     values: &[Holes],
 ) -> Result<Vec<u8>, AllocError>
-    ensures { IfOk result (λ out. out.items ≡ found_text_lem naming.now own values.now) }
+    ensures { IfOk result (λ out. out.items ≡ spec.found_text naming.now own values.now) }
 {
     let mut out = Vec::new(alloc);
     push_chained(
@@ -173,7 +168,7 @@ fn is_enum_text(
     values: &[Holes],
     text: &[u8],
 ) -> Result<bool, AllocError>
-    ensures { IfOk result (λ b. b ≡ is_enum_text_lem naming.now own values.now text.now) }
+    ensures { IfOk result (λ b. b ≡ spec.is_enum_text naming.now own values.now text.now) }
 {
     let listed = listed_text(alloc, naming, own, values)?;
     if has_text(alloc, text, &listed)? {
@@ -195,7 +190,7 @@ pub(crate) fn is_enum_tied(
     one: &Enum,
     text: &[u8],
 ) -> Result<bool, AllocError>
-    ensures { IfOk result (λ b. IsTrue b → IsEnumTied naming.now index one.now text.now) }
+    ensures { IfOk result (λ b. IsTrue b → spec.IsEnumTied naming.now index one.now text.now) }
 {
     let values = values_of(alloc, index, one)?;
     let without = bare(alloc, text)?;

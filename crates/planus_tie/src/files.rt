@@ -2,12 +2,7 @@
 
 ghost use Rattle.std.specs.Prelude.{◌≡◌, ◌++◌, IfOk, IsTrue, codes, None};
 ghost use Rattle.std.specs.Option.{option_copied};
-ghost use Rattle.planus_tie.specs.Files.{path_of as path_of_lem, text_at as text_at_lem};
-ghost use Rattle.planus_tie.specs.Files.{newer as newer_lem, IsTextTied, IsBodyTied};
-ghost use Rattle.planus_tie.specs.Files.{AreDeclaredTied};
-ghost use Rattle.planus_tie.specs.Files.{view_path_of as view_path_of_lem, IsBodyViewTied};
-ghost use Rattle.planus_tie.specs.Files.{AreViewsTied, has_tables as has_tables_lem, HasSchema};
-ghost use Rattle.planus_tie.specs.Files.{AreTied, AreVerifiedTied, IsViewTextTied};
+ghost use Rattle.planus_tie.specs.Files as spec;
 
 use crate::enums::is_enum_tied;
 use crate::flags::is_flags_tied;
@@ -30,7 +25,7 @@ pub struct PrintedFile {
 }
 
 fn path_of(alloc: Global, naming: &Naming<'_>, index: usize) -> Result<Vec<u8>, AllocError>
-    ensures { IfOk result (λ path. path.items ≡ path_of_lem naming.now index) }
+    ensures { IfOk result (λ path. path.items ≡ spec.path_of naming.now index) }
 {
     let mut out = Vec::new(alloc);
     push_str(&mut out, "src/")?;
@@ -40,7 +35,7 @@ fn path_of(alloc: Global, naming: &Naming<'_>, index: usize) -> Result<Vec<u8>, 
 }
 
 fn newer<'a>(path: &[u8], found: Option<&'a [u8]>, file: &'a PrintedFile) -> Option<&'a [u8]>
-    ensures { option_copied result ≡ newer_lem path.now (option_copied found.entry) file.now }
+    ensures { option_copied result ≡ spec.newer path.now (option_copied found.entry) file.now }
 {
     if file.path.as_bytes() == path {
         Some(file.text.as_bytes())
@@ -50,7 +45,7 @@ fn newer<'a>(path: &[u8], found: Option<&'a [u8]>, file: &'a PrintedFile) -> Opt
 }
 
 fn text_at<'a>(files: &'a [PrintedFile], path: &[u8]) -> Option<&'a [u8]>
-    ensures { option_copied result ≡ text_at_lem path.now files.now }
+    ensures { option_copied result ≡ spec.text_at path.now files.now }
 {
     let mut found = None;
     'files: for file in files {
@@ -66,7 +61,7 @@ fn is_text_tied(
     body: &Body,
     text: &[u8],
 ) -> Result<bool, AllocError>
-    ensures { IfOk result (λ b. IsTrue b → IsTextTied naming.now index body.now text.now) }
+    ensures { IfOk result (λ b. IsTrue b → spec.IsTextTied naming.now index body.now text.now) }
 {
     match body {
         Body::Table(one) => is_table_tied(alloc, naming, index, one, text),
@@ -84,7 +79,7 @@ fn is_body_tied(
     index: usize,
     body: &Body,
 ) -> Result<bool, AllocError>
-    ensures { IfOk result (λ b. IsTrue b → IsBodyTied naming.now files.now index body.now) }
+    ensures { IfOk result (λ b. IsTrue b → spec.IsBodyTied naming.now files.now index body.now) }
 {
     let path = path_of(alloc, naming, index)?;
     match text_at(files, &path) {
@@ -100,7 +95,7 @@ fn are_declared_tied(
     files: &[PrintedFile],
 ) -> Result<bool, AllocError>
     ensures { IfOk result (λ b. IsTrue b
-        → AreDeclaredTied naming.now files.now 0 naming.now.declared.now) }
+        → spec.AreDeclaredTied naming.now files.now 0 naming.now.declared.now) }
 {
     let mut index = 0;
     'declared: for one in naming.declared {
@@ -113,7 +108,7 @@ fn are_declared_tied(
 }
 
 fn view_path_of(alloc: Global, naming: &Naming<'_>, index: usize) -> Result<Vec<u8>, AllocError>
-    ensures { IfOk result (λ path. path.items ≡ view_path_of_lem naming.now index) }
+    ensures { IfOk result (λ path. path.items ≡ spec.view_path_of naming.now index) }
 {
     let mut out = Vec::new(alloc);
     push_str(&mut out, "src/verified/")?;
@@ -131,7 +126,7 @@ fn is_view_text_tied(
     one: &Table,
     text: Option<&[u8]>,
 ) -> Result<bool, AllocError>
-    ensures { IfOk result (λ b. IsTrue b → IsViewTextTied naming.now ranks.now totals.now index
+    ensures { IfOk result (λ b. IsTrue b → spec.IsViewTextTied naming.now ranks.now totals.now index
         one.now (option_copied text.entry)) }
 {
     match text {
@@ -149,7 +144,7 @@ fn is_body_view_tied(
     index: usize,
     body: &Body,
 ) -> Result<bool, AllocError>
-    ensures { IfOk result (λ b. IsTrue b → IsBodyViewTied naming.now ranks.now totals.now
+    ensures { IfOk result (λ b. IsTrue b → spec.IsBodyViewTied naming.now ranks.now totals.now
         files.now index body.now) }
 {
     let Body::Table(one) = body else {
@@ -168,7 +163,7 @@ fn are_views_tied(
     totals: &[bool],
     files: &[PrintedFile],
 ) -> Result<bool, AllocError>
-    ensures { IfOk result (λ b. IsTrue b → AreViewsTied naming.now ranks.now totals.now
+    ensures { IfOk result (λ b. IsTrue b → spec.AreViewsTied naming.now ranks.now totals.now
         files.now 0 naming.now.declared.now) }
 {
     let mut index = 0;
@@ -182,7 +177,7 @@ fn are_views_tied(
 }
 
 fn has_tables(declared: &[Declared]) -> bool
-    ensures { result ≡ has_tables_lem declared.now }
+    ensures { result ≡ spec.has_tables declared.now }
 {
     'declared: for one in declared {
         if is_table(&one.body) {
@@ -198,7 +193,7 @@ fn has_schema(
     ranks: &[usize],
     files: &[PrintedFile],
 ) -> Result<bool, AllocError>
-    ensures { IfOk result (λ b. IsTrue b → HasSchema naming.now ranks.now files.now) }
+    ensures { IfOk result (λ b. IsTrue b → spec.HasSchema naming.now ranks.now files.now) }
 {
     if !has_tables(naming.declared) {
         return Ok(true);
@@ -214,7 +209,7 @@ fn are_verified_tied(
     naming: &Naming<'_>,
     files: &[PrintedFile],
 ) -> Result<bool, AllocError>
-    ensures { IfOk result (λ b. IsTrue b → AreVerifiedTied naming.now files.now) }
+    ensures { IfOk result (λ b. IsTrue b → spec.AreVerifiedTied naming.now files.now) }
 {
     let ranks = ranks_of(alloc, naming.declared)?;
     let totals = totals_of(alloc, naming.declared)?;
@@ -232,7 +227,7 @@ pub fn are_tied(
     files: &[PrintedFile],
     verified: bool,
 ) -> Result<bool, AllocError>
-    ensures { IfOk result (λ b. IsTrue b → AreTied verified naming.now files.now) }
+    ensures { IfOk result (λ b. IsTrue b → spec.AreTied verified naming.now files.now) }
 {
     if !are_declared_tied(alloc, naming, files)? {
         return Ok(false);

@@ -1,10 +1,7 @@
 //! Whether the text of a set of flags is its schema's.
 
 ghost use Rattle.std.specs.Prelude.{◌≡◌, ◌++◌, IfOk, OnOk, IsTrue};
-ghost use Rattle.planus_tie.specs.Flags.{flags_holes as flags_holes_lem, bits_text};
-ghost use Rattle.planus_tie.specs.Flags.{clause_text, items_text, stored_text};
-ghost use Rattle.planus_tie.specs.Flags.{flags_text as flags_text_lem};
-ghost use Rattle.planus_tie.specs.Flags.{is_flags_text as is_flags_text_lem, IsFlagsTied};
+ghost use Rattle.planus_tie.specs.Flags as spec;
 
 use crate::bare::bare;
 use crate::enums::{holes_of, values_of};
@@ -25,7 +22,7 @@ const SET_METHODS: &str = "pub fn has(&self, others: $T) -> bool ensures { \
      { $T { bits: self.bits | others.bits } }";
 
 fn flags_holes(index: usize, one: &Enum) -> Holes
-    ensures { result ≡ flags_holes_lem index one.now }
+    ensures { result ≡ spec.flags_holes index one.now }
 {
     let number = Number {
         negative: false,
@@ -41,7 +38,7 @@ fn push_bits(
     values: &[Holes],
 ) -> Result<(), AllocError>
     ensures { OnOk result (out.new.items ≡ out.old.items
-        ++ bits_text naming.now own values.now) }
+        ++ spec.bits_text naming.now own values.now) }
 {
     push_filled(out, naming, own, SET_HEAD)?;
     push_each(out, naming, values, "pub const $n: $T = $T { bits: $i };")
@@ -54,7 +51,7 @@ fn push_clause(
     values: &[Holes],
 ) -> Result<(), AllocError>
     ensures { OnOk result (out.new.items ≡ out.old.items
-        ++ clause_text naming.now own values.now) }
+        ++ spec.clause_text naming.now own values.now) }
 {
     push_filled(
         out,
@@ -73,7 +70,7 @@ fn push_items(
     values: &[Holes],
 ) -> Result<(), AllocError>
     ensures { OnOk result (out.new.items ≡ out.old.items
-        ++ items_text naming.now end.now own values.now) }
+        ++ spec.items_text naming.now end.now own values.now) }
 {
     push_filled(out, naming, own, "[] } { [")?;
     push_each(out, naming, values, "$,$T::$n")?;
@@ -81,7 +78,7 @@ fn push_items(
 }
 
 fn push_stored(out: &mut Vec<u8>, naming: &Naming<'_>, own: Holes) -> Result<(), AllocError>
-    ensures { OnOk result (out.new.items ≡ out.old.items ++ stored_text naming.now own) }
+    ensures { OnOk result (out.new.items ≡ out.old.items ++ spec.stored_text naming.now own) }
 {
     push_layout(out, naming, own)?;
     push_filled(out, naming, own, "put_fields!(self, bytes; bits: $S);")?;
@@ -101,7 +98,7 @@ fn flags_text(
     own: Holes,
     values: &[Holes],
 ) -> Result<Vec<u8>, AllocError>
-    ensures { IfOk result (λ out. out.items ≡ flags_text_lem naming.now end.now own values.now) }
+    ensures { IfOk result (λ out. out.items ≡ spec.flags_text naming.now end.now own values.now) }
 {
     let mut out = Vec::new(alloc);
     push_bits(&mut out, naming, own, values)?;
@@ -119,7 +116,7 @@ fn is_flags_text(
     values: &[Holes],
     text: &[u8],
 ) -> Result<bool, AllocError>
-    ensures { IfOk result (λ b. b ≡ is_flags_text_lem naming.now own values.now text.now) }
+    ensures { IfOk result (λ b. b ≡ spec.is_flags_text naming.now own values.now text.now) }
 {
     let wanted = flags_text(alloc, naming, "] } }", own, values)?;
     if has_text(alloc, text, &wanted)? {
@@ -137,7 +134,7 @@ pub(crate) fn is_flags_tied(
     one: &Enum,
     text: &[u8],
 ) -> Result<bool, AllocError>
-    ensures { IfOk result (λ b. IsTrue b → IsFlagsTied naming.now index one.now text.now) }
+    ensures { IfOk result (λ b. IsTrue b → spec.IsFlagsTied naming.now index one.now text.now) }
 {
     let values = values_of(alloc, index, one)?;
     let without = bare(alloc, text)?;

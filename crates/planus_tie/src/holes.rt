@@ -1,15 +1,9 @@
 //! Texts with holes.
 
 ghost use Rattle.std.specs.Prelude.{◌≡◌, ◌++◌, IfOk, OnOk, decimal};
-ghost use Rattle.planus_tie.specs.Holes.{is_signed as is_signed_lem};
-ghost use Rattle.planus_tie.specs.Holes.{equality_word as equality_word_lem};
-ghost use Rattle.planus_tie.specs.Holes.{offset_word as offset_word_lem, view_type};
-ghost use Rattle.planus_tie.specs.Holes.{view_call as view_call_lem, member_hole};
-ghost use Rattle.planus_tie.specs.Holes.{bracketed, array_type, padding_text, place_text};
-ghost use Rattle.planus_tie.specs.Holes.{field_hole};
+ghost use Rattle.planus_tie.specs.Holes as spec;
 ghost use Rattle.planus_tie.specs.Wanted.{integer_text, base_word};
-ghost use Rattle.planus_tie.specs.Holes.{name_hole, number_hole, hole, filled, each, opening};
-ghost use Rattle.planus_tie.specs.Holes.{chained_arm, chained, has_text as has_text_lem};
+ghost use Rattle.planus_tie.specs.Holes.{hole, filled, each};
 
 use crate::bare::bare;
 use crate::defaults::push_integer;
@@ -33,7 +27,7 @@ pub(crate) struct Holes {
 }
 
 fn is_signed(base: Base) -> bool
-    ensures { result ≡ is_signed_lem base }
+    ensures { result ≡ spec.is_signed base }
 {
     match base {
         Base::Scalar(scalar) => scalar.fits(Number {
@@ -45,13 +39,13 @@ fn is_signed(base: Base) -> bool
 }
 
 fn equality_word(base: Base) -> &'static str
-    ensures { result.now ≡ equality_word_lem base }
+    ensures { result.now ≡ spec.equality_word base }
 {
     if is_signed(base) { "int_eq" } else { "nat_eq" }
 }
 
 fn name_of<'a>(naming: &Naming<'a>, holes: Holes, letter: u8) -> &'a [u8]
-    ensures { result.now ≡ name_hole naming.now holes letter }
+    ensures { result.now ≡ spec.name_hole naming.now holes letter }
 {
     match letter {
         b'T' => naming.type_of(holes.index),
@@ -68,7 +62,7 @@ fn push_number_hole(
     letter: u8,
 ) -> Result<(), AllocError>
     ensures { OnOk result (out.new.items ≡ out.old.items
-        ++ number_hole naming.now holes letter) }
+        ++ spec.number_hole naming.now holes letter) }
 {
     match letter {
         b'i' => push_integer(out, holes.number),
@@ -80,7 +74,7 @@ fn push_number_hole(
 }
 
 fn offset_word(base: Base) -> &'static str
-    ensures { result.now ≡ offset_word_lem base }
+    ensures { result.now ≡ spec.offset_word base }
 {
     match base {
         Base::Table(_) => "table",
@@ -90,7 +84,7 @@ fn offset_word(base: Base) -> &'static str
 }
 
 fn push_view_type(out: &mut Vec<u8>, naming: &Naming<'_>, base: Base) -> Result<(), AllocError>
-    ensures { OnOk result (out.new.items ≡ out.old.items ++ view_type naming.now base) }
+    ensures { OnOk result (out.new.items ≡ out.old.items ++ spec.view_type naming.now base) }
 {
     match base {
         Base::Table(index) => {
@@ -107,7 +101,7 @@ fn push_view_type(out: &mut Vec<u8>, naming: &Naming<'_>, base: Base) -> Result<
 }
 
 fn view_call(base: Base) -> &'static str
-    ensures { result.now ≡ view_call_lem base }
+    ensures { result.now ≡ spec.view_call base }
 {
     match base {
         Base::Table(_) => "read_view(buffer, offset)?",
@@ -123,7 +117,7 @@ fn push_member_hole(
     letter: u8,
 ) -> Result<(), AllocError>
     ensures { OnOk result (out.new.items ≡ out.old.items
-        ++ member_hole naming.now holes letter) }
+        ++ spec.member_hole naming.now holes letter) }
 {
     match letter {
         b'V' => push_small(out, naming.member_of(holes.index, holes.place)),
@@ -136,7 +130,7 @@ fn push_member_hole(
 }
 
 fn push_bracketed(out: &mut Vec<u8>, count: Option<usize>, text: &[u8]) -> Result<(), AllocError>
-    ensures { OnOk result (out.new.items ≡ out.old.items ++ bracketed count text.now) }
+    ensures { OnOk result (out.new.items ≡ out.old.items ++ spec.bracketed count text.now) }
 {
     match count {
         None => out.extend_from_slice(text),
@@ -153,7 +147,7 @@ fn push_bracketed_number(
     count: Option<usize>,
     number: u64,
 ) -> Result<(), AllocError>
-    ensures { OnOk result (out.new.items ≡ out.old.items ++ bracketed count (decimal number)) }
+    ensures { OnOk result (out.new.items ≡ out.old.items ++ spec.bracketed count (decimal number)) }
 {
     let mut digits = Vec::new(*out.allocator());
     push_number(&mut digits, number)?;
@@ -162,7 +156,7 @@ fn push_bracketed_number(
 
 fn push_array_type(out: &mut Vec<u8>, naming: &Naming<'_>, holes: Holes) -> Result<(), AllocError>
     ensures { OnOk result (out.new.items ≡ out.old.items
-        ++ array_type (base_word naming.now holes.base) holes.count) }
+        ++ spec.array_type (base_word naming.now holes.base) holes.count) }
 {
     match holes.count {
         None => push_base(out, naming, holes.base),
@@ -177,7 +171,7 @@ fn push_array_type(out: &mut Vec<u8>, naming: &Naming<'_>, holes: Holes) -> Resu
 }
 
 fn push_padding(out: &mut Vec<u8>, bytes: usize) -> Result<(), AllocError>
-    ensures { OnOk result (out.new.items ≡ out.old.items ++ padding_text bytes) }
+    ensures { OnOk result (out.new.items ≡ out.old.items ++ spec.padding_text bytes) }
 {
     if bytes == 0 {
         return Ok(());
@@ -188,7 +182,8 @@ fn push_padding(out: &mut Vec<u8>, bytes: usize) -> Result<(), AllocError>
 }
 
 fn push_offset(out: &mut Vec<u8>, count: Option<usize>, number: Number) -> Result<(), AllocError>
-    ensures { OnOk result (out.new.items ≡ out.old.items ++ bracketed count (integer_text number)) }
+    ensures { OnOk result (out.new.items ≡ out.old.items ++ spec.bracketed count
+        (integer_text number)) }
 {
     let mut digits = Vec::new(*out.allocator());
     push_integer(&mut digits, number)?;
@@ -196,7 +191,7 @@ fn push_offset(out: &mut Vec<u8>, count: Option<usize>, number: Number) -> Resul
 }
 
 fn push_place(out: &mut Vec<u8>, naming: &Naming<'_>, holes: Holes) -> Result<(), AllocError>
-    ensures { OnOk result (out.new.items ≡ out.old.items ++ place_text naming.now holes) }
+    ensures { OnOk result (out.new.items ≡ out.old.items ++ spec.place_text naming.now holes) }
 {
     let name = naming.member_of(holes.index, holes.place);
     if holes.place == 0 {
@@ -214,7 +209,7 @@ fn push_field_hole(
     letter: u8,
 ) -> Result<(), AllocError>
     ensures { OnOk result (out.new.items ≡ out.old.items
-        ++ field_hole naming.now holes letter) }
+        ++ spec.field_hole naming.now holes letter) }
 {
     match letter {
         b't' => push_array_type(out, naming, holes),
@@ -292,7 +287,7 @@ fn push_opening(
     holes: Holes,
 ) -> Result<(), AllocError>
     ensures { OnOk result (out.new.items ≡ out.old.items
-        ++ opening naming.now next.now head.now holes) }
+        ++ spec.opening naming.now next.now head.now holes) }
 {
     if holes.place % 10 != 0 {
         return Ok(());
@@ -312,7 +307,7 @@ fn push_chained_arm(
     holes: Holes,
 ) -> Result<(), AllocError>
     ensures { OnOk result (out.new.items ≡ out.old.items
-        ++ chained_arm naming.now next.now head.now arm.now holes) }
+        ++ spec.chained_arm naming.now next.now head.now arm.now holes) }
 {
     push_opening(out, naming, next, head, holes)?;
     push_filled(out, naming, holes, arm)
@@ -328,7 +323,7 @@ pub(crate) fn push_chained(
     arm: &str,
 ) -> Result<(), AllocError>
     ensures { OnOk result (out.new.items ≡ out.old.items
-        ++ chained naming.now next.now head.now arm.now members.now) }
+        ++ spec.chained naming.now next.now head.now arm.now members.now) }
 {
     for member in members {
         push_chained_arm(out, naming, next, head, arm, *member)?;
@@ -338,7 +333,7 @@ pub(crate) fn push_chained(
 
 /// Returns whether a text without layout has this one, whose layout doesn't count.
 pub(crate) fn has_text(alloc: Global, text: &[u8], wanted: &[u8]) -> Result<bool, AllocError>
-    ensures { IfOk result (λ b. b ≡ has_text_lem text.now wanted.now) }
+    ensures { IfOk result (λ b. b ≡ spec.has_text text.now wanted.now) }
 {
     let wanted = bare(alloc, wanted)?;
     Ok(after(&wanted, text).is_some())

@@ -3,11 +3,7 @@
 ghost use Rattle.std.specs.Prelude.{◌≡◌, IfOk, Some, map};
 ghost use Rattle.std.specs.Option.{option_copied};
 ghost use Rattle.planus_schema.specs.Plans.{line_of};
-ghost use Rattle.planus_tie.specs.Keys.{view_ending as view_ending_lem};
-ghost use Rattle.planus_tie.specs.Keys.{is_wrapped as is_wrapped_lem, key_head as key_head_lem};
-ghost use Rattle.planus_tie.specs.Keys.{key_call as key_call_lem, key_body as key_body_lem};
-ghost use Rattle.planus_tie.specs.Keys.{key_in as key_in_lem, key_after as key_after_lem};
-ghost use Rattle.planus_tie.specs.Keys.{have_keys as have_keys_lem};
+ghost use Rattle.planus_tie.specs.Keys as spec;
 
 use crate::naming::Naming;
 use crate::pieces::push_str;
@@ -17,7 +13,7 @@ use planus_schema::{Line, TableField};
 use std::alloc::{AllocError, Global};
 
 fn view_ending(views: Option<&[bool]>) -> &'static str
-    ensures { result.now ≡ view_ending_lem (option_copied views.entry) }
+    ensures { result.now ≡ spec.view_ending (option_copied views.entry) }
 {
     match views {
         None => "Ref",
@@ -26,7 +22,7 @@ fn view_ending(views: Option<&[bool]>) -> &'static str
 }
 
 fn is_wrapped(views: Option<&[bool]>, field: &TableField) -> bool
-    ensures { result ≡ is_wrapped_lem (option_copied views.entry) field.now }
+    ensures { result ≡ spec.is_wrapped (option_copied views.entry) field.now }
 {
     match views {
         None => false,
@@ -35,7 +31,8 @@ fn is_wrapped(views: Option<&[bool]>, field: &TableField) -> bool
 }
 
 fn key_head(alloc: Global, name: &[u8], views: Option<&[bool]>) -> Result<Vec<u8>, AllocError>
-    ensures { IfOk result (λ text. text.items ≡ key_head_lem name.now (option_copied views.entry)) }
+    ensures { IfOk result (λ text. text.items ≡ spec.key_head name.now
+        (option_copied views.entry)) }
 {
     let mut out = Vec::from_slice(alloc, name)?;
     push_str(&mut out, view_ending(views))?;
@@ -46,7 +43,7 @@ fn key_head(alloc: Global, name: &[u8], views: Option<&[bool]>) -> Result<Vec<u8
 }
 
 fn key_call(alloc: Global, name: &[u8], wrapped: bool) -> Result<Vec<u8>, AllocError>
-    ensures { IfOk result (λ text. text.items ≡ key_call_lem name.now wrapped) }
+    ensures { IfOk result (λ text. text.items ≡ spec.key_call name.now wrapped) }
 {
     let mut out = Vec::new(alloc);
     push_str(&mut out, if wrapped { "Ok(view." } else { "view." })?;
@@ -56,7 +53,7 @@ fn key_call(alloc: Global, name: &[u8], wrapped: bool) -> Result<Vec<u8>, AllocE
 }
 
 fn key_body(text: Option<&[u8]>) -> Option<&[u8]>
-    ensures { option_copied result ≡ key_body_lem (option_copied text.entry) }
+    ensures { option_copied result ≡ spec.key_body (option_copied text.entry) }
 {
     after_in(b"{", after_in(b"fn key(&self,view:", text))
 }
@@ -69,7 +66,7 @@ fn key_in<'a>(
     text: &'a [u8],
 ) -> Result<Option<&'a [u8]>, AllocError>
     ensures { IfOk result (λ rest. option_copied rest
-        ≡ key_in_lem naming.now (option_copied views.entry) (line_of line.now) text.now) }
+        ≡ spec.key_in naming.now (option_copied views.entry) (line_of line.now) text.now) }
 {
     let head = key_head(alloc, naming.type_of(line.table), views)?;
     let name = naming.member_of(line.table, line.place);
@@ -86,7 +83,7 @@ fn key_after<'a>(
     text: &'a [u8],
 ) -> Result<Option<&'a [u8]>, AllocError>
     ensures { IfOk result (λ rest. option_copied rest
-        ≡ key_after_lem naming.now (option_copied views.entry) (line_of line.now) text.now) }
+        ≡ spec.key_after naming.now (option_copied views.entry) (line_of line.now) text.now) }
 {
     if line.field.key {
         key_in(alloc, naming, views, line, text)
@@ -105,7 +102,8 @@ pub(crate) fn have_keys(
     lines: &[Line<'_>],
     text: &[u8],
 ) -> Result<bool, AllocError>
-    ensures { IfOk result (λ b. b ≡ have_keys_lem naming.now (option_copied views.entry) (Some text.now)
+    ensures { IfOk result (λ b. b ≡ spec.have_keys naming.now (option_copied views.entry)
+        (Some text.now)
         (map line_of lines.now)) }
 {
     let mut rest = text;

@@ -1,19 +1,15 @@
 //! The kinds of fields.
 
 ghost use Rattle.std.specs.Prelude.{◌≡◌};
-ghost use Rattle.planus_schema.specs.Slots.{is_union as is_union_lem};
-ghost use Rattle.planus_tie.specs.Wanted.{has_default as has_default_lem, scalar_word};
-ghost use Rattle.planus_tie.specs.Wanted.{is_bytes as is_bytes_lem, is_absent as is_absent_lem};
-ghost use Rattle.planus_tie.specs.Wanted.{kind_word as kind_word_lem, ending as ending_lem};
-ghost use Rattle.planus_tie.specs.Wanted.{is_number as is_number_lem, read_slot as read_slot_lem};
-ghost use Rattle.planus_tie.specs.Wanted.{is_reference as is_reference_lem, is_ubyte};
-ghost use Rattle.planus_tie.specs.Shapes.{size_of as size_of_lem};
+ghost use Rattle.planus_schema.specs.Slots as slots_spec;
+ghost use Rattle.planus_tie.specs.Wanted as spec;
+ghost use Rattle.planus_tie.specs.Shapes as shapes_spec;
 
 use planus_schema::{Base, Declared, FieldType, Scalar, TableField, Value, measure_of};
 
 /// Returns the name of a scalar type in code.
 pub fn scalar_name(scalar: Scalar) -> &'static str
-    ensures { result.now ≡ scalar_word scalar }
+    ensures { result.now ≡ spec.scalar_word scalar }
 {
     match scalar {
         Scalar::Bool => "bool",
@@ -31,39 +27,39 @@ pub fn scalar_name(scalar: Scalar) -> &'static str
 }
 
 fn is_byte(base: Base) -> bool
-    ensures { result ≡ is_ubyte base }
+    ensures { result ≡ spec.is_ubyte base }
 {
     matches!(base, Base::Scalar(Scalar::UByte))
 }
 
 /// Returns whether a field holds bytes.
 pub fn is_bytes(kind: FieldType) -> bool
-    ensures { result ≡ is_bytes_lem kind }
+    ensures { result ≡ spec.is_bytes kind }
 {
     kind.vector && is_byte(kind.base)
 }
 
 /// Returns whether a field holds a union or several.
 pub fn is_union(kind: FieldType) -> bool
-    ensures { result ≡ is_union_lem kind }
+    ensures { result ≡ slots_spec.is_union kind }
 {
     matches!(kind.base, Base::Union(_))
 }
 
 pub(crate) fn is_reference(base: Base) -> bool
-    ensures { result ≡ is_reference_lem base }
+    ensures { result ≡ spec.is_reference base }
 {
     matches!(base, Base::Text | Base::Table(_))
 }
 
 fn is_number(base: Base) -> bool
-    ensures { result ≡ is_number_lem base }
+    ensures { result ≡ spec.is_number base }
 {
     matches!(base, Base::Scalar(_) | Base::Enum(_))
 }
 
 fn is_absent(default: &Option<Value>) -> bool
-    ensures { result ≡ is_absent_lem default.now }
+    ensures { result ≡ spec.is_absent default.now }
 {
     match default {
         Some(Value::Absent) => true,
@@ -73,14 +69,14 @@ fn is_absent(default: &Option<Value>) -> bool
 
 /// Returns whether a field is left out where it equals its default.
 pub fn has_default(field: &TableField) -> bool
-    ensures { result ≡ has_default_lem field.now }
+    ensures { result ≡ spec.has_default field.now }
 {
     is_number(field.kind.base) && !field.kind.vector && !is_absent(&field.default)
 }
 
 /// Returns the slot that a field is read by: of a union, its tag's.
 pub(crate) fn read_slot(field: &TableField) -> usize
-    ensures { result ≡ read_slot_lem field.now }
+    ensures { result ≡ spec.read_slot field.now }
 {
     if is_union(field.kind) {
         field.slot.saturating_sub(1)
@@ -91,7 +87,7 @@ pub(crate) fn read_slot(field: &TableField) -> usize
 
 /// Returns the first word of the name of the function that reads a field.
 pub fn kind_word(kind: FieldType) -> &'static str
-    ensures { result.now ≡ kind_word_lem kind }
+    ensures { result.now ≡ spec.kind_word kind }
 {
     if is_bytes(kind) {
         return "bytes";
@@ -106,7 +102,7 @@ pub fn kind_word(kind: FieldType) -> &'static str
 
 /// Returns what follows in that name.
 pub fn ending(field: &TableField) -> &'static str
-    ensures { result.now ≡ ending_lem field.now }
+    ensures { result.now ≡ spec.ending field.now }
 {
     if field.kind.vector && !is_bytes(field.kind) {
         if field.required {
@@ -125,7 +121,7 @@ pub fn ending(field: &TableField) -> &'static str
 
 /// Returns the size of a value in bytes.
 pub(crate) fn size_of(declared: &[Declared], base: Base) -> usize
-    ensures { result ≡ size_of_lem declared.now base }
+    ensures { result ≡ shapes_spec.size_of declared.now base }
 {
     match measure_of(declared, base) {
         Some(measure) => measure.size,

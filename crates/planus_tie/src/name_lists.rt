@@ -2,15 +2,7 @@
 
 ghost use Rattle.std.specs.Prelude.{◌≡◌, ◌++◌, IfOk, OnOk};
 ghost use Rattle.planus_schema.specs.Plans.{line_of};
-ghost use Rattle.planus_tie.specs.NameLists.{table_in, tables_from, marked_text, quoted_text};
-ghost use Rattle.planus_tie.specs.NameLists.{table_name_text, table_name_texts};
-ghost use Rattle.planus_tie.specs.NameLists.{field_head_text, field_name_text, field_name_texts};
-ghost use Rattle.planus_tie.specs.NameLists.{table_names_list as table_names_list_lem};
-ghost use Rattle.planus_tie.specs.NameLists.{field_names_list as field_names_list_lem};
-ghost use Rattle.planus_tie.specs.NameLists.{has_table_names as has_table_names_lem};
-ghost use Rattle.planus_tie.specs.NameLists.{has_field_names as has_field_names_lem};
-ghost use Rattle.planus_tie.specs.NameLists.{has_names as has_names_lem};
-ghost use Rattle.planus_tie.specs.NameLists.{is_names_text as is_names_text_lem};
+ghost use Rattle.planus_tie.specs.NameLists as spec;
 
 use crate::kinds::read_slot;
 use crate::naming::Naming;
@@ -22,7 +14,7 @@ use planus_schema::{Body, Declared, Line};
 use std::alloc::{AllocError, Global};
 
 fn push_table(out: &mut Vec<usize>, index: usize, body: &Body) -> Result<(), AllocError>
-    ensures { OnOk result (out.new.items ≡ out.old.items ++ table_in index body.now) }
+    ensures { OnOk result (out.new.items ≡ out.old.items ++ spec.table_in index body.now) }
 {
     if let Body::Table(_) = body {
         out.push(index)?;
@@ -31,7 +23,7 @@ fn push_table(out: &mut Vec<usize>, index: usize, body: &Body) -> Result<(), All
 }
 
 fn tables_of(alloc: Global, declared: &[Declared]) -> Result<Vec<usize>, AllocError>
-    ensures { IfOk result (λ tables. tables.items ≡ tables_from 0 declared.now) }
+    ensures { IfOk result (λ tables. tables.items ≡ spec.tables_from 0 declared.now) }
 {
     let mut tables = Vec::new(alloc);
     let mut index = 0;
@@ -43,7 +35,7 @@ fn tables_of(alloc: Global, declared: &[Declared]) -> Result<Vec<usize>, AllocEr
 }
 
 fn push_marked(out: &mut Vec<u8>, mark: &str, number: usize) -> Result<(), AllocError>
-    ensures { OnOk result (out.new.items ≡ out.old.items ++ marked_text mark.now number) }
+    ensures { OnOk result (out.new.items ≡ out.old.items ++ spec.marked_text mark.now number) }
 {
     push_str(out, mark)?;
     push_number(out, number as u64)?;
@@ -52,7 +44,7 @@ fn push_marked(out: &mut Vec<u8>, mark: &str, number: usize) -> Result<(), Alloc
 
 fn push_quoted(out: &mut Vec<u8>, mark: &str, name: &[u8], comma: &str) -> Result<(), AllocError>
     ensures { OnOk result (out.new.items
-        ≡ out.old.items ++ quoted_text mark.now name.now comma.now) }
+        ≡ out.old.items ++ spec.quoted_text mark.now name.now comma.now) }
 {
     push_str(out, mark)?;
     out.extend_from_slice(name)?;
@@ -68,7 +60,7 @@ fn push_table_name(
     index: usize,
 ) -> Result<(), AllocError>
     ensures { OnOk result (out.new.items ≡ out.old.items
-        ++ table_name_text naming.now ranks.now comma.now index) }
+        ++ spec.table_name_text naming.now ranks.now comma.now index) }
 {
     push_marked(out, "TableName{index:", rank_in(ranks, index))?;
     push_quoted(out, ",table:\"", naming.type_of(index), comma)?;
@@ -83,7 +75,7 @@ fn push_table_names(
     tables: &[usize],
 ) -> Result<(), AllocError>
     ensures { OnOk result (out.new.items ≡ out.old.items
-        ++ table_name_texts naming.now ranks.now comma.now tables.now) }
+        ++ spec.table_name_texts naming.now ranks.now comma.now tables.now) }
 {
     for index in tables {
         push_table_name(out, naming, ranks, comma, *index)?;
@@ -93,7 +85,7 @@ fn push_table_names(
 
 fn push_field_head(out: &mut Vec<u8>, ranks: &[usize], line: &Line<'_>) -> Result<(), AllocError>
     ensures { OnOk result (out.new.items ≡ out.old.items
-        ++ field_head_text ranks.now (line_of line.now)) }
+        ++ spec.field_head_text ranks.now (line_of line.now)) }
 {
     push_marked(out, "FieldName{table:", rank_in(ranks, line.table))?;
     push_marked(out, ",slot:", read_slot(line.field))?;
@@ -107,7 +99,7 @@ fn push_field_name(
     line: &Line<'_>,
 ) -> Result<(), AllocError>
     ensures { OnOk result (out.new.items ≡ out.old.items
-        ++ field_name_text ranks.now comma.now (line_of line.now)) }
+        ++ spec.field_name_text ranks.now comma.now (line_of line.now)) }
 {
     push_field_head(out, ranks, line)?;
     push_quoted(out, ",field:\"", &line.field.name, comma)?;
@@ -121,7 +113,7 @@ fn push_field_names(
     lines: &[Line<'_>],
 ) -> Result<(), AllocError>
     ensures { OnOk result (out.new.items ≡ out.old.items
-        ++ field_name_texts ranks.now comma.now lines.now) }
+        ++ spec.field_name_texts ranks.now comma.now lines.now) }
 {
     for line in lines {
         push_field_name(out, ranks, comma, line)?;
@@ -136,7 +128,7 @@ fn table_names_list(
     tables: &[usize],
 ) -> Result<Vec<u8>, AllocError>
     ensures { IfOk result (λ out. out.items
-        ≡ table_names_list_lem naming.now ranks.now tables.now) }
+        ≡ spec.table_names_list naming.now ranks.now tables.now) }
 {
     let mut out = list_start(alloc, tables.len())?;
     push_table_names(&mut out, naming, ranks, comma_of(tables.len()), tables)?;
@@ -149,7 +141,7 @@ fn field_names_list(
     ranks: &[usize],
     lines: &[Line<'_>],
 ) -> Result<Vec<u8>, AllocError>
-    ensures { IfOk result (λ out. out.items ≡ field_names_list_lem ranks.now lines.now) }
+    ensures { IfOk result (λ out. out.items ≡ spec.field_names_list ranks.now lines.now) }
 {
     let mut out = list_start(alloc, lines.len())?;
     push_field_names(&mut out, ranks, comma_of(lines.len()), lines)?;
@@ -163,7 +155,7 @@ fn has_table_names(
     ranks: &[usize],
     text: &[u8],
 ) -> Result<bool, AllocError>
-    ensures { IfOk result (λ b. b ≡ has_table_names_lem naming.now ranks.now text.now) }
+    ensures { IfOk result (λ b. b ≡ spec.has_table_names naming.now ranks.now text.now) }
 {
     let tables = tables_of(alloc, naming.declared)?;
     let wanted = table_names_list(alloc, naming, ranks, &tables)?;
@@ -179,7 +171,7 @@ fn has_field_names(
     lines: &[Line<'_>],
     text: &[u8],
 ) -> Result<bool, AllocError>
-    ensures { IfOk result (λ b. b ≡ has_field_names_lem ranks.now lines.now text.now) }
+    ensures { IfOk result (λ b. b ≡ spec.has_field_names ranks.now lines.now text.now) }
 {
     let wanted = field_names_list(alloc, ranks, lines)?;
     Ok(begins(
@@ -189,7 +181,7 @@ fn has_field_names(
 }
 
 fn has_names(text: &[u8]) -> bool
-    ensures { result ≡ has_names_lem text.now }
+    ensures { result ≡ spec.has_names text.now }
 {
     begins(
         body_of(b"fn names()->", text),
@@ -206,7 +198,7 @@ pub(crate) fn is_names_text(
     text: &[u8],
 ) -> Result<bool, AllocError>
     ensures { IfOk result (λ b. b
-        ≡ is_names_text_lem naming.now ranks.now lines.now text.now) }
+        ≡ spec.is_names_text naming.now ranks.now lines.now text.now) }
 {
     if !has_table_names(alloc, naming, ranks, text)? {
         return Ok(false);

@@ -1,8 +1,7 @@
 //! The names of what is declared, in code.
 
 ghost use Rattle.std.specs.Prelude.{◌≡◌};
-ghost use Rattle.planus_tie.specs.Wanted.{type_of as type_of_lem, member_of as member_of_lem};
-ghost use Rattle.planus_tie.specs.Wanted.{module_of as module_of_lem};
+ghost use Rattle.planus_tie.specs.Wanted as spec;
 
 use planus_schema::Declared;
 
@@ -18,7 +17,7 @@ pub struct Naming<'a> {
 
 impl<'a> Naming<'a> {
     pub(crate) fn type_of(&self, index: usize) -> &'a [u8]
-        ensures { result.now ≡ type_of_lem self.now index }
+        ensures { result.now ≡ spec.type_of self.now index }
     {
         match self.types.get(index) {
             Some(name) => name.as_slice(),
@@ -27,7 +26,7 @@ impl<'a> Naming<'a> {
     }
 
     pub(crate) fn module_of(&self, index: usize) -> &'a [u8]
-        ensures { result.now ≡ module_of_lem self.now index }
+        ensures { result.now ≡ spec.module_of self.now index }
     {
         match self.modules.get(index) {
             Some(name) => name.as_slice(),
@@ -36,7 +35,7 @@ impl<'a> Naming<'a> {
     }
 
     pub(crate) fn member_of(&self, index: usize, place: usize) -> &'a [u8]
-        ensures { result.now ≡ member_of_lem self.now index place }
+        ensures { result.now ≡ spec.member_of self.now index place }
     {
         match self.members.get(index) {
             Some(names) => match names.get(place) {

@@ -1,30 +1,25 @@
 //! What is known of declarations by those before them.
 
 ghost use Rattle.std.specs.Prelude.{◌≡◌, IfOk, unwrap_or, slice_get, false};
-ghost use Rattle.planus_tie.specs.Ranks.{is_table as is_table_lem, ranks_of as ranks_of_lem};
-ghost use Rattle.planus_tie.specs.Ranks.{is_union_body as is_union_body_lem};
-ghost use Rattle.planus_tie.specs.Ranks.{rank_by as rank_by_lem, rank_in as rank_in_lem};
-ghost use Rattle.planus_tie.specs.Ranks.{is_total as is_total_lem, totals_of as totals_of_lem};
-ghost use Rattle.planus_tie.specs.Ranks.{is_total_body as is_total_body_lem, are_total as are_total_lem};
-ghost use Rattle.planus_tie.specs.Ranks.{is_value as is_value_lem, is_judged as is_judged_lem};
+ghost use Rattle.planus_tie.specs.Ranks as spec;
 
 use planus_schema::{Base, Body, Declared, StructField, TableField};
 use std::alloc::{AllocError, Global};
 
 pub(crate) fn is_table(body: &Body) -> bool
-    ensures { result ≡ is_table_lem body.now }
+    ensures { result ≡ spec.is_table body.now }
 {
     matches!(body, Body::Table(_))
 }
 
 fn is_union_body(body: &Body) -> bool
-    ensures { result ≡ is_union_body_lem body.now }
+    ensures { result ≡ spec.is_union_body body.now }
 {
     matches!(body, Body::Union(_))
 }
 
 fn rank_by(tables: usize, unions: usize, body: &Body) -> usize
-    ensures { result ≡ rank_by_lem tables unions body.now }
+    ensures { result ≡ spec.rank_by tables unions body.now }
 {
     match body {
         Body::Union(_) => unions,
@@ -34,7 +29,7 @@ fn rank_by(tables: usize, unions: usize, body: &Body) -> usize
 
 /// Returns of each declaration how many tables are before it, and of a union how many unions.
 pub(crate) fn ranks_of(alloc: Global, declared: &[Declared]) -> Result<Vec<usize>, AllocError>
-    ensures { IfOk result (λ ranks. ranks.items ≡ ranks_of_lem declared.now) }
+    ensures { IfOk result (λ ranks. ranks.items ≡ spec.ranks_of declared.now) }
 {
     let mut ranks = Vec::new(alloc);
     let mut tables = 0usize;
@@ -52,7 +47,7 @@ pub(crate) fn ranks_of(alloc: Global, declared: &[Declared]) -> Result<Vec<usize
 }
 
 pub(crate) fn rank_in(ranks: &[usize], index: usize) -> usize
-    ensures { result ≡ rank_in_lem ranks.now index }
+    ensures { result ≡ spec.rank_in ranks.now index }
 {
     ranks.get(index).copied().unwrap_or(0)
 }
@@ -65,7 +60,7 @@ fn total_at(totals: &[bool], index: usize) -> bool
 
 /// Returns whether any bytes of its size are a value of this type.
 pub(crate) fn is_total(totals: &[bool], base: Base) -> bool
-    ensures { result ≡ is_total_lem totals.now base }
+    ensures { result ≡ spec.is_total totals.now base }
 {
     match base {
         Base::Scalar(_) => true,
@@ -75,7 +70,7 @@ pub(crate) fn is_total(totals: &[bool], base: Base) -> bool
 }
 
 fn are_total(totals: &[bool], fields: &[StructField]) -> bool
-    ensures { result ≡ are_total_lem totals.now fields.now }
+    ensures { result ≡ spec.are_total totals.now fields.now }
 {
     'fields: for field in fields {
         if !is_total(totals, field.base) {
@@ -86,7 +81,7 @@ fn are_total(totals: &[bool], fields: &[StructField]) -> bool
 }
 
 fn is_total_body(totals: &[bool], body: &Body) -> bool
-    ensures { result ≡ is_total_body_lem totals.now body.now }
+    ensures { result ≡ spec.is_total_body totals.now body.now }
 {
     match body {
         Body::Enum(one) => one.flags,
@@ -97,7 +92,7 @@ fn is_total_body(totals: &[bool], body: &Body) -> bool
 
 /// Returns of each declaration whether any bytes are a value.
 pub(crate) fn totals_of(alloc: Global, declared: &[Declared]) -> Result<Vec<bool>, AllocError>
-    ensures { IfOk result (λ totals. totals.items ≡ totals_of_lem declared.now) }
+    ensures { IfOk result (λ totals. totals.items ≡ spec.totals_of declared.now) }
 {
     let mut totals = Vec::new(alloc);
     'declared: for one in declared {
@@ -108,14 +103,14 @@ pub(crate) fn totals_of(alloc: Global, declared: &[Declared]) -> Result<Vec<bool
 }
 
 fn is_value(base: Base) -> bool
-    ensures { result ≡ is_value_lem base }
+    ensures { result ≡ spec.is_value base }
 {
     matches!(base, Base::Enum(_) | Base::Struct(_))
 }
 
 /// Returns whether the accessor of a verified view may fail.
 pub(crate) fn is_judged(totals: &[bool], field: &TableField) -> bool
-    ensures { result ≡ is_judged_lem totals.now field.now }
+    ensures { result ≡ spec.is_judged totals.now field.now }
 {
     is_value(field.kind.base) && !field.kind.vector && !is_total(totals, field.kind.base)
 }

@@ -2,16 +2,13 @@
 
 ghost use Rattle.std.specs.Prelude.{◌≡◌, IfOk};
 ghost use Rattle.std.specs.Option.{option_copied};
-ghost use Rattle.planus_tie.specs.Reading.{after as after_lem, body_of as body_of_lem};
-ghost use Rattle.planus_tie.specs.Reading.{list_in as list_in_lem, begins as begins_lem};
-ghost use Rattle.planus_tie.specs.Reading.{method_mark as method_mark_lem};
-ghost use Rattle.planus_tie.specs.Reading.{after_in as after_in_lem, if_begins as if_begins_lem};
+ghost use Rattle.planus_tie.specs.Reading as spec;
 
 use crate::pieces::push_str;
 use std::alloc::{AllocError, Global};
 
 pub(crate) fn after<'a>(mark: &[u8], text: &'a [u8]) -> Option<&'a [u8]>
-    ensures { option_copied result ≡ after_lem mark.now text.now }
+    ensures { option_copied result ≡ spec.after mark.now text.now }
 {
     let mut rest = text;
     'bytes: while let Some((_, next)) = rest.split_first() {
@@ -25,7 +22,7 @@ pub(crate) fn after<'a>(mark: &[u8], text: &'a [u8]) -> Option<&'a [u8]>
 
 /// Returns how a method of this name begins.
 pub(crate) fn method_mark(alloc: Global, name: &[u8]) -> Result<Vec<u8>, AllocError>
-    ensures { IfOk result (λ mark. mark.items ≡ method_mark_lem name.now) }
+    ensures { IfOk result (λ mark. mark.items ≡ spec.method_mark name.now) }
 {
     let mut out = Vec::new(alloc);
     push_str(&mut out, "pub fn ")?;
@@ -35,7 +32,7 @@ pub(crate) fn method_mark(alloc: Global, name: &[u8]) -> Result<Vec<u8>, AllocEr
 }
 
 pub(crate) fn begins(text: Option<&[u8]>, wanted: &[u8]) -> bool
-    ensures { result ≡ begins_lem (option_copied text.entry) wanted.now }
+    ensures { result ≡ spec.begins (option_copied text.entry) wanted.now }
 {
     match text {
         Some(text) => text.starts_with(wanted),
@@ -45,7 +42,7 @@ pub(crate) fn begins(text: Option<&[u8]>, wanted: &[u8]) -> bool
 
 /// Returns what follows the first place of a mark in a text, where there is one.
 pub(crate) fn after_in<'a>(mark: &[u8], text: Option<&'a [u8]>) -> Option<&'a [u8]>
-    ensures { option_copied result ≡ after_in_lem mark.now (option_copied text.entry) }
+    ensures { option_copied result ≡ spec.after_in mark.now (option_copied text.entry) }
 {
     match text {
         Some(text) => after(mark, text),
@@ -54,19 +51,19 @@ pub(crate) fn after_in<'a>(mark: &[u8], text: Option<&'a [u8]>) -> Option<&'a [u
 }
 
 pub(crate) fn body_of<'a>(mark: &[u8], text: &'a [u8]) -> Option<&'a [u8]>
-    ensures { option_copied result ≡ body_of_lem mark.now text.now }
+    ensures { option_copied result ≡ spec.body_of mark.now text.now }
 {
     after_in(b"}{", after(mark, text))
 }
 
 pub(crate) fn list_in(text: &[u8]) -> Option<&[u8]>
-    ensures { option_copied result ≡ list_in_lem text.now }
+    ensures { option_copied result ≡ spec.list_in text.now }
 {
     after(b"let lines=fields![", text)
 }
 
 pub(crate) fn if_begins<'a>(text: Option<&'a [u8]>, wanted: &[u8]) -> Option<&'a [u8]>
-    ensures { option_copied result ≡ if_begins_lem (option_copied text.entry) wanted.now }
+    ensures { option_copied result ≡ spec.if_begins (option_copied text.entry) wanted.now }
 {
     if begins(text, wanted) { text } else { None }
 }

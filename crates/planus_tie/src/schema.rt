@@ -3,20 +3,8 @@
 ghost use Rattle.std.specs.Prelude.{◌≡◌, ◌++◌, IfOk, OnOk, IsTrue, codes, decimal};
 ghost use Rattle.std.specs.List.{flat_map};
 ghost use Rattle.planus_schema.specs.Plans.{line_of};
-ghost use Rattle.planus_tie.specs.Shapes.{numbered, plural, value_kind, base_kind, bytes_kind};
-ghost use Rattle.planus_tie.specs.Shapes.{field_kind, field_start};
-ghost use Rattle.planus_tie.specs.Shapes.{field_text, field_texts, range_text, tagged_text};
-ghost use Rattle.planus_tie.specs.Shapes.{member_text};
-ghost use Rattle.planus_tie.specs.Shapes.{required_text, range_start, slot_text};
-ghost use Rattle.planus_tie.specs.Shapes.{comma_of as comma_of_lem};
-ghost use Rattle.planus_tie.specs.Shapes.{fields_list as fields_list_lem};
-ghost use Rattle.planus_tie.specs.Shapes.{ranges_list as ranges_list_lem};
-ghost use Rattle.planus_tie.specs.Shapes.{tagged_list as tagged_list_lem};
-ghost use Rattle.planus_tie.specs.Shapes.{has_fields as has_fields_lem};
-ghost use Rattle.planus_tie.specs.Shapes.{has_ranges as has_ranges_lem};
-ghost use Rattle.planus_tie.specs.Shapes.{has_tagged as has_tagged_lem};
-ghost use Rattle.planus_tie.specs.Shapes.{has_schema as has_schema_lem};
-ghost use Rattle.planus_tie.specs.SchemaTies.{is_schema_text as is_schema_text_lem, IsSchemaTied};
+ghost use Rattle.planus_tie.specs.Shapes as spec;
+ghost use Rattle.planus_tie.specs.SchemaTies as schema_ties_spec;
 
 use crate::bare::bare;
 use crate::kinds::{is_bytes, read_slot, size_of};
@@ -30,7 +18,7 @@ use planus_schema::{Base, Declared, Line, TableField};
 use std::alloc::{AllocError, Global};
 
 fn push_plural(out: &mut Vec<u8>, name: &str, vector: bool) -> Result<(), AllocError>
-    ensures { OnOk result (out.new.items ≡ out.old.items ++ plural name.now vector) }
+    ensures { OnOk result (out.new.items ≡ out.old.items ++ spec.plural name.now vector) }
 {
     push_str(out, name)?;
     push_str(out, if vector { "s" } else { "" })
@@ -43,7 +31,7 @@ fn push_numbered(
     number: usize,
 ) -> Result<(), AllocError>
     ensures { OnOk result (out.new.items ≡ out.old.items
-        ++ numbered (plural name.now vector) number) }
+        ++ spec.numbered (spec.plural name.now vector) number) }
 {
     push_plural(out, name, vector)?;
     push_str(out, "(")?;
@@ -53,7 +41,7 @@ fn push_numbered(
 
 fn push_text_kind(out: &mut Vec<u8>, name: &str, vector: bool) -> Result<(), AllocError>
     ensures { OnOk result (out.new.items ≡ out.old.items
-        ++ value_kind (plural name.now vector)) }
+        ++ spec.value_kind (spec.plural name.now vector)) }
 {
     push_str(out, "Value(ValueKind::")?;
     push_plural(out, name, vector)?;
@@ -67,7 +55,7 @@ fn push_value_kind(
     number: usize,
 ) -> Result<(), AllocError>
     ensures { OnOk result (out.new.items ≡ out.old.items
-        ++ value_kind (numbered (plural name.now vector) number)) }
+        ++ spec.value_kind (spec.numbered (spec.plural name.now vector) number)) }
 {
     push_str(out, "Value(ValueKind::")?;
     push_numbered(out, name, vector, number)?;
@@ -82,7 +70,7 @@ fn push_base_kind(
     vector: bool,
 ) -> Result<(), AllocError>
     ensures { OnOk result (out.new.items ≡ out.old.items
-        ++ base_kind declared.now ranks.now base vector) }
+        ++ spec.base_kind declared.now ranks.now base vector) }
 {
     match base {
         Base::Text => push_text_kind(out, "Text", vector),
@@ -97,7 +85,7 @@ fn push_bytes_kind(
     ranks: &[usize],
     nested: Option<usize>,
 ) -> Result<(), AllocError>
-    ensures { OnOk result (out.new.items ≡ out.old.items ++ bytes_kind ranks.now nested) }
+    ensures { OnOk result (out.new.items ≡ out.old.items ++ spec.bytes_kind ranks.now nested) }
 {
     match nested {
         Some(root) => push_value_kind(out, "Nested", false, rank_in(ranks, root)),
@@ -112,7 +100,7 @@ fn push_field_kind(
     field: &TableField,
 ) -> Result<(), AllocError>
     ensures { OnOk result (out.new.items ≡ out.old.items
-        ++ field_kind declared.now ranks.now field.now) }
+        ++ spec.field_kind declared.now ranks.now field.now) }
 {
     if is_bytes(field.kind) {
         return push_bytes_kind(out, ranks, field.nested);
@@ -121,13 +109,13 @@ fn push_field_kind(
 }
 
 fn push_required(out: &mut Vec<u8>, required: bool) -> Result<(), AllocError>
-    ensures { OnOk result (out.new.items ≡ out.old.items ++ required_text required) }
+    ensures { OnOk result (out.new.items ≡ out.old.items ++ spec.required_text required) }
 {
     push_str(out, if required { "true" } else { "false" })
 }
 
 fn push_slot(out: &mut Vec<u8>, slot: usize) -> Result<(), AllocError>
-    ensures { OnOk result (out.new.items ≡ out.old.items ++ slot_text slot) }
+    ensures { OnOk result (out.new.items ≡ out.old.items ++ spec.slot_text slot) }
 {
     push_str(out, "FieldShape{slot:")?;
     push_number(out, slot as u64)?;
@@ -135,7 +123,7 @@ fn push_slot(out: &mut Vec<u8>, slot: usize) -> Result<(), AllocError>
 }
 
 fn push_field_start(out: &mut Vec<u8>, field: &TableField) -> Result<(), AllocError>
-    ensures { OnOk result (out.new.items ≡ out.old.items ++ field_start field.now) }
+    ensures { OnOk result (out.new.items ≡ out.old.items ++ spec.field_start field.now) }
 {
     push_slot(out, read_slot(field))?;
     push_str(out, ",required:")?;
@@ -157,7 +145,7 @@ fn push_field(
     line: &Line<'_>,
 ) -> Result<(), AllocError>
     ensures { OnOk result (out.new.items ≡ out.old.items
-        ++ field_text declared.now ranks.now comma.now (line_of line.now)) }
+        ++ spec.field_text declared.now ranks.now comma.now (line_of line.now)) }
 {
     push_field_start(out, line.field)?;
     push_str(out, ",kind:FieldKind::")?;
@@ -173,7 +161,7 @@ fn push_fields(
     lines: &[Line<'_>],
 ) -> Result<(), AllocError>
     ensures { OnOk result (out.new.items ≡ out.old.items
-        ++ field_texts declared.now ranks.now comma.now lines.now) }
+        ++ spec.field_texts declared.now ranks.now comma.now lines.now) }
 {
     for line in lines {
         push_field(out, declared, ranks, comma, line)?;
@@ -182,7 +170,7 @@ fn push_fields(
 }
 
 fn push_range_start(out: &mut Vec<u8>, first: usize) -> Result<(), AllocError>
-    ensures { OnOk result (out.new.items ≡ out.old.items ++ range_start first) }
+    ensures { OnOk result (out.new.items ≡ out.old.items ++ spec.range_start first) }
 {
     push_str(out, "TableShape{first:")?;
     push_number(out, first as u64)?;
@@ -190,7 +178,7 @@ fn push_range_start(out: &mut Vec<u8>, first: usize) -> Result<(), AllocError>
 }
 
 fn push_range(out: &mut Vec<u8>, comma: &str, range: &Range) -> Result<(), AllocError>
-    ensures { OnOk result (out.new.items ≡ out.old.items ++ range_text comma.now range.now) }
+    ensures { OnOk result (out.new.items ≡ out.old.items ++ spec.range_text comma.now range.now) }
 {
     push_range_start(out, range.first)?;
     push_str(out, ",count:")?;
@@ -200,7 +188,7 @@ fn push_range(out: &mut Vec<u8>, comma: &str, range: &Range) -> Result<(), Alloc
 
 fn push_ranges(out: &mut Vec<u8>, comma: &str, ranges: &[Range]) -> Result<(), AllocError>
     ensures { OnOk result (out.new.items ≡ out.old.items
-        ++ flat_map (range_text comma.now) ranges.now) }
+        ++ flat_map (spec.range_text comma.now) ranges.now) }
 {
     for range in ranges {
         push_range(out, comma, range)?;
@@ -209,7 +197,7 @@ fn push_ranges(out: &mut Vec<u8>, comma: &str, ranges: &[Range]) -> Result<(), A
 }
 
 fn push_type(out: &mut Vec<u8>, name: &str, number: usize) -> Result<(), AllocError>
-    ensures { OnOk result (out.new.items ≡ out.old.items ++ numbered name.now number) }
+    ensures { OnOk result (out.new.items ≡ out.old.items ++ spec.numbered name.now number) }
 {
     push_str(out, name)?;
     push_str(out, "(")?;
@@ -218,7 +206,7 @@ fn push_type(out: &mut Vec<u8>, name: &str, number: usize) -> Result<(), AllocEr
 }
 
 fn push_member_type(out: &mut Vec<u8>, kind: MemberType) -> Result<(), AllocError>
-    ensures { OnOk result (out.new.items ≡ out.old.items ++ member_text kind) }
+    ensures { OnOk result (out.new.items ≡ out.old.items ++ spec.member_text kind) }
 {
     match kind {
         MemberType::Table(index) => push_type(out, "Table", index),
@@ -228,7 +216,7 @@ fn push_member_type(out: &mut Vec<u8>, kind: MemberType) -> Result<(), AllocErro
 }
 
 fn push_member(out: &mut Vec<u8>, comma: &str, member: &Tagged) -> Result<(), AllocError>
-    ensures { OnOk result (out.new.items ≡ out.old.items ++ tagged_text comma.now member.now) }
+    ensures { OnOk result (out.new.items ≡ out.old.items ++ spec.tagged_text comma.now member.now) }
 {
     push_str(out, "Variant{union:")?;
     push_number(out, member.union as u64)?;
@@ -241,7 +229,7 @@ fn push_member(out: &mut Vec<u8>, comma: &str, member: &Tagged) -> Result<(), Al
 
 fn push_members(out: &mut Vec<u8>, comma: &str, members: &[Tagged]) -> Result<(), AllocError>
     ensures { OnOk result (out.new.items ≡ out.old.items
-        ++ flat_map (tagged_text comma.now) members.now) }
+        ++ flat_map (spec.tagged_text comma.now) members.now) }
 {
     for member in members {
         push_member(out, comma, member)?;
@@ -250,7 +238,7 @@ fn push_members(out: &mut Vec<u8>, comma: &str, members: &[Tagged]) -> Result<()
 }
 
 pub(crate) fn comma_of(count: usize) -> &'static str
-    ensures { result.now ≡ comma_of_lem count }
+    ensures { result.now ≡ spec.comma_of count }
 {
     if count == 1 { "" } else { "," }
 }
@@ -271,7 +259,7 @@ fn fields_list(
     lines: &[Line<'_>],
 ) -> Result<Vec<u8>, AllocError>
     ensures { IfOk result (λ out. out.items
-        ≡ fields_list_lem declared.now ranks.now lines.now) }
+        ≡ spec.fields_list declared.now ranks.now lines.now) }
 {
     let mut out = list_start(alloc, lines.len())?;
     push_fields(&mut out, declared, ranks, comma_of(lines.len()), lines)?;
@@ -280,7 +268,7 @@ fn fields_list(
 }
 
 fn ranges_list(alloc: Global, ranges: &[Range]) -> Result<Vec<u8>, AllocError>
-    ensures { IfOk result (λ out. out.items ≡ ranges_list_lem ranges.now) }
+    ensures { IfOk result (λ out. out.items ≡ spec.ranges_list ranges.now) }
 {
     let mut out = list_start(alloc, ranges.len())?;
     push_ranges(&mut out, comma_of(ranges.len()), ranges)?;
@@ -289,7 +277,7 @@ fn ranges_list(alloc: Global, ranges: &[Range]) -> Result<Vec<u8>, AllocError>
 }
 
 fn tagged_list(alloc: Global, members: &[Tagged]) -> Result<Vec<u8>, AllocError>
-    ensures { IfOk result (λ out. out.items ≡ tagged_list_lem members.now) }
+    ensures { IfOk result (λ out. out.items ≡ spec.tagged_list members.now) }
 {
     let mut out = list_start(alloc, members.len())?;
     push_members(&mut out, comma_of(members.len()), members)?;
@@ -305,14 +293,14 @@ fn has_fields(
     text: &[u8],
 ) -> Result<bool, AllocError>
     ensures { IfOk result (λ b. b
-        ≡ has_fields_lem declared.now ranks.now lines.now text.now) }
+        ≡ spec.has_fields declared.now ranks.now lines.now text.now) }
 {
     let wanted = fields_list(alloc, declared, ranks, lines)?;
     Ok(begins(after(b"pub const FIELDS:[FieldShape;", text), &wanted))
 }
 
 fn has_ranges(alloc: Global, declared: &[Declared], text: &[u8]) -> Result<bool, AllocError>
-    ensures { IfOk result (λ b. b ≡ has_ranges_lem declared.now text.now) }
+    ensures { IfOk result (λ b. b ≡ spec.has_ranges declared.now text.now) }
 {
     let ranges = ranges_of(alloc, declared)?;
     let wanted = ranges_list(alloc, &ranges)?;
@@ -325,7 +313,7 @@ fn has_tagged(
     ranks: &[usize],
     text: &[u8],
 ) -> Result<bool, AllocError>
-    ensures { IfOk result (λ b. b ≡ has_tagged_lem declared.now ranks.now text.now) }
+    ensures { IfOk result (λ b. b ≡ spec.has_tagged declared.now ranks.now text.now) }
 {
     let members = tagged_of(alloc, ranks, declared)?;
     let wanted = tagged_list(alloc, &members)?;
@@ -333,7 +321,7 @@ fn has_tagged(
 }
 
 fn has_schema(text: &[u8]) -> bool
-    ensures { result ≡ has_schema_lem text.now }
+    ensures { result ≡ spec.has_schema text.now }
 {
     begins(
         body_of(b"fn schema()->", text),
@@ -349,7 +337,7 @@ fn is_schema_text(
     text: &[u8],
 ) -> Result<bool, AllocError>
     ensures { IfOk result (λ b. b
-        ≡ is_schema_text_lem naming.now ranks.now lines.now text.now) }
+        ≡ schema_ties_spec.is_schema_text naming.now ranks.now lines.now text.now) }
 {
     if !has_fields(alloc, naming.declared, ranks, lines, text)? {
         return Ok(false);
@@ -373,7 +361,8 @@ pub(crate) fn is_schema_tied(
     ranks: &[usize],
     text: &[u8],
 ) -> Result<bool, AllocError>
-    ensures { IfOk result (λ b. IsTrue b → IsSchemaTied naming.now ranks.now text.now) }
+    ensures { IfOk result (λ b. IsTrue b → schema_ties_spec.IsSchemaTied naming.now ranks.now
+        text.now) }
 {
     let lines = lines_of(alloc, naming.declared)?;
     let without = bare(alloc, text)?;

@@ -2,12 +2,8 @@
 
 ghost use Rattle.std.specs.Prelude.{◌≡◌, ◌++◌, ◌+◌, IfOk, OnOk, not, count_by, map, length};
 ghost use Rattle.std.specs.List.Sorted.{IsPermutation, IsNonDecreasingBy};
-ghost use Rattle.planus_tie.specs.Ranks.{rank_in as rank_in_lem};
-ghost use Rattle.planus_tie.specs.Shapes.{AreBySlot, AreLines, PushesLines};
-ghost use Rattle.planus_tie.specs.Shapes.{live_count as live_count_lem, ranges_in, ranges_from};
-ghost use Rattle.planus_tie.specs.Shapes.{fields_in as fields_in_lem, tagged as tagged_lem};
-ghost use Rattle.planus_tie.specs.Shapes.{member_type as member_type_lem};
-ghost use Rattle.planus_tie.specs.Shapes.{tagged_in, tagged_from};
+ghost use Rattle.planus_tie.specs.Ranks as ranks_spec;
+ghost use Rattle.planus_tie.specs.Shapes as spec;
 
 use crate::kinds::size_of;
 use crate::ranks::rank_in;
@@ -53,7 +49,7 @@ fn by_slot<'a>(
     index: usize,
     one: &'a Table,
 ) -> Result<Vec<Line<'a>>, AllocError>
-    ensures { IfOk result (λ lines. AreBySlot declared.now index one.now lines.items) }
+    ensures { IfOk result (λ lines. spec.AreBySlot declared.now index one.now lines.items) }
 {
     let plan = Plan::of(alloc, declared, index, one)?;
     let mut lines = Vec::from_slice(alloc, &plan.lines)?;
@@ -67,7 +63,7 @@ fn push_lines<'a>(
     index: usize,
     body: &'a Body,
 ) -> Result<(), AllocError>
-    ensures { OnOk result (PushesLines declared.now index body.now out.old.items out.new.items) }
+    ensures { OnOk result (spec.PushesLines declared.now index body.now out.old.items out.new.items) }
 {
     let Body::Table(one) = body else {
         return Ok(());
@@ -78,7 +74,7 @@ fn push_lines<'a>(
 
 /// Returns the fields of all tables in turn, each table's by their slots.
 pub(crate) fn lines_of(alloc: Global, declared: &[Declared]) -> Result<Vec<Line<'_>>, AllocError>
-    ensures { IfOk result (λ lines. AreLines declared.now 0 declared.now lines.items) }
+    ensures { IfOk result (λ lines. spec.AreLines declared.now 0 declared.now lines.items) }
 {
     let mut lines = Vec::new(alloc);
     let mut index = 0;
@@ -90,13 +86,13 @@ pub(crate) fn lines_of(alloc: Global, declared: &[Declared]) -> Result<Vec<Line<
 }
 
 fn live_count(one: &Table) -> usize
-    ensures { result ≡ live_count_lem one.now }
+    ensures { result ≡ spec.live_count one.now }
 {
     one.fields.iter().filter(|field| !field.deprecated).count()
 }
 
 fn fields_in(body: &Body) -> usize
-    ensures { result ≡ fields_in_lem body.now }
+    ensures { result ≡ spec.fields_in body.now }
 {
     match body {
         Body::Table(one) => live_count(one),
@@ -105,7 +101,7 @@ fn fields_in(body: &Body) -> usize
 }
 
 fn push_range(out: &mut Vec<Range>, first: usize, body: &Body) -> Result<(), AllocError>
-    ensures { OnOk result (out.new.items ≡ out.old.items ++ ranges_in first body.now) }
+    ensures { OnOk result (out.new.items ≡ out.old.items ++ spec.ranges_in first body.now) }
 {
     if let Body::Table(one) = body {
         out.push(Range {
@@ -118,14 +114,14 @@ fn push_range(out: &mut Vec<Range>, first: usize, body: &Body) -> Result<(), All
 
 // No memory holds more fields than are counted.
 fn after_fields(first: usize, body: &Body) -> Result<usize, AllocError>
-    ensures { IfOk result (λ next. next ≡ first + fields_in_lem body.now) }
+    ensures { IfOk result (λ next. next ≡ first + spec.fields_in body.now) }
 {
     first.checked_add(fields_in(body)).ok_or(AllocError)
 }
 
 /// Returns of each table where its fields are in the list of all.
 pub(crate) fn ranges_of(alloc: Global, declared: &[Declared]) -> Result<Vec<Range>, AllocError>
-    ensures { IfOk result (λ ranges. ranges.items ≡ ranges_from 0 declared.now) }
+    ensures { IfOk result (λ ranges. ranges.items ≡ spec.ranges_from 0 declared.now) }
 {
     let mut ranges = Vec::new(alloc);
     let mut first = 0;
@@ -137,7 +133,7 @@ pub(crate) fn ranges_of(alloc: Global, declared: &[Declared]) -> Result<Vec<Rang
 }
 
 fn member_type(declared: &[Declared], ranks: &[usize], base: Base) -> MemberType
-    ensures { result ≡ member_type_lem declared.now ranks.now base }
+    ensures { result ≡ spec.member_type declared.now ranks.now base }
 {
     match base {
         Base::Table(index) => MemberType::Table(rank_in(ranks, index)),
@@ -152,7 +148,7 @@ fn tagged_member(
     index: usize,
     member: &UnionMember,
 ) -> Tagged
-    ensures { result ≡ tagged_lem declared.now ranks.now index member.now }
+    ensures { result ≡ spec.tagged declared.now ranks.now index member.now }
 {
     Tagged {
         union: rank_in(ranks, index),
@@ -169,7 +165,7 @@ fn push_members(
     members: &[UnionMember],
 ) -> Result<(), AllocError>
     ensures { OnOk result (out.new.items
-        ≡ out.old.items ++ map (tagged_lem declared.now ranks.now index) members.now) }
+        ≡ out.old.items ++ map (spec.tagged declared.now ranks.now index) members.now) }
 {
     'members: for member in members {
         out.push(tagged_member(declared, ranks, index, member))?;
@@ -185,7 +181,7 @@ fn push_tagged(
     body: &Body,
 ) -> Result<(), AllocError>
     ensures { OnOk result (out.new.items
-        ≡ out.old.items ++ tagged_in declared.now ranks.now index body.now) }
+        ≡ out.old.items ++ spec.tagged_in declared.now ranks.now index body.now) }
 {
     match body {
         Body::Union(one) => push_members(out, declared, ranks, index, &one.members),
@@ -199,7 +195,8 @@ pub(crate) fn tagged_of(
     ranks: &[usize],
     declared: &[Declared],
 ) -> Result<Vec<Tagged>, AllocError>
-    ensures { IfOk result (λ all. all.items ≡ tagged_from declared.now ranks.now 0 declared.now) }
+    ensures { IfOk result (λ all. all.items ≡ spec.tagged_from declared.now ranks.now 0
+        declared.now) }
 {
     let mut all = Vec::new(alloc);
     let mut index = 0;

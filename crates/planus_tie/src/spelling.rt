@@ -3,15 +3,14 @@
 ghost use Rattle.std.specs.Prelude.{◌≡◌, IfOk, map};
 ghost use Rattle.std.specs.List.{list_all};
 ghost use Rattle.planus_schema.specs.Plans.{line_of};
-ghost use Rattle.planus_tie.specs.Wanted.{letters_of as letters_of_lem};
-ghost use Rattle.planus_tie.specs.Wanted.{is_spelled as is_spelled_lem};
+ghost use Rattle.planus_tie.specs.Wanted as spec;
 
 use crate::naming::Naming;
 use planus_schema::Line;
 use std::alloc::{AllocError, Global};
 
 fn letters_of(alloc: Global, name: &[u8]) -> Result<Vec<u8>, AllocError>
-    ensures { IfOk result (λ letters. letters.items ≡ letters_of_lem name.now) }
+    ensures { IfOk result (λ letters. letters.items ≡ spec.letters_of name.now) }
 {
     let mut letters = Vec::new(alloc);
     let mut rest = name;
@@ -25,7 +24,7 @@ fn letters_of(alloc: Global, name: &[u8]) -> Result<Vec<u8>, AllocError>
 }
 
 fn is_spelled(alloc: Global, naming: &Naming<'_>, line: &Line<'_>) -> Result<bool, AllocError>
-    ensures { IfOk result (λ b. b ≡ is_spelled_lem naming.now (line_of line.now)) }
+    ensures { IfOk result (λ b. b ≡ spec.is_spelled naming.now (line_of line.now)) }
 {
     let name = letters_of(alloc, naming.member_of(line.table, line.place))?;
     let wanted = letters_of(alloc, &line.field.name)?;
@@ -39,7 +38,7 @@ pub(crate) fn are_spelled(
     lines: &[Line<'_>],
 ) -> Result<bool, AllocError>
     ensures { IfOk result (λ b. b
-        ≡ list_all (is_spelled_lem naming.now) (map line_of lines.now)) }
+        ≡ list_all (spec.is_spelled naming.now) (map line_of lines.now)) }
 {
     for line in lines {
         if !is_spelled(alloc, naming, line)? {

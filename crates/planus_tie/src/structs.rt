@@ -1,11 +1,7 @@
 //! Whether the text of a struct is its schema's.
 
 ghost use Rattle.std.specs.Prelude.{◌≡◌, ◌++◌, IfOk, OnOk, IsTrue};
-ghost use Rattle.planus_tie.specs.Structs.{struct_holes as struct_holes_lem};
-ghost use Rattle.planus_tie.specs.Structs.{field_holes as field_holes_lem};
-ghost use Rattle.planus_tie.specs.Structs.{offset_of as offset_of_lem, fields_from, fields_text};
-ghost use Rattle.planus_tie.specs.Structs.{put_text, taken_text, struct_text as struct_text_lem};
-ghost use Rattle.planus_tie.specs.Structs.{is_struct_text as is_struct_text_lem, IsStructTied};
+ghost use Rattle.planus_tie.specs.Structs as spec;
 
 use crate::bare::bare;
 use crate::holes::{Holes, has_text, push_each, push_filled};
@@ -15,7 +11,7 @@ use planus_schema::{Base, Number, Struct, StructField};
 use std::alloc::{AllocError, Global};
 
 fn struct_holes(index: usize, one: &Struct) -> Holes
-    ensures { result ≡ struct_holes_lem index one.now }
+    ensures { result ≡ spec.struct_holes index one.now }
 {
     Holes {
         index,
@@ -33,7 +29,7 @@ fn struct_holes(index: usize, one: &Struct) -> Holes
 }
 
 fn field_holes(index: usize, place: usize, next: usize, field: &StructField) -> Holes
-    ensures { result ≡ field_holes_lem index place next field.now }
+    ensures { result ≡ spec.field_holes index place next field.now }
 {
     Holes {
         index,
@@ -53,7 +49,7 @@ fn field_holes(index: usize, place: usize, next: usize, field: &StructField) -> 
 }
 
 fn offset_of(size: usize, fields: &[StructField]) -> usize
-    ensures { result ≡ offset_of_lem size fields.now }
+    ensures { result ≡ spec.offset_of size fields.now }
 {
     match fields.split_first() {
         Some((field, _)) => field.distance,
@@ -63,7 +59,7 @@ fn offset_of(size: usize, fields: &[StructField]) -> usize
 
 fn fields_of(alloc: Global, index: usize, one: &Struct) -> Result<Vec<Holes>, AllocError>
     ensures { IfOk result (λ fields. fields.items
-        ≡ fields_from index one.now.size 0 one.now.fields.items) }
+        ≡ spec.fields_from index one.now.size 0 one.now.fields.items) }
 {
     let mut fields = Vec::new(alloc);
     let mut place = 0;
@@ -84,7 +80,7 @@ fn push_fields(
     fields: &[Holes],
 ) -> Result<(), AllocError>
     ensures { OnOk result (out.new.items ≡ out.old.items
-        ++ fields_text naming.now own fields.now) }
+        ++ spec.fields_text naming.now own fields.now) }
 {
     push_filled(out, naming, own, "pub struct $T {")?;
     push_each(out, naming, fields, "pub $n: $t,")?;
@@ -98,7 +94,7 @@ fn push_put(
     fields: &[Holes],
 ) -> Result<(), AllocError>
     ensures { OnOk result (out.new.items ≡ out.old.items
-        ++ put_text naming.now own fields.now) }
+        ++ spec.put_text naming.now own fields.now) }
 {
     push_filled(out, naming, own, "put_fields!(self, bytes;")?;
     push_each(out, naming, fields, "$n: $z, $x")?;
@@ -112,7 +108,7 @@ fn push_taken(
     fields: &[Holes],
 ) -> Result<(), AllocError>
     ensures { OnOk result (out.new.items ≡ out.old.items
-        ++ taken_text naming.now own fields.now) }
+        ++ spec.taken_text naming.now own fields.now) }
 {
     push_filled(out, naming, own, "read_fields!($T, buffer, offset;")?;
     push_each(out, naming, fields, "$w,")?;
@@ -125,7 +121,7 @@ fn struct_text(
     own: Holes,
     fields: &[Holes],
 ) -> Result<Vec<u8>, AllocError>
-    ensures { IfOk result (λ out. out.items ≡ struct_text_lem naming.now own fields.now) }
+    ensures { IfOk result (λ out. out.items ≡ spec.struct_text naming.now own fields.now) }
 {
     let mut out = Vec::new(alloc);
     push_fields(&mut out, naming, own, fields)?;
@@ -143,7 +139,7 @@ fn is_struct_text(
     fields: &[Holes],
     text: &[u8],
 ) -> Result<bool, AllocError>
-    ensures { IfOk result (λ b. b ≡ is_struct_text_lem naming.now own fields.now text.now) }
+    ensures { IfOk result (λ b. b ≡ spec.is_struct_text naming.now own fields.now text.now) }
 {
     let wanted = struct_text(alloc, naming, own, fields)?;
     has_text(alloc, text, &wanted)
@@ -157,7 +153,7 @@ pub(crate) fn is_struct_tied(
     one: &Struct,
     text: &[u8],
 ) -> Result<bool, AllocError>
-    ensures { IfOk result (λ b. IsTrue b → IsStructTied naming.now index one.now text.now) }
+    ensures { IfOk result (λ b. IsTrue b → spec.IsStructTied naming.now index one.now text.now) }
 {
     let fields = fields_of(alloc, index, one)?;
     let without = bare(alloc, text)?;

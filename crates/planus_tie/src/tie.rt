@@ -3,12 +3,9 @@
 ghost use Rattle.std.specs.Prelude.{◌≡◌, IfOk, IsTrue, Some, map, ◌||◌, ◌==◌};
 ghost use Rattle.std.specs.Option.{option_copied};
 ghost use Rattle.planus_schema.specs.Plans.{line_of};
-ghost use Rattle.planus_tie.specs.Ties.{has_lines as has_lines_lem};
-ghost use Rattle.planus_tie.specs.Ties.{accessor_in as accessor_in_lem};
-ghost use Rattle.planus_tie.specs.Ties.{have_accessors as have_accessors_lem, IsTableTied};
-ghost use Rattle.planus_tie.specs.Ties.{is_plan_tied as is_plan_tied_lem, have_groups as have_groups_lem};
-ghost use Rattle.planus_tie.specs.Reading.{after as after_lem, begins as begins_lem};
-ghost use Rattle.planus_tie.specs.Wanted.{group_mark as group_mark_lem, group_text};
+ghost use Rattle.planus_tie.specs.Ties as spec;
+ghost use Rattle.planus_tie.specs.Reading as reading_spec;
+ghost use Rattle.planus_tie.specs.Wanted as wanted_spec;
 
 use crate::bare::bare;
 use crate::calls::call_of;
@@ -29,7 +26,7 @@ fn accessor_in<'a>(
     text: &'a [u8],
 ) -> Result<Option<&'a [u8]>, AllocError>
     ensures { IfOk result (λ rest. option_copied rest
-        ≡ accessor_in_lem naming.now (line_of line.now) text.now) }
+        ≡ spec.accessor_in naming.now (line_of line.now) text.now) }
 {
     let mark = method_mark(alloc, naming.member_of(line.table, line.place))?;
     let wanted = call_of(alloc, naming, line)?;
@@ -44,7 +41,7 @@ fn have_accessors(
     text: &[u8],
 ) -> Result<bool, AllocError>
     ensures { IfOk result (λ b. b
-        ≡ have_accessors_lem naming.now (Some text.now) (map line_of lines.now)) }
+        ≡ spec.have_accessors naming.now (Some text.now) (map line_of lines.now)) }
 {
     let mut rest = text;
     for line in lines {
@@ -64,8 +61,9 @@ fn has_group(
     lines: &[Line<'_>],
     text: &[u8],
 ) -> Result<bool, AllocError>
-    ensures { IfOk result (λ b. b ≡ (group == 0 || begins_lem (after_lem (group_mark_lem group)
-        text.now) (group_text naming.now table group lines.now))) }
+    ensures { IfOk result (λ b. b ≡ (group == 0 || reading_spec.begins (reading_spec.after
+        (wanted_spec.group_mark group)
+        text.now) (wanted_spec.group_text naming.now table group lines.now))) }
 {
     if group == 0 {
         return Ok(true);
@@ -84,7 +82,7 @@ fn have_groups(
     text: &[u8],
 ) -> Result<bool, AllocError>
     ensures { IfOk result (λ b. b
-        ≡ have_groups_lem naming.now text.now table entries.now order.now) }
+        ≡ spec.have_groups naming.now text.now table entries.now order.now) }
 {
     let mut rest = order;
     for entry in entries {
@@ -107,7 +105,7 @@ fn has_lines(
     text: &[u8],
 ) -> Result<bool, AllocError>
     ensures { IfOk result (λ b. b
-        ≡ has_lines_lem naming.now text.now table entries.now order.now) }
+        ≡ spec.has_lines naming.now text.now table entries.now order.now) }
 {
     if !have_groups(alloc, naming, table, entries, order, text)? {
         return Ok(false);
@@ -124,7 +122,7 @@ fn is_plan_tied(
     text: &[u8],
 ) -> Result<bool, AllocError>
     ensures { IfOk result (λ b. b
-        ≡ is_plan_tied_lem naming.now entries.now plan.now text.now) }
+        ≡ spec.is_plan_tied naming.now entries.now plan.now text.now) }
 {
     if !are_spelled(alloc, naming, &plan.lines)? {
         return Ok(false);
@@ -149,7 +147,7 @@ pub(crate) fn is_table_tied(
     table: &Table,
     text: &[u8],
 ) -> Result<bool, AllocError>
-    ensures { IfOk result (λ b. IsTrue b → IsTableTied naming.now index table.now text.now) }
+    ensures { IfOk result (λ b. IsTrue b → spec.IsTableTied naming.now index table.now text.now) }
 {
     let plan = Plan::of(alloc, naming.declared, index, table)?;
     let entries = entries_of(alloc, &plan.order)?;

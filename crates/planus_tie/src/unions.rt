@@ -1,15 +1,7 @@
 //! Whether the text of a union is its schema's.
 
 ghost use Rattle.std.specs.Prelude.{◌≡◌, ◌++◌, IfOk, OnOk, IsTrue, ◌||◌, true, false};
-ghost use Rattle.planus_tie.specs.Unions.{holes_of as holes_of_lem, union_holes as union_holes_lem};
-ghost use Rattle.planus_tie.specs.Unions.{members_from, kind_text, view_text};
-ghost use Rattle.planus_tie.specs.Unions.{start_text, arm_text as arm_text_lem};
-ghost use Rattle.planus_tie.specs.Unions.{together_text as together_text_lem};
-ghost use Rattle.planus_tie.specs.Unions.{asking_text as asking_text_lem};
-ghost use Rattle.planus_tie.specs.Unions.{chain_text as chain_text_lem};
-ghost use Rattle.planus_tie.specs.Unions.{has_together as has_together_lem};
-ghost use Rattle.planus_tie.specs.Unions.{has_chain as has_chain_lem};
-ghost use Rattle.planus_tie.specs.Unions.{is_union_text as is_union_text_lem, IsUnionTied};
+ghost use Rattle.planus_tie.specs.Unions as spec;
 
 use crate::bare::bare;
 use crate::holes::{Holes, has_text, push_chained, push_each, push_filled};
@@ -34,7 +26,7 @@ const CHAINED_HEAD: &str = "#[tactic(auto, unfolding(crate::specs::$T::from_$p_o
      { match tag {";
 
 fn holes_of(index: usize, place: usize, base: Base, tag: u8) -> Holes
-    ensures { result ≡ holes_of_lem index place base tag }
+    ensures { result ≡ spec.holes_of index place base tag }
 {
     Holes {
         index,
@@ -52,7 +44,7 @@ fn holes_of(index: usize, place: usize, base: Base, tag: u8) -> Holes
 }
 
 fn union_holes(index: usize) -> Holes
-    ensures { result ≡ union_holes_lem index }
+    ensures { result ≡ spec.union_holes index }
 {
     holes_of(index, 0, Base::Text, 0)
 }
@@ -62,7 +54,7 @@ fn members_of(
     index: usize,
     members: &[UnionMember],
 ) -> Result<Vec<Holes>, AllocError>
-    ensures { IfOk result (λ all. all.items ≡ members_from index 0 members.now) }
+    ensures { IfOk result (λ all. all.items ≡ spec.members_from index 0 members.now) }
 {
     let mut all = Vec::new(alloc);
     let mut place = 0;
@@ -80,7 +72,7 @@ fn push_kind(
     members: &[Holes],
 ) -> Result<(), AllocError>
     ensures { OnOk result (out.new.items ≡ out.old.items
-        ++ kind_text naming.now own members.now) }
+        ++ spec.kind_text naming.now own members.now) }
 {
     push_filled(out, naming, own, "pub struct $T; impl $T {")?;
     push_each(out, naming, members, FROM)
@@ -93,7 +85,7 @@ fn push_view(
     members: &[Holes],
 ) -> Result<(), AllocError>
     ensures { OnOk result (out.new.items ≡ out.old.items
-        ++ view_text naming.now own members.now) }
+        ++ spec.view_text naming.now own members.now) }
 {
     push_filled(
         out,
@@ -117,7 +109,7 @@ fn push_start(
     members: &[Holes],
 ) -> Result<(), AllocError>
     ensures { OnOk result (out.new.items ≡ out.old.items
-        ++ start_text naming.now own members.now) }
+        ++ spec.start_text naming.now own members.now) }
 {
     push_kind(out, naming, own, members)?;
     push_view(out, naming, own, members)?;
@@ -125,7 +117,7 @@ fn push_start(
 }
 
 fn arm_text(wide: bool) -> &'static str
-    ensures { result.now ≡ arm_text_lem wide }
+    ensures { result.now ≡ spec.arm_text wide }
 {
     if wide {
         "$i => { let view = $E; Ok($TRef::$n(view)) }"
@@ -141,7 +133,7 @@ fn together_text(
     own: Holes,
     members: &[Holes],
 ) -> Result<Vec<u8>, AllocError>
-    ensures { IfOk result (λ out. out.items ≡ together_text_lem naming.now wide own members.now) }
+    ensures { IfOk result (λ out. out.items ≡ spec.together_text naming.now wide own members.now) }
 {
     let mut out = Vec::new(alloc);
     push_start(&mut out, naming, own, members)?;
@@ -162,7 +154,7 @@ fn asking_text(
     own: Holes,
     members: &[Holes],
 ) -> Result<Vec<u8>, AllocError>
-    ensures { IfOk result (λ out. out.items ≡ asking_text_lem naming.now own members.now) }
+    ensures { IfOk result (λ out. out.items ≡ spec.asking_text naming.now own members.now) }
 {
     let mut out = Vec::new(alloc);
     push_start(&mut out, naming, own, members)?;
@@ -177,7 +169,7 @@ fn chain_text(
     own: Holes,
     members: &[Holes],
 ) -> Result<Vec<u8>, AllocError>
-    ensures { IfOk result (λ out. out.items ≡ chain_text_lem naming.now wide own members.now) }
+    ensures { IfOk result (λ out. out.items ≡ spec.chain_text naming.now wide own members.now) }
 {
     let mut out = Vec::new(alloc);
     push_chained(
@@ -206,7 +198,7 @@ fn has_together(
     text: &[u8],
 ) -> Result<bool, AllocError>
     ensures { IfOk result (λ b. b
-        ≡ has_together_lem naming.now wide own members.now text.now) }
+        ≡ spec.has_together naming.now wide own members.now text.now) }
 {
     let wanted = together_text(alloc, naming, wide, own, members)?;
     has_text(alloc, text, &wanted)
@@ -220,7 +212,7 @@ fn has_chain(
     members: &[Holes],
     text: &[u8],
 ) -> Result<bool, AllocError>
-    ensures { IfOk result (λ b. b ≡ has_chain_lem naming.now wide own members.now text.now) }
+    ensures { IfOk result (λ b. b ≡ spec.has_chain naming.now wide own members.now text.now) }
 {
     let wanted = chain_text(alloc, naming, wide, own, members)?;
     has_text(alloc, text, &wanted)
@@ -233,8 +225,8 @@ fn has_chains(
     members: &[Holes],
     text: &[u8],
 ) -> Result<bool, AllocError>
-    ensures { IfOk result (λ b. b ≡ (has_chain_lem naming.now false own members.now text.now
-        || has_chain_lem naming.now true own members.now text.now)) }
+    ensures { IfOk result (λ b. b ≡ (spec.has_chain naming.now false own members.now text.now
+        || spec.has_chain naming.now true own members.now text.now)) }
 {
     if has_chain(alloc, naming, false, own, members, text)? {
         return Ok(true);
@@ -249,7 +241,7 @@ fn is_union_text(
     members: &[Holes],
     text: &[u8],
 ) -> Result<bool, AllocError>
-    ensures { IfOk result (λ b. b ≡ is_union_text_lem naming.now own members.now text.now) }
+    ensures { IfOk result (λ b. b ≡ spec.is_union_text naming.now own members.now text.now) }
 {
     if has_together(alloc, naming, false, own, members, text)? {
         return Ok(true);
@@ -272,7 +264,7 @@ pub(crate) fn is_union_tied(
     one: &Union,
     text: &[u8],
 ) -> Result<bool, AllocError>
-    ensures { IfOk result (λ b. IsTrue b → IsUnionTied naming.now index one.now text.now) }
+    ensures { IfOk result (λ b. IsTrue b → spec.IsUnionTied naming.now index one.now text.now) }
 {
     let members = members_of(alloc, index, &one.members)?;
     let without = bare(alloc, text)?;

@@ -3,14 +3,8 @@
 ghost use Rattle.std.specs.Prelude.{◌≡◌, ◌++◌, IfOk, OnOk, IsTrue, Some, map, slice_get};
 ghost use Rattle.std.specs.Option.{option_copied};
 ghost use Rattle.planus_schema.specs.Plans.{line_of};
-ghost use Rattle.planus_tie.specs.Reading.{after as after_lem};
-ghost use Rattle.planus_tie.specs.Views.{view_function, is_flags_body as is_flags_body_lem};
-ghost use Rattle.planus_tie.specs.Views.{is_flags as is_flags_lem, is_constant as is_constant_lem};
-ghost use Rattle.planus_tie.specs.Views.{constant_path, view_default};
-ghost use Rattle.planus_tie.specs.Views.{view_call as view_call_lem, view_in as view_in_lem};
-ghost use Rattle.planus_tie.specs.Views.{have_views as have_views_lem, kind_start, index_text};
-ghost use Rattle.planus_tie.specs.Views.{kind_head as kind_head_lem};
-ghost use Rattle.planus_tie.specs.Views.{is_view_tied as is_view_tied_lem, IsViewTied};
+ghost use Rattle.planus_tie.specs.Reading as reading_spec;
+ghost use Rattle.planus_tie.specs.Views as spec;
 
 use crate::bare::bare;
 use crate::calls::push_function;
@@ -30,7 +24,7 @@ fn push_view_function(
     field: &TableField,
 ) -> Result<(), AllocError>
     ensures { OnOk result (out.new.items ≡ out.old.items
-        ++ view_function totals.now field.now) }
+        ++ spec.view_function totals.now field.now) }
 {
     if !is_judged(totals, field) {
         return push_function(out, field);
@@ -40,7 +34,7 @@ fn push_view_function(
 }
 
 fn is_flags_body(body: &Body) -> bool
-    ensures { result ≡ is_flags_body_lem body.now }
+    ensures { result ≡ spec.is_flags_body body.now }
 {
     match body {
         Body::Enum(one) => one.flags,
@@ -49,7 +43,7 @@ fn is_flags_body(body: &Body) -> bool
 }
 
 fn is_flags(declared: &[Declared], index: usize) -> bool
-    ensures { result ≡ is_flags_lem (slice_get declared.now index) }
+    ensures { result ≡ spec.is_flags (slice_get declared.now index) }
 {
     match declared.get(index) {
         Some(one) => is_flags_body(&one.body),
@@ -58,7 +52,7 @@ fn is_flags(declared: &[Declared], index: usize) -> bool
 }
 
 pub(crate) fn is_constant(naming: &Naming<'_>, base: Base) -> bool
-    ensures { result ≡ is_constant_lem naming.now base }
+    ensures { result ≡ spec.is_constant naming.now base }
 {
     match base {
         Base::Scalar(scalar) => scalar.is_float(),
@@ -73,7 +67,7 @@ fn push_constant_path(
     line: &Line<'_>,
 ) -> Result<(), AllocError>
     ensures { OnOk result (out.new.items ≡ out.old.items
-        ++ constant_path naming.now (line_of line.now)) }
+        ++ spec.constant_path naming.now (line_of line.now)) }
 {
     if !is_constant(naming, line.field.kind.base) {
         return Ok(());
@@ -89,7 +83,7 @@ fn push_view_default(
     line: &Line<'_>,
 ) -> Result<(), AllocError>
     ensures { OnOk result (out.new.items ≡ out.old.items
-        ++ view_default naming.now (line_of line.now)) }
+        ++ spec.view_default naming.now (line_of line.now)) }
 {
     if !has_default(line.field) {
         return Ok(());
@@ -107,7 +101,7 @@ fn view_call(
     line: &Line<'_>,
 ) -> Result<Vec<u8>, AllocError>
     ensures { IfOk result (λ text. text.items
-        ≡ view_call_lem naming.now totals.now (line_of line.now)) }
+        ≡ spec.view_call naming.now totals.now (line_of line.now)) }
 {
     let mut out = Vec::new(alloc);
     push_str(&mut out, "self.0.")?;
@@ -127,7 +121,7 @@ fn view_in<'a>(
     text: &'a [u8],
 ) -> Result<Option<&'a [u8]>, AllocError>
     ensures { IfOk result (λ rest. option_copied rest
-        ≡ view_in_lem naming.now totals.now (line_of line.now) text.now) }
+        ≡ spec.view_in naming.now totals.now (line_of line.now) text.now) }
 {
     let mark = method_mark(alloc, naming.member_of(line.table, line.place))?;
     let wanted = view_call(alloc, naming, totals, line)?;
@@ -141,7 +135,7 @@ fn have_views(
     lines: &[Line<'_>],
     text: &[u8],
 ) -> Result<bool, AllocError>
-    ensures { IfOk result (λ b. b ≡ have_views_lem naming.now totals.now (Some text.now)
+    ensures { IfOk result (λ b. b ≡ spec.have_views naming.now totals.now (Some text.now)
         (map line_of lines.now)) }
 {
     let mut rest = text;
@@ -155,7 +149,7 @@ fn have_views(
 }
 
 fn push_kind_start(out: &mut Vec<u8>, name: &[u8]) -> Result<(), AllocError>
-    ensures { OnOk result (out.new.items ≡ out.old.items ++ kind_start name.now) }
+    ensures { OnOk result (out.new.items ≡ out.old.items ++ spec.kind_start name.now) }
 {
     push_str(out, "impl planus_views::VerifiedKind for ")?;
     out.extend_from_slice(name)?;
@@ -163,7 +157,7 @@ fn push_kind_start(out: &mut Vec<u8>, name: &[u8]) -> Result<(), AllocError>
 }
 
 fn push_index(out: &mut Vec<u8>, index: usize) -> Result<(), AllocError>
-    ensures { OnOk result (out.new.items ≡ out.old.items ++ index_text index) }
+    ensures { OnOk result (out.new.items ≡ out.old.items ++ spec.index_text index) }
 {
     push_str(out, "{ghost schema={verified_schema};ghost index={")?;
     push_number(out, index as u64)?;
@@ -176,7 +170,7 @@ fn kind_head(
     ranks: &[usize],
     index: usize,
 ) -> Result<Vec<u8>, AllocError>
-    ensures { IfOk result (λ text. text.items ≡ kind_head_lem naming.now ranks.now index) }
+    ensures { IfOk result (λ text. text.items ≡ spec.kind_head naming.now ranks.now index) }
 {
     let mut out = Vec::new(alloc);
     push_kind_start(&mut out, naming.type_of(index))?;
@@ -193,8 +187,8 @@ fn has_views(
     plan: &Plan<'_>,
     text: &[u8],
 ) -> Result<bool, AllocError>
-    ensures { IfOk result (λ b. b ≡ have_views_lem naming.now totals.now
-        (after_lem (kind_head_lem naming.now ranks.now plan.now.table) text.now)
+    ensures { IfOk result (λ b. b ≡ spec.have_views naming.now totals.now
+        (reading_spec.after (spec.kind_head naming.now ranks.now plan.now.table) text.now)
         (map line_of plan.now.lines.items)) }
 {
     let head = kind_head(alloc, naming, ranks, plan.table)?;
@@ -213,7 +207,7 @@ fn is_plan_viewed(
     text: &[u8],
 ) -> Result<bool, AllocError>
     ensures { IfOk result (λ b. b
-        ≡ is_view_tied_lem naming.now ranks.now totals.now plan.now text.now) }
+        ≡ spec.is_view_tied naming.now ranks.now totals.now plan.now text.now) }
 {
     if !has_views(alloc, naming, ranks, totals, plan, text)? {
         return Ok(false);
@@ -232,7 +226,7 @@ pub(crate) fn is_view_tied(
     text: &[u8],
 ) -> Result<bool, AllocError>
     ensures { IfOk result (λ b. IsTrue b
-        → IsViewTied naming.now ranks.now totals.now index table.now text.now) }
+        → spec.IsViewTied naming.now ranks.now totals.now index table.now text.now) }
 {
     let plan = Plan::of(alloc, naming.declared, index, table)?;
     let without = bare(alloc, text)?;
