@@ -1,5 +1,5 @@
 -- What a call does with files.
-use Rattle.std.specs.Prelude.{◌≡◌, ◌⊎◌, ⊤, ℕ, Bool, true, false, not, List, [], ◌∷◌, max, Option, Some, None}
+use Rattle.std.specs.Prelude.{◌≡◌, ◌⊎◌, ⊤, ℕ, Bool, true, false, not, List, [], ◌∷◌, Option, Some, None}
 use Rattle.std.specs.Io.KnownBytes.{Keeps}
 use Rattle.planus_schema.specs.declared.schema.Schema.{Schema}
 use Rattle.planus_cli.specs.Arguments.{WordsV, Asked, run}

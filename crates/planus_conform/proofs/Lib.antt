@@ -3,3 +3,4 @@ pub mod Alike
 pub mod Witnesses
 pub mod AsRead
 pub mod NoBreaks
+pub mod OtherTypes

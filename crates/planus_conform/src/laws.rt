@@ -3,7 +3,7 @@
 ghost use Rattle.std.specs.Prelude.{ℕ, List, Option};
 ghost use Rattle.planus_schema.specs.declared.schema.Declared as declared;
 ghost use Rattle.planus_conform.specs.declared.breaks.Way as ways;
-ghost use Rattle.planus_conform.specs.Witnesses.{ChangesShow};
+ghost use Rattle.planus_conform.specs.Witnesses.{ChangesShow, TypesShow};
 ghost use Rattle.planus_conform.specs.AsRead.{TextsAreFound, TablesAreFound};
 ghost use Rattle.planus_conform.specs.NoBreaks.{UnchangedBreaksNothing, AddedFieldsBreakNothing};
 
@@ -14,6 +14,11 @@ use planus_dump::laws::readings_are_said;
 pub fn changes_have_witnesses()
     ensures { (way : ways.Way) (matches : List (Option ℕ)) (old new : List declared.Declared)
         → ChangesShow way matches old new }
+{}
+
+/// Each two scalar types read eight bytes differently, as the item of a vector.
+pub fn types_have_witnesses()
+    ensures { (way : ways.Way) (old new : List declared.Declared) → TypesShow way old new }
 {}
 
 /// The accessor of a string that may be absent returns what is said to be found.
