@@ -172,7 +172,7 @@ def main(program, count="2000", seed="1"):
                 wrong += 1
                 if wrong == 3:
                     break
-    print(f"random schemas printed: {count}, {wrong} not")
+    print(f"random schemas tried: {number + 1}, {wrong} not printed")
     return 1 if wrong else 0
 
 
