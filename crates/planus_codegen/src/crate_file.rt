@@ -11,8 +11,13 @@ use crate::enums::{
     print_numbers,
 };
 use crate::exact::{print_exact_enum, print_exact_struct};
+use crate::long_structs::print_long_layout;
 use crate::names::namespace_around;
 use crate::order::{Order, places_by_name};
+use crate::part_proofs::{
+    JOINED, Written, print_answer, print_fields_answer, print_parts_answer, print_read_answer,
+};
+use crate::parts::{has_answer, is_long, parts_of};
 use crate::printer::Printer;
 use crate::refusal::Refusal;
 use crate::root::print_root;
@@ -38,6 +43,12 @@ pub use root::{
 ";
 
 const RUNTIME: &str = "planus";
+
+const LONG_STRUCT: &str = "//! Structs `$T`.\n\nghost use Rattle.$c.specs.$T as spec;\n";
+
+const STRUCT_LAYOUT: &str = "-- The layout of `$T`.\n";
+
+const STRUCT_PROOF: &str = "proofs/$M/$TPlain/put/Answers.antt";
 
 const VERIFIED_HEAD: &str =
     "//! Verified views, and the schema as a value, by which buffers are verified.\n\n";
@@ -79,6 +90,8 @@ struct Files<'a> {
     files: Vec<PrintedFile>,
     /// Whether memory was refused, after which files are left out.
     failed: bool,
+    /// Whether a proof joins the bytes of many fields.
+    joined: bool,
 }
 
 impl<'a> Files<'a> {
@@ -171,20 +184,65 @@ impl<'a> Files<'a> {
         Ok(())
     }
 
-    fn put_struct(&mut self, at: At, declared: &Declared, one: &Struct) {
+    fn add_struct(&mut self, at: At, declared: &Declared, one: &Struct) -> Result<(), AllocError> {
         let context = self.context;
-        let code = print_struct(context, at, declared, one);
-        self.put_code("//! Structs `$T`.\n", at, &code);
-        if has_padding(one) {
-            let proof = print_padded(context, at);
-            self.put("proofs/$M/$TPlain/put/Answers.antt", at, &proof);
+        let code = print_struct(context, at, declared, one)?;
+        if is_long(one) {
+            self.put_code(LONG_STRUCT, at, &code);
+            let layout = print_long_layout(context, at, one)?;
+            self.put_definitions(STRUCT_LAYOUT, at, &layout);
+            self.add_part_proofs(at, one)?;
+        } else {
+            self.put_code("//! Structs `$T`.\n", at, &code);
+            let layout = print_struct_layout(context, at);
+            self.put_definitions(STRUCT_LAYOUT, at, &layout);
+            self.add_struct_proof(at, one)?;
         }
         if context.is_exact_declaration(at.index) {
             let proof = print_exact_struct(context, at, one);
             self.put("proofs/$M/$TExact/equal_is_same/Answers.antt", at, &proof);
         }
-        let layout = print_struct_layout(context, at);
-        self.put_definitions("-- The layout of `$T`.\n", at, &layout);
+        Ok(())
+    }
+
+    // The proof of how a struct is written, if it has one.
+    fn add_struct_proof(&mut self, at: At, one: &Struct) -> Result<(), AllocError> {
+        let context = self.context;
+        if has_answer(one) {
+            let proof = print_answer(context, at, one)?;
+            self.put_answer(STRUCT_PROOF, at, &proof);
+        } else if has_padding(one) {
+            let proof = print_padded(context, at);
+            self.put(STRUCT_PROOF, at, &proof);
+        }
+        Ok(())
+    }
+
+    // The proofs of a struct in parts, and of these.
+    fn add_part_proofs(&mut self, at: At, one: &Struct) -> Result<(), AllocError> {
+        let context = self.context;
+        let parts = parts_of(context.alloc, one)?;
+        for (place, part) in parts.iter().enumerate() {
+            let written = Written::FieldsOf(place);
+            let proof = print_fields_answer(context, at, one, written, *part)?;
+            let mut path = Printer::new(context);
+            path.put_part_path(place, at);
+            self.put_answer(path.as_str(), at, &proof);
+        }
+        let proof = print_parts_answer(context, at, one)?;
+        self.put_answer(STRUCT_PROOF, at, &proof);
+        let proof = print_read_answer(context, at, one)?;
+        self.put("proofs/$M/$TPlain/read/Answers.antt", at, &proof);
+        Ok(())
+    }
+
+    // Adds a proof whose fields' shapes are imported.
+    fn put_answer(&mut self, path: &str, at: At, proof: &Printer<'_>) {
+        let mut file = Printer::new(self.context);
+        file.put_definition_uses(proof.as_str(), self.order, at.index);
+        file.join(proof);
+        self.put(path, at, &file);
+        self.joined = true;
     }
 
     fn put_flags(&mut self, at: At, declared: &Declared) {
@@ -227,7 +285,11 @@ impl<'a> Files<'a> {
                     self.failed = true;
                 }
             }
-            Body::Struct(one) => self.put_struct(at, declared, one),
+            Body::Struct(one) => {
+                if self.add_struct(at, declared, one).is_err() {
+                    self.failed = true;
+                }
+            }
             Body::Enum(one) if one.flags => self.put_flags(at, declared),
             Body::Enum(one) => self.put_enum(at, declared, one),
             Body::Union(one) => self.put_union(at, declared, one),
@@ -398,6 +460,20 @@ impl<'a> Files<'a> {
         self.put_namespaces();
         self.put_library();
         self.put_definition_list();
+        if self.joined {
+            self.put_joined();
+        }
+    }
+
+    // What the proofs of structs of many fields stand on.
+    fn put_joined(&mut self) {
+        let at = At::declaration(0);
+        let mut list = Printer::new(self.context);
+        list.put_str("mod Joined\n");
+        self.put("proofs/Lib.antt", at, &list);
+        let mut text = Printer::new(self.context);
+        text.put_str(JOINED);
+        self.put("proofs/Joined.antt", at, &text);
     }
 }
 
@@ -418,6 +494,7 @@ fn files_of(context: &Context<'_>) -> Result<Vec<PrintedFile>, AllocError> {
         modules: &modules,
         files: Vec::new(context.alloc),
         failed: false,
+        joined: false,
     };
     files.put_all();
     if files.failed {

@@ -376,7 +376,7 @@ impl<'a> Printer<'a> {
     }
 
     // A field of a struct in the tuple of its values.
-    fn put_projection(&mut self, place: usize) {
+    pub(crate) fn put_projection(&mut self, place: usize) {
         self.put_char('v');
         for _ in 0..place {
             self.put_str(".1");

@@ -3,9 +3,11 @@
 use crate::at::At;
 use crate::context::Context;
 use crate::holes::has_forced_alignment;
+use crate::parts::is_long;
 use crate::printer::Piece::{Documented, Each, Once};
 use crate::printer::{Piece, Printer};
 use planus_schema::{Declared, Struct};
+use std::alloc::AllocError;
 
 /// The layout of a type, up to the body of `put`.
 pub(crate) const LAYOUT: &str = "\
@@ -77,10 +79,13 @@ pub(crate) fn has_padding(one: &Struct) -> bool {
     bytes < one.size
 }
 
-const STRUCT_CODE: [Piece; 11] = [
+const STRUCT_HEAD: [Piece; 3] = [
     Once(HEAD),
     Documented("", "    pub $n: $t,\n"),
     Once(LAYOUT),
+];
+
+const STRUCT_BODY: [Piece; 7] = [
     Once("        put_fields!(self, bytes;~"),
     Each("$x$n: $z", ",~"),
     Once("$y);\n"),
@@ -88,7 +93,6 @@ const STRUCT_CODE: [Piece; 11] = [
     Once("        read_fields!($T, buffer, offset;~"),
     Each("$w", ",~"),
     Once(")\n"),
-    Once(STRIDE),
 ];
 
 pub(crate) fn print_struct<'a>(
@@ -96,17 +100,28 @@ pub(crate) fn print_struct<'a>(
     at: At,
     declared: &Declared,
     one: &Struct,
-) -> Printer<'a> {
+) -> Result<Printer<'a>, AllocError> {
     let mut printer = Printer::new(context);
     printer.put_docs("", &declared.docs, "/// A struct of $S bytes.\n", at);
-    printer.put_pieces(&STRUCT_CODE, at);
+    printer.put_pieces(&STRUCT_HEAD, at);
+    if is_long(one) {
+        printer.add_parts_written(one)?;
+        printer.put(READ, at);
+        printer.add_parts_read(one, at)?;
+    } else {
+        printer.put_pieces(&STRUCT_BODY, at);
+    }
+    printer.put(STRIDE, at);
     if context.is_total_declaration(at.index) {
         printer.put(TOTAL, at);
     }
     if context.is_exact_declaration(at.index) {
         printer.put_exact_struct(one, at);
     }
-    printer
+    if is_long(one) {
+        printer.add_parts(one, at)?;
+    }
+    Ok(printer)
 }
 
 const SHAPE_FIELDS: [Piece; 3] = [

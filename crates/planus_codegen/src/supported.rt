@@ -1,6 +1,7 @@
 //! What the printed code of a schema can't have.
 
 use crate::hex_floats::is_too_long;
+use crate::parts::has_too_many_parts;
 use crate::refusal::Refusal;
 use planus_schema::{
     Body, Declared, Enum, Plan, Table, TableField, Union, Value, is_hexadecimal, without_sign,
@@ -9,6 +10,8 @@ use planus_tie::{are_taken, entries_of};
 use std::alloc::{AllocError, Global};
 
 const TOO_MANY_FIELDS: &str = "a table with more fields than the checker takes";
+
+const TOO_MANY_PARTS: &str = "a struct with more fields than the checker takes";
 
 /// The most values of an enum.
 const MOST_VALUES: usize = 256;
@@ -104,6 +107,11 @@ pub(crate) fn refuse_unsupported(alloc: Global, declared: &[Declared]) -> Result
         }
         if has_too_many_fields(alloc, declared, index, &one.body)? {
             return refuse(alloc, TOO_MANY_FIELDS, one);
+        }
+        if let Body::Struct(fields) = &one.body {
+            if has_too_many_parts(alloc, fields)? {
+                return refuse(alloc, TOO_MANY_PARTS, one);
+            }
         }
     }
     Ok(())

@@ -35,3 +35,4 @@ pub use files::{PrintedFile, are_tied};
 pub use groups::{Entry, are_taken, entries_of};
 pub use kinds::{ending, has_default, is_bytes, is_union, kind_word, scalar_name};
 pub use naming::Naming;
+pub use structs::MOST_ELEMENTS;

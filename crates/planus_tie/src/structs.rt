@@ -1,14 +1,19 @@
 //! Whether the text of a struct is its schema's.
 
 ghost use Rattle.std.specs.Prelude.{◌≡◌, ◌++◌, IfOk, OnOk, IsTrue};
+ghost use Rattle.std.specs.Option.{option_copied};
 ghost use Rattle.planus_tie.specs.Structs as spec;
 
 use crate::bare::bare;
 use crate::holes::{Holes, has_text, push_each, push_filled};
 use crate::naming::Naming;
 use crate::plains::{push_layout, push_read};
+use crate::reading::{after, after_in};
 use planus_schema::{Base, Number, Struct, StructField};
 use std::alloc::{AllocError, Global};
+
+/// The code of more fields and paddings is in parts, each a struct.
+pub const MOST_ELEMENTS: usize = 12;
 
 fn struct_holes(index: usize, one: &Struct) -> Holes
     ensures { result ≡ spec.struct_holes index one.now }
@@ -132,6 +137,92 @@ fn struct_text(
     Ok(out)
 }
 
+// With its padding, if there is some.
+fn elements(field: Holes) -> usize
+    ensures { result ≡ spec.elements field }
+{
+    if field.padding == 0 { 1 } else { 2 }
+}
+
+fn is_above(room: usize, fields: &[Holes]) -> bool
+    ensures { result ≡ spec.is_above room fields.now }
+{
+    let mut left = room;
+    let mut rest = fields;
+    'fields: while let Some((field, next)) = rest.split_first() {
+        let taken = elements(*field);
+        if left < taken {
+            return true;
+        }
+        left -= taken;
+        rest = next;
+    }
+    false
+}
+
+fn is_long(fields: &[Holes]) -> bool
+    ensures { result ≡ spec.is_long fields.now }
+{
+    is_above(MOST_ELEMENTS, fields)
+}
+
+fn field_mark(alloc: Global, naming: &Naming<'_>, field: Holes) -> Result<Vec<u8>, AllocError>
+    ensures { IfOk result (λ mark. mark.items ≡ spec.field_mark naming.now field) }
+{
+    let mut out = Vec::new(alloc);
+    push_filled(&mut out, naming, field, "$n: $z")?;
+    bare(alloc, &out)
+}
+
+/// Returns what follows when each field was found with its size, in order.
+fn behind_fields<'a>(
+    alloc: Global,
+    naming: &Naming<'_>,
+    fields: &[Holes],
+    text: Option<&'a [u8]>,
+) -> Result<Option<&'a [u8]>, AllocError>
+    ensures { IfOk result (λ found. option_copied found
+        ≡ spec.behind_fields naming.now fields.now (option_copied text.entry)) }
+{
+    let mut found = text;
+    let mut rest = fields;
+    'fields: while let Some((field, next)) = rest.split_first() {
+        let mark = field_mark(alloc, naming, *field)?;
+        found = after_in(&mark, found);
+        rest = next;
+    }
+    Ok(found)
+}
+
+fn head_text(
+    alloc: Global,
+    naming: &Naming<'_>,
+    own: Holes,
+    fields: &[Holes],
+) -> Result<Vec<u8>, AllocError>
+    ensures { IfOk result (λ out. out.items ≡ spec.head_text naming.now own fields.now) }
+{
+    let mut out = Vec::new(alloc);
+    push_fields(&mut out, naming, own, fields)?;
+    push_layout(&mut out, naming, own)?;
+    Ok(out)
+}
+
+fn is_long_text(
+    alloc: Global,
+    naming: &Naming<'_>,
+    own: Holes,
+    fields: &[Holes],
+    text: &[u8],
+) -> Result<bool, AllocError>
+    ensures { IfOk result (λ b. b ≡ spec.is_long_text naming.now own fields.now text.now) }
+{
+    let head = head_text(alloc, naming, own, fields)?;
+    let head = bare(alloc, &head)?;
+    let found = behind_fields(alloc, naming, fields, after(&head, text))?;
+    Ok(found.is_some())
+}
+
 fn is_struct_text(
     alloc: Global,
     naming: &Naming<'_>,
@@ -141,6 +232,9 @@ fn is_struct_text(
 ) -> Result<bool, AllocError>
     ensures { IfOk result (λ b. b ≡ spec.is_struct_text naming.now own fields.now text.now) }
 {
+    if is_long(fields) {
+        return is_long_text(alloc, naming, own, fields, text);
+    }
     let wanted = struct_text(alloc, naming, own, fields)?;
     has_text(alloc, text, &wanted)
 }
