@@ -15,6 +15,9 @@ const OF_ARRAYS: &str = "use Rattle.std.proofs.Common.{arith, rules, lit<}\n";
 
 const OF_TOTAL: &str = "use Rattle.std.proofs.Common.{sym, subst}\n";
 
+// The second of two parts is the last.
+const OF_TWO: &str = "use Rattle.std.proofs.Common.{sym, subst, rules}\n";
+
 const OF_BROKEN: &str = "use Rattle.std.proofs.Common.{sym, subst, rules, ◌+◌}\n";
 
 const USES: &str = "\
@@ -395,7 +398,11 @@ pub(crate) fn print_read_answer<'a>(
     let mut printer = Printer::new(context);
     let parts = parts_of(context.alloc, one)?;
     let total = context.is_total_declaration(at.index);
-    printer.put_str(if total { OF_TOTAL } else { OF_BROKEN });
+    printer.put_str(match (total, parts.len()) {
+        (true, _) => OF_TOTAL,
+        (false, 0..=2) => OF_TWO,
+        _ => OF_BROKEN,
+    });
     printer.put(READ_USES, at);
     printer.put(READ_ANSWER, at);
     printer.put_known_parts(parts.len(), "answer", at);

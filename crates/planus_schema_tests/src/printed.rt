@@ -5,6 +5,7 @@ ghost use Rattle.std.specs.Prelude.{◌≡◌, None, []};
 mod arrays;
 mod keys;
 mod members;
+mod parts;
 mod ports;
 mod structs;
 

@@ -19,7 +19,8 @@ table_names = (0, codes "Boat") ∷ (1, codes "Fee") ∷ (2, codes "Quay") ∷ [
 abbrev pub field_names : List (ℕ × ℕ × List ℕ)
 field_names = (0, 0, codes "name") ∷ (1, 0, codes "gear") ∷ (1, 1, codes "euros") ∷
     (2, 0, codes "name") ∷ (2, 1, codes "plate") ∷ (2, 2, codes "cranes") ∷ (2, 3, codes "first") ∷
-    (2, 5, codes "berths") ∷ (2, 7, codes "boats") ∷ (2, 8, codes "fees") ∷ []
+    (2, 5, codes "berths") ∷ (2, 7, codes "boats") ∷ (2, 8, codes "fees") ∷ (2, 9, codes "dives") ∷
+    []
 
 -- the names of both
 abbrev pub verified_names : NameTexts

@@ -4,6 +4,7 @@
 mod berth;
 mod boat;
 mod crane;
+mod dive;
 mod fee;
 mod gear;
 mod load;
@@ -13,6 +14,7 @@ mod quay;
 pub use berth::{Berth, BerthRef};
 pub use boat::{Boat, BoatFields, BoatRef};
 pub use crane::Crane;
+pub use dive::Dive;
 pub use fee::{Fee, FeeFields, FeeRef};
 pub use gear::Gear;
 pub use load::Load;

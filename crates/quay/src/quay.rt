@@ -10,12 +10,14 @@ ghost use Rattle.quay.specs.declared.berth.Berth.{Berth};
 ghost use Rattle.quay.specs.declared.berth.BerthRef.{BerthRef};
 ghost use Rattle.quay.specs.declared.boat.Boat.{Boat};
 ghost use Rattle.quay.specs.Crane.{crane_shape};
+ghost use Rattle.quay.specs.Dive.{dive_shape};
 ghost use Rattle.quay.specs.declared.fee.Fee.{Fee};
 ghost use Rattle.quay.specs.Plate.{plate_shape};
 
 use crate::berth::{Berth, BerthRef};
 use crate::boat::{Boat, BoatRef};
 use crate::crane::Crane;
+use crate::dive::Dive;
 use crate::fee::{Fee, FeeRef};
 use crate::plate::Plate;
 use planus::table_reader::Table;
@@ -38,6 +40,7 @@ pub struct QuayFields<'a> {
     pub berths: &'a [UnionOffset<Berth>],
     pub boats: Option<&'a [Offset<Boat>]>,
     pub fees: Option<&'a [Offset<Fee>]>,
+    pub dives: Option<&'a [Dive]>,
 }
 
 impl Quay {
@@ -45,7 +48,7 @@ impl Quay {
     pub fn fields<'a>(name: &'a str) -> QuayFields<'a>
         ensures given { (result.name ≡ name.entry) }
         ensures rest { let x = result in (x.plate ≡ None) × (x.cranes ≡ None) × (x.first ≡ None) ×
-            (x.berths.now ≡ []) × (x.boats ≡ None) × (x.fees ≡ None) }
+            (x.berths.now ≡ []) × (x.boats ≡ None) × (x.fees ≡ None) × (x.dives ≡ None) }
     {
         QuayFields {
             name,
@@ -55,6 +58,7 @@ impl Quay {
             berths: &[],
             boats: None,
             fees: None,
+            dives: None,
         }
     }
 }
@@ -67,6 +71,7 @@ impl<'a> Create<QuayFields<'a>> for Quay {
         unions BerthRef 5 fields.berths ∷
         optional (tables Boat) 7 fields.boats ∷
         optional (tables Fee) 8 fields.fees ∷
+        optional (judged dive_shape) 9 fields.dives ∷
         plain_if plate_shape 1 fields.plate ∷ [] };
 
     ghost may = { λ fields builder. MatchOption fields.first ⊤ (λ x. IsIn builder x.offset) ×
@@ -82,6 +87,7 @@ impl<'a> Create<QuayFields<'a>> for Quay {
             (5, 6): unions Berth = OrDefault { value: fields.berths, default: () },
             7: Offset<List<Offset<Boat>>> = fields.boats,
             8: Offset<List<Offset<Fee>>> = fields.fees,
+            9: Offset<List<Dive>> = fields.dives,
             1: Plate = fields.plate,
         ];
         create_table::<Quay, _>(builder, lines)
@@ -142,6 +148,13 @@ impl<'a> QuayRef<'a> {
     {
         table_vector(&self.0, 8, "Quay", "fees")
     }
+
+    /// Returns `dives`.
+    pub fn dives(&self) -> Result<Option<Vector<'a, Result<Dive>>>>
+        ensures { IsPlainVector self.now.0 9 (codes "Quay") (codes "dives") result }
+    {
+        plain_vector(&self.0, 9, "Quay", "dives")
+    }
 }
 
 impl<'a> TableView<'a> for QuayRef<'a> {
@@ -171,7 +184,7 @@ impl<'a> planus::VectorReadInner<'a> for QuayRef<'a> {
 }
 
 impl TableKind for Quay {
-    type Writer = TableWriter<22>;
+    type Writer = TableWriter<24>;
 
     ghost name = { codes "[QuayRef]" };
 
@@ -190,6 +203,7 @@ impl<'a> std::fmt::Debug for QuayRef<'a> {
         shown.field("berths", &self.berths());
         shown.field("boats", &self.boats());
         shown.field("fees", &self.fees());
+        shown.field("dives", &self.dives());
         shown.finish()
     }
 }

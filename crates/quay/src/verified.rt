@@ -14,7 +14,7 @@ use planus_views::{
     VariantKind,
 };
 
-pub const FIELDS: [FieldShape; 10] = [
+pub const FIELDS: [FieldShape; 11] = [
     FieldShape {
         slot: 0,
         required: true,
@@ -65,12 +65,17 @@ pub const FIELDS: [FieldShape; 10] = [
         required: false,
         kind: FieldKind::Value(ValueKind::Tables(1)),
     },
+    FieldShape {
+        slot: 9,
+        required: false,
+        kind: FieldKind::Value(ValueKind::Plains(56)),
+    },
 ];
 
 pub const TABLES: [TableShape; 3] = [
     TableShape { first: 0, count: 1 },
     TableShape { first: 1, count: 2 },
-    TableShape { first: 3, count: 7 },
+    TableShape { first: 3, count: 8 },
 ];
 
 pub const VARIANTS: [Variant; 4] = [
@@ -122,7 +127,7 @@ pub const TABLE_NAMES: [TableName<'static>; 3] = [
     },
 ];
 
-pub const FIELD_NAMES: [FieldName<'static>; 10] = [
+pub const FIELD_NAMES: [FieldName<'static>; 11] = [
     FieldName {
         table: 0,
         slot: 0,
@@ -172,6 +177,11 @@ pub const FIELD_NAMES: [FieldName<'static>; 10] = [
         table: 2,
         slot: 8,
         field: "fees",
+    },
+    FieldName {
+        table: 2,
+        slot: 9,
+        field: "dives",
     },
 ];
 

@@ -7,6 +7,7 @@ ghost use Rattle.quay.specs.Verified.{verified_whole};
 use crate::berth::Berth;
 use crate::boat::Boat;
 use crate::crane::Crane;
+use crate::dive::Dive;
 use crate::fee::Fee;
 use crate::plate::Plate;
 use crate::quay::{Quay, QuayRef};
@@ -59,6 +60,7 @@ impl planus_views::Verify for Quay {
         let left = fields.unions::<Berth>(5, false, left)?;
         let left = fields.tables::<Boat>(7, false, left)?;
         let left = fields.tables::<Fee>(8, false, left)?;
+        let left = fields.value(9, false, planus_views::ValueKind::Plains(56), left)?;
         Some(left)
     }
 }
@@ -129,6 +131,13 @@ impl<'a> QuayView<'a> {
             (option_map (λ all. checked_tables all) result) }
     {
         self.0.table_vector(8)
+    }
+
+    /// Returns `dives`.
+    pub fn dives(&self) -> Option<Vector<'a, planus::Result<Dive>>>
+        ensures { Returns (IsPlainVector (view_table self.now.0) 9) result }
+    {
+        self.0.plain_vector(9)
     }
 
     /// Returns the view that tests what it reads.

@@ -10,4 +10,4 @@ returns c =
     (passed.field _ c.in_ok-left-2.ensures (passed.field _ c.in_ok-left-3.ensures
     (passed.field _ c.in_ok-left-4.ensures (passed.field _ c.in_ok-left-5.ensures
     (passed.field _ c.in_ok-left-6.ensures (passed.field _ c.in_ok-left-7.ensures
-    (passed.field _ c.in_ok-left-8.ensures refl)))))))
+    (passed.field _ c.in_ok-left-8.ensures (passed.field _ c.in_ok-left-9.ensures refl))))))))
