@@ -3,7 +3,7 @@
 
     random_printed.py PROGRAM [COUNT [SEED]]
 
-Each of COUNT schemas (2000, if none is given) has enums, flags, structs with arrays, unions of tables,
+Each of COUNT schemas (2000, if none is given) has enums, flags, structs with arrays and of up to 30 fields, unions of tables,
 structs and strings, and tables with fields of each kind, defaults and attributes, under names that code
 spells otherwise, in up to three namespaces. Each must be printed; the program reads what it prints
 again, and refuses code that isn't the schema's. The schemas are the same in each run.
@@ -34,6 +34,8 @@ class Schema:
         self.lines = []
         self.enums = {}
         self.structs = []
+        # Those that stand in others.
+        self.short = []
         self.tables = []
         self.unions = []
         self.count = 0
@@ -69,14 +71,17 @@ class Schema:
 
     def add_struct(self):
         name = self.fresh("Struct")
-        kinds = [*INTEGERS, "bool", "float", "double", *self.enums, *self.structs[-3:]]
+        kinds = [*INTEGERS, "bool", "float", "double", *self.enums, *self.short[-3:]]
         fields = []
-        for field in self.names(self.chance.randint(1, 7)):
+        long = self.chance.random() < 0.2
+        for field in self.names(self.chance.randint(8, 30) if long else self.chance.randint(1, 7)):
             kind = self.chance.choice(kinds)
             count = self.chance.choice([None, None, None, 1, 2, 5])
             fields.append(f"{field}: {kind if count is None else f'[{kind}:{count}]'};")
         self.lines.append(f"struct {name} {{ {' '.join(fields)} }}")
         self.structs.append(name)
+        if not long:
+            self.short.append(name)
 
     def add_union(self):
         name = self.fresh("Union")
@@ -146,7 +151,7 @@ class Schema:
             if space:
                 # Types of another namespace are named by their full names, so each begins anew.
                 self.lines.append(f"namespace space{space}.Inner;")
-                self.enums, self.structs, self.tables, self.unions = {}, [], [], []
+                self.enums, self.structs, self.short, self.tables, self.unions = {}, [], [], [], []
                 self.add_struct()
                 self.add_table()
             for _ in range(self.chance.randint(1, 8)):

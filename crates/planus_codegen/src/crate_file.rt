@@ -11,7 +11,7 @@ use crate::enums::{
     print_numbers,
 };
 use crate::exact::{print_exact_enum, print_exact_struct};
-use crate::long_structs::print_long_layout;
+use crate::long_structs::{print_long_layout, print_part_uses};
 use crate::names::namespace_around;
 use crate::order::{Order, places_by_name};
 use crate::part_proofs::{
@@ -44,7 +44,8 @@ pub use root::{
 
 const RUNTIME: &str = "planus";
 
-const LONG_STRUCT: &str = "//! Structs `$T`.\n\nghost use Rattle.$c.specs.$T as spec;\n";
+// The other imports follow.
+const LONG_STRUCT: &str = "//! Structs `$T`.\n\nghost use Rattle.$c.specs.$T as spec;";
 
 const STRUCT_LAYOUT: &str = "-- The layout of `$T`.\n";
 
@@ -165,9 +166,15 @@ impl<'a> Files<'a> {
     }
 
     fn put_definitions(&mut self, head: &str, at: At, text: &Printer<'_>) {
+        self.put_definitions_with(head, at, &Printer::new(self.context), text);
+    }
+
+    // These imports follow those of the text's words.
+    fn put_definitions_with(&mut self, head: &str, at: At, uses: &Printer<'_>, text: &Printer<'_>) {
         let mut file = Printer::new(self.context);
         file.put(head, at);
         file.put_definition_uses(text.as_str(), self.order, at.index);
+        file.join(uses);
         file.put_str("\n");
         file.join(text);
         self.put("specs/$T.antt", at, &file);
@@ -189,8 +196,9 @@ impl<'a> Files<'a> {
         let code = print_struct(context, at, declared, one)?;
         if is_long(one) {
             self.put_code(LONG_STRUCT, at, &code);
+            let uses = print_part_uses(context, at, one)?;
             let layout = print_long_layout(context, at, one)?;
-            self.put_definitions(STRUCT_LAYOUT, at, &layout);
+            self.put_definitions_with(STRUCT_LAYOUT, at, &uses, &layout);
             self.add_part_proofs(at, one)?;
         } else {
             self.put_code("//! Structs `$T`.\n", at, &code);

@@ -9,6 +9,14 @@ use crate::printer::Printer;
 use planus_schema::Struct;
 use std::alloc::AllocError;
 
+/// The most parts that are given in the line of a call, and the columns of its name and of these.
+const ARGUMENTS: usize = 7;
+
+const CALL_COLUMNS: usize = 78;
+
+/// How many parts are given in the first line of a call that goes on.
+const LINE: usize = 10;
+
 const PART_HEAD: &str = "
 #[derive(Clone, Copy)]
 struct ";
@@ -210,8 +218,26 @@ impl<'a> Printer<'a> {
             self.put_str(")?;\n");
         }
         self.put("        Ok($T::of_parts(", at);
-        self.put_part_names(parts, "^", ",^", "", at);
-        self.put("^))\n", at);
+        self.put_parts_given(parts.len(), at);
+        self.put_str("))\n");
+    }
+
+    // The parts as arguments, as many in a line as fit.
+    fn put_parts_given(&mut self, count: usize, at: At) {
+        let name = self.context.names.type_name(at.index).len();
+        let columns = name.saturating_add(count.saturating_mul(8));
+        let in_line = count <= ARGUMENTS && columns <= CALL_COLUMNS;
+        self.put_str(if in_line { "" } else { "\n            " });
+        for place in 0..count {
+            self.put_str(match place {
+                0 => "",
+                LINE => ",\n            ",
+                _ => ", ",
+            });
+            self.put_str("part_");
+            self.put_usize(place.saturating_add(1));
+        }
+        self.put_str(if in_line { "" } else { ",\n        " });
     }
 
     // `part_1`, `part_2` .., with these words before, between and behind them.
@@ -416,7 +442,6 @@ impl<'a> Printer<'a> {
             self.put_part_type(place, at);
             self.put_str("}\n");
         }
-        self.put_str("\n");
     }
 
     /// Adds the body of `put` of a struct of many fields.
@@ -445,6 +470,18 @@ impl<'a> Printer<'a> {
     }
 }
 
+/// Returns the imports of the types of a struct's parts.
+pub(crate) fn print_part_uses<'a>(
+    context: &'a Context<'a>,
+    at: At,
+    one: &Struct,
+) -> Result<Printer<'a>, AllocError> {
+    let mut printer = Printer::new(context);
+    let parts = parts_of(context.alloc, one)?;
+    printer.put_part_uses(&parts, at);
+    Ok(printer)
+}
+
 /// Returns the layout of a struct of many fields.
 pub(crate) fn print_long_layout<'a>(
     context: &'a Context<'a>,
@@ -453,7 +490,6 @@ pub(crate) fn print_long_layout<'a>(
 ) -> Result<Printer<'a>, AllocError> {
     let mut printer = Printer::new(context);
     let parts = parts_of(context.alloc, one)?;
-    printer.put_part_uses(&parts, at);
     for (place, part) in parts.iter().enumerate() {
         printer.put_part_shape(place, *part, at);
         printer.put_part_definition(place, *part, at);

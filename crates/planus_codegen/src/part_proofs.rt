@@ -29,6 +29,12 @@ pub returns-clause-encoded : goal.returns-clause-encoded
 returns-clause-encoded c =
 ";
 
+const NONE: &str = "\
+.result.1.now ≡ [] = nil_from_length _ (omega (
+      arith,
+      c.requires,
+";
+
 const FITS: &str = "
 pub returns-clause-fits : goal.returns-clause-fits
 returns-clause-fits c =
@@ -37,6 +43,7 @@ returns-clause-fits c =
 const READ_USES: &str = "\
 use Rattle.planus.specs.Printed.{slice_bytes}
 use Rattle.$c.specs.$T as spec
+use Rattle.$c.proofs.Joined.{both}
 use Rattle.$c.proofs.$M.$TPlain.read.Goals as goal
 
 ";
@@ -68,6 +75,10 @@ pub joined : {a e l f z : List ℕ} → a ≡ e → Ends l f z → Ends (a ++ l)
 joined {a} {e} {l} {f} {z} first rest = record {
   is = ap (λ x. x ++ l) first ∙ ap (λ x. e ++ x) rest.is ∙ sym (append_assoc e f z);
 }
+
+-- what is known of a part, and of those behind it
+pub both : {A B : Type 0} → A → B → A × B
+both first rest = (first, rest)
 
 pub ended : {l z : List ℕ} → l ≡ z → Ends l [] z
 ended same = record { is = same }
@@ -130,17 +141,20 @@ impl<'a> Printer<'a> {
         });
     }
 
-    fn put_lengths(&mut self, written: Written, items: &[Item], at: At) {
+    // The lengths behind each split, a line each.
+    fn put_lengths(&mut self, written: Written, items: &[Item]) {
         for (place, item) in items.iter().enumerate() {
-            self.put(",~", at);
-            self.put_split_at(written, items, place, false);
-            self.put_str(".ensures.back_len");
+            self.put_length(written, items, place, false);
             if item.gap > 0 {
-                self.put(",~", at);
-                self.put_split_at(written, items, place, true);
-                self.put_str(".ensures.back_len");
+                self.put_length(written, items, place, true);
             }
         }
+    }
+
+    fn put_length(&mut self, written: Written, items: &[Item], place: usize, behind: bool) {
+        self.put_str("      ");
+        self.put_split_at(written, items, place, behind);
+        self.put_str(".ensures.back_len,\n");
     }
 
     fn put_array_fact(&mut self, written: Written, items: &[Item], place: usize, at: At) {
@@ -183,12 +197,9 @@ impl<'a> Printer<'a> {
         let padded = gaps_in(items) > gaps_in(before(items, last));
         self.put_str("    let none : ");
         self.put_split_at(written, items, last, padded);
-        self.put(
-            ".result.1.now ≡ [] =~nil_from_length _~(omega (arith,~c.requires",
-            at,
-        );
-        self.put_lengths(written, items, at);
-        self.put_str(")) in\n");
+        self.put_str(NONE);
+        self.put_lengths(written, items);
+        self.put_str("    )) in\n");
     }
 
     // What is known of the bytes of an item.
@@ -259,7 +270,9 @@ impl<'a> Printer<'a> {
         self.put(USES, at);
         let last = items.len().saturating_sub(1);
         let padded = gaps_in(items) > gaps_in(before(items, last));
-        self.put_str(if padded { ", behind}\n" } else { "}\n" });
+        self.put_str(if padded { ", behind" } else { "" });
+        let in_parts = matches!(written, Written::Parts);
+        self.put_str(if in_parts { ", both}\n" } else { "}\n" });
         if matches!(written, Written::Parts) {
             self.put("use Rattle.$c.specs.$T as spec\n", at);
         }
@@ -283,13 +296,13 @@ impl<'a> Printer<'a> {
         self.put_str(FITS);
         for place in 0..count {
             let number = place.saturating_add(1);
-            self.put_str("(subst (λ x. spec.");
+            self.put_str("(both (subst (λ x. spec.");
             self.put_part_word(place, at);
             self.put_str("_shape.fits x) c.part_");
             self.put_usize(number);
             self.put_str(".ensures c.put");
             self.put_nth(number);
-            self.put(".ensures.fits,~", at);
+            self.put(".ensures.fits)~", at);
         }
         self.put_str("tt");
         for _ in 0..count {
@@ -339,11 +352,11 @@ impl<'a> Printer<'a> {
     // What is known of each part that was read.
     fn put_known_parts(&mut self, count: usize, clause: &str, at: At) {
         for place in 0..count {
-            self.put_str("(c.in_ok-part_");
+            self.put_str("(both c.in_ok-part_");
             self.put_usize(place.saturating_add(1));
             self.put_str(".ensures.");
             self.put_str(clause);
-            self.put(",~", at);
+            self.put("~", at);
         }
         self.put_str("tt");
         for _ in 0..count {

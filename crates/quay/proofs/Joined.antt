@@ -11,6 +11,10 @@ joined {a} {e} {l} {f} {z} first rest = record {
   is = ap (λ x. x ++ l) first ∙ ap (λ x. e ++ x) rest.is ∙ sym (append_assoc e f z);
 }
 
+-- what is known of a part, and of those behind it
+pub both : {A B : Type 0} → A → B → A × B
+both first rest = (first, rest)
+
 pub ended : {l z : List ℕ} → l ≡ z → Ends l [] z
 ended same = record { is = same }
 

@@ -5,7 +5,6 @@ use Rattle.planus.specs.Printed.{field, no_more, struct_layout, struct_shape}
 use Rattle.std.proofs.Common.{refl, lit≤, lit<}
 use Rattle.quay.specs.declared.dive.Dive.{Dive}
 use Rattle.quay.specs.Gear.{gear_shape}
-
 use Rattle.quay.specs.declared.dive.DivePart1.{DivePart1}
 use Rattle.quay.specs.declared.dive.DivePart2.{DivePart2}
 

@@ -1,7 +1,6 @@
 //! Structs `Dive`.
 
 ghost use Rattle.quay.specs.Dive as spec;
-
 ghost use Rattle.std.specs.Prelude.{◌≡◌};
 ghost use Rattle.quay.specs.Dive.{dive_shape};
 

@@ -20,14 +20,22 @@ returns-clause-encoded c =
     (array_shape 2 (lit< tt) gear_shape).encoded c.args.self.now.marks = search rules in
     let zeros_4 : c.put_fields-copy_from_slice-4.new.self ≡ 0 ∷ 0 ∷ 0 ∷ 0 ∷ 0 ∷ 0 ∷ [] =
     c.put_fields-copy_from_slice-4.ensures.after in
-    let none : c.put_fields-split_at_mut-12.result.1.now ≡ [] = nil_from_length _ (omega (arith,
-    c.requires, c.put_fields-split_at_mut.ensures.back_len,
-    c.put_fields-split_at_mut-2.ensures.back_len, c.put_fields-split_at_mut-3.ensures.back_len,
-    c.put_fields-split_at_mut-4.ensures.back_len, c.put_fields-split_at_mut-5.ensures.back_len,
-    c.put_fields-split_at_mut-6.ensures.back_len, c.put_fields-split_at_mut-7.ensures.back_len,
-    c.put_fields-split_at_mut-8.ensures.back_len, c.put_fields-split_at_mut-9.ensures.back_len,
-    c.put_fields-split_at_mut-10.ensures.back_len, c.put_fields-split_at_mut-11.ensures.back_len,
-    c.put_fields-split_at_mut-12.ensures.back_len)) in
+    let none : c.put_fields-split_at_mut-12.result.1.now ≡ [] = nil_from_length _ (omega (
+      arith,
+      c.requires,
+      c.put_fields-split_at_mut.ensures.back_len,
+      c.put_fields-split_at_mut-2.ensures.back_len,
+      c.put_fields-split_at_mut-3.ensures.back_len,
+      c.put_fields-split_at_mut-4.ensures.back_len,
+      c.put_fields-split_at_mut-5.ensures.back_len,
+      c.put_fields-split_at_mut-6.ensures.back_len,
+      c.put_fields-split_at_mut-7.ensures.back_len,
+      c.put_fields-split_at_mut-8.ensures.back_len,
+      c.put_fields-split_at_mut-9.ensures.back_len,
+      c.put_fields-split_at_mut-10.ensures.back_len,
+      c.put_fields-split_at_mut-11.ensures.back_len,
+      c.put_fields-split_at_mut-12.ensures.back_len,
+    )) in
     (joined c.put_fields-put.ensures.encoded (joined c.put_fields-put-2.ensures.encoded
     (joined zeros_1 (joined items_1 (joined c.put_fields-put-3.ensures.encoded (joined zeros_2
     (joined c.put_fields-put-4.ensures.encoded (joined c.put_fields-put-5.ensures.encoded

@@ -8,8 +8,12 @@ pub returns-clause-encoded : goal.returns-clause-encoded
 returns-clause-encoded c =
     let zeros_1 : c.put_fields-copy_from_slice.new.self ≡ 0 ∷ 0 ∷ 0 ∷ 0 ∷ 0 ∷ 0 ∷ [] =
     c.put_fields-copy_from_slice.ensures.after in
-    let none : c.put_fields-split_at_mut-3.result.1.now ≡ [] = nil_from_length _ (omega (arith,
-    c.requires, c.put_fields-split_at_mut.ensures.back_len,
-    c.put_fields-split_at_mut-2.ensures.back_len, c.put_fields-split_at_mut-3.ensures.back_len)) in
+    let none : c.put_fields-split_at_mut-3.result.1.now ≡ [] = nil_from_length _ (omega (
+      arith,
+      c.requires,
+      c.put_fields-split_at_mut.ensures.back_len,
+      c.put_fields-split_at_mut-2.ensures.back_len,
+      c.put_fields-split_at_mut-3.ensures.back_len,
+    )) in
     (joined c.put_fields-put.ensures.encoded (joined c.put_fields-put-2.ensures.encoded
     (ended (behind zeros_1 none)))).is
