@@ -3,8 +3,8 @@
 
     random_printed.py PROGRAM [COUNT [SEED]]
 
-Each of COUNT schemas (2000, if none is given) has enums, flags, structs with arrays and of up to 30 fields, unions of tables,
-structs and strings, and tables with fields of each kind, defaults and attributes, under names that code
+Each of COUNT schemas (2000, if none is given) has enums, flags, structs with arrays and of up to 30
+fields, unions of tables, structs and strings, and tables with fields of each kind, defaults and attributes, under names that code
 spells otherwise, in up to three namespaces. Each must be printed; the program reads what it prints
 again, and refuses code that isn't the schema's. The schemas are the same in each run.
 """

@@ -22,9 +22,9 @@ const DIVE: Dive = Dive {
 const QUAY: [u8; 120] = [
     32, 0, 0, 0, 0, 0, 0, 0, 24, 0, 12, 0, 4, 0, 0, 0, 0, 0, 0, 0, 0, 0, 0, 0, 0, 0, 0, 0, 0, 0, 8,
     0, 24, 0, 0, 0, 72, 0, 0, 0, 4, 0, 0, 0, 1, 0, 0, 0, 8, 7, 6, 5, 4, 3, 2, 1, 9, 0, 255, 255, 2,
-    0, 212, 254, 1, 0, 0, 0, 120, 86, 52, 18, 1, 0, 0, 0, 0, 0, 128, 190, 2, 0, 0, 0, 0, 0, 0, 0, 0,
-    0, 0, 0, 0, 0, 4, 64, 52, 18, 0, 0, 0, 0, 0, 0, 0, 0, 0, 0, 4, 0, 0, 0, 69, 97, 115, 116, 0, 0,
-    0, 0,
+    0, 212, 254, 1, 0, 0, 0, 120, 86, 52, 18, 1, 0, 0, 0, 0, 0, 128, 190, 2, 0, 0, 0, 0, 0, 0, 0,
+    0, 0, 0, 0, 0, 0, 4, 64, 52, 18, 0, 0, 0, 0, 0, 0, 0, 0, 0, 0, 4, 0, 0, 0, 69, 97, 115, 116, 0,
+    0, 0, 0,
 ];
 
 fn are_its_bytes() -> bool {
@@ -80,6 +80,12 @@ fn is_first_error() -> bool {
 fn parts_are_their_bytes(rt: HostRuntime) {
     assert!(rt; are_its_bytes(), "bytes");
     assert!(rt; is_read(), "read");
-    assert!(rt; is_first_error(), "the first number that the enum doesn't have");
-    assert!(rt; matches!(dive_at(&QUAY, 65), Err(ErrorKind::InvalidOffset)), "behind the end");
+    assert!(rt;
+        is_first_error(),
+        "the first number that the enum doesn't have"
+    );
+    assert!(rt;
+        matches!(dive_at(&QUAY, 65), Err(ErrorKind::InvalidOffset)),
+        "behind the end"
+    );
 }
