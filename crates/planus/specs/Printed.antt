@@ -1,4 +1,4 @@
--- The words of clauses and definitions of printed code, passed on from where they are defined.
+-- The words of clauses, definitions and proofs of printed code, passed on from where they are defined.
 pub use lib.Ieee.{of_bits, binary32, binary64}
 pub use Rattle.std.specs.Borrow.{Bor}
 pub use Rattle.planus_read.specs.declared.slice_helpers.SliceWithStartOffset.{SliceWithStartOffset}
@@ -11,6 +11,8 @@ pub use Rattle.planus_read.specs.Plain.{Shape}
 pub use Rattle.planus_read.specs.Shapes.{u8_shape, u16_shape, u32_shape, u64_shape, i8_shape}
 pub use Rattle.planus_read.specs.Shapes.{i16_shape, i32_shape, i64_shape, bool_shape, f32_shape}
 pub use Rattle.planus_read.specs.Shapes.{f64_shape, array_shape}
+pub use Rattle.planus_read.specs.lemmas.Broken.{in_front, behind_all}
+pub use Rattle.planus_read.specs.lemmas.Joined.{Ends, joined, ended, nothing_more, both}
 pub use Rattle.planus_read.specs.SizePrefixed.{IsPrefixed}
 pub use Rattle.planus_read.specs.Structs.{field, force_align, no_more, struct_layout, struct_shape}
 pub use Rattle.planus_write.specs.Finishing.{FinishGives, SizedFinishGives, EndsAs, FinishLeaves}

@@ -1,5 +1,5 @@
 //! Bytes at the end of a growing block.
-ghost use Rattle.std.specs.Prelude.{◌≡◌, ℕ, ◌+◌, ◌≤◌, List, [], ◌++◌, length};
+ghost use Rattle.std.specs.Prelude.{◌≡◌, ◌+◌, ◌≤◌, [], ◌++◌, length};
 ghost use Rattle.std.specs.Prelude.{replicate, IfOk, OnOk, OnErr, IsOk};
 
 use crate::block::Block;

@@ -1,5 +1,5 @@
 //! A block of memory, written from its end to its front.
-ghost use Rattle.std.specs.Prelude.{◌≡◌, ◌+◌, ◌≤◌, ℕ, ◌++◌, length, take, drop, replicate, IfOk};
+ghost use Rattle.std.specs.Prelude.{◌≡◌, ◌+◌, ◌≤◌, ◌++◌, length, take, drop, replicate, IfOk};
 ghost use Rattle.std.specs.Prelude.{false};
 ghost use Rattle.core.specs.Mem.Slots.Ownership.{Filled, SameOutside};
 ghost use Rattle.core.specs.Mem.Slots.{SamePlaces, slots_filled, slots_items, slots_len};

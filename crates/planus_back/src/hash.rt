@@ -1,7 +1,7 @@
 //! The hash of a key.
 ghost use Rattle.std.specs.Prelude.{◌≡◌, ◌<◌, length, MatchOption};
 ghost use Rattle.planus_back.specs.Hashes.{fold_of, number_with, last_number, first_number, Splits};
-ghost use Rattle.planus_back.specs.Hashes.{hash_of as hash_of_lem};
+ghost use Rattle.planus_back.specs.Hashes as spec;
 
 use crate::byte::Byte;
 
@@ -70,7 +70,7 @@ fn split_words<T: Byte>(key: &[T]) -> Option<(u64, u64, &[T])>
 // be hashed already.
 #[inline]
 pub(crate) fn hash_of<T: Byte>(key: &[T]) -> u64
-    ensures { result ≡ hash_of_lem (T.bytes_of key.now) }
+    ensures { result ≡ spec.hash_of (T.bytes_of key.now) }
 {
     let last = last_of(key);
     let count = T::count(key) as u64;

@@ -1,5 +1,5 @@
 //! The least padding by trial: plain and slow, to compare with.
-ghost use Rattle.std.specs.Prelude.{◌≡◌, ℕ, ◌+◌, ◌*◌, ◌^◌, ◌<◌, ◌≤◌, ◌↔◌, ◌∷◌, IsTrue, MatchOption};
+ghost use Rattle.std.specs.Prelude.{◌≡◌, ℕ, ◌+◌, ◌*◌, ◌^◌, ◌<◌, ◌↔◌, ◌∷◌, IsTrue, MatchOption};
 ghost use Rattle.planus_back.specs.Promises.{Keeps, Keep, CanBeKept};
 ghost use Rattle.planus_back.specs.Padding.{promise_of, CanPad, IsLeastPadding};
 ghost use Rattle.planus_back.specs.Pairs.{promises_of, period, AlignmentsAboveZero};

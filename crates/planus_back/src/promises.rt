@@ -1,5 +1,5 @@
 //! The alignment constraints of the parts placed so far.
-ghost use Rattle.std.specs.Prelude.{◌≡◌, ℕ, ◌+◌, ◌*◌, ◌^◌, ◌<◌, ◌≤◌, max, List, [], ◌∷◌, IfOk};
+ghost use Rattle.std.specs.Prelude.{◌≡◌, ℕ, ◌+◌, ◌^◌, ◌<◌, ◌≤◌, max, List, [], ◌∷◌, IfOk};
 ghost use Rattle.std.specs.Prelude.{IfErr};
 ghost use Rattle.planus_back.specs.Promises.{Promise, IsPowerOfTwo, Keep, greatest_alignment};
 ghost use Rattle.planus_back.specs.Padding.{greatest_place, promise_of, IsLeast, IsLeastPadding};

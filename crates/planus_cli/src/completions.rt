@@ -1,6 +1,6 @@
 //! Scripts by which shells complete calls.
 
-ghost use Rattle.std.specs.Prelude.{◌≡◌, ◌++◌, [], map, flat_map, IfOk, OnOk};
+ghost use Rattle.std.specs.Prelude.{◌≡◌, ◌++◌, [], map, IfOk, OnOk};
 ghost use Rattle.planus_cli.specs.Completions as spec;
 ghost use Rattle.planus_cli.specs.Completions.{script_of};
 ghost use Rattle.planus_cli.specs.Completions.{row_text};

@@ -12,7 +12,7 @@ ghost use Rattle.planus_cli.specs.Said as spec;
 ghost use Rattle.planus_cli.specs.Completions as completions_spec;
 ghost use Rattle.planus_cli.specs.Said.{Says};
 ghost use Rattle.planus_cli.specs.Shown.{shown};
-ghost use Rattle.std.specs.Io.KnownBytes.{Appends, Keeps};
+ghost use Rattle.std.specs.Io.KnownBytes.{Appends};
 
 use crate::arguments::{Choice, Command, Request, Shell, before_equals};
 use crate::completions::script;

@@ -1,6 +1,6 @@
 //! The files of a schema: each is read once, after its includes.
 
-ghost use Rattle.std.specs.Prelude.{◌≡◌, ◌≢◌, ◌<◌, ◌++◌, ◌∷◌, [], IfOk, IfErr, IfNone, IfSome};
+ghost use Rattle.std.specs.Prelude.{◌≡◌, ◌<◌, IfOk, IfErr, IfNone, IfSome};
 ghost use Rattle.std.specs.Prelude.{OnOk, Some, None, map};
 ghost use Rattle.std.specs.Option.{option_map};
 ghost use Rattle.std.specs.String.{string_bytes};
@@ -9,7 +9,7 @@ ghost use Rattle.planus_cli.specs.Files.{AreRead, EndsWith, IsTextOf};
 ghost use Rattle.planus_cli.specs.Files.{SaysUnread, FailsReading};
 ghost use Rattle.planus_cli.specs.Including as including_spec;
 ghost use Rattle.planus_cli.specs.Loading as spec;
-ghost use Rattle.planus_cli.specs.Loading.{LoadsBy, Loads};
+ghost use Rattle.planus_cli.specs.Loading.{Loads};
 ghost use Rattle.planus_cli.specs.Checks.{AreSpelled};
 ghost use Rattle.planus_cli.specs.Sources.{HasNoSchema, ChecksFile, HasMeaning, MeansAll};
 ghost use Rattle.std.specs.Io.KnownBytes.{Keeps};

@@ -40,11 +40,14 @@ struct Facts {
     total: bool,
     /// Equal ones are the same.
     exact: bool,
+    /// How many numbers of enums are tested where one is read, those of an array once.
+    clauses: usize,
 }
 
 const NO_FACTS: Facts = Facts {
     total: false,
     exact: false,
+    clauses: 0,
 };
 
 fn facts_of_base(facts: &[Facts], base: Base) -> Facts {
@@ -52,6 +55,7 @@ fn facts_of_base(facts: &[Facts], base: Base) -> Facts {
         Base::Scalar(scalar) => Facts {
             total: true,
             exact: !matches!(scalar, Scalar::Float | Scalar::Double),
+            clauses: 0,
         },
         Base::Struct(index) | Base::Enum(index) => { facts.get(index).copied().unwrap_or(NO_FACTS) }
         _ => NO_FACTS,
@@ -63,16 +67,19 @@ fn facts_of_body(facts: &[Facts], body: &Body) -> Facts {
         Body::Enum(one) => Facts {
             total: one.flags,
             exact: true,
+            clauses: if one.flags { 0 } else { 1 },
         },
         Body::Struct(one) => {
             let mut all = Facts {
                 total: true,
                 exact: true,
+                clauses: 0,
             };
             for field in &one.fields {
                 let of_field = facts_of_base(facts, field.base);
                 all.total &= of_field.total;
                 all.exact &= of_field.exact && field.count.is_none();
+                all.clauses = all.clauses.saturating_add(of_field.clauses);
             }
             all
         }
@@ -260,6 +267,11 @@ impl<'a> Context<'a> {
     pub(crate) fn has_views(&self) -> bool {
         let mut tables = self.declared.iter();
         self.verified && tables.any(|one| matches!(one.body, Body::Table(_)))
+    }
+
+    /// How many numbers of enums are tested where a value is read, those of an array once.
+    pub(crate) fn clauses_of(&self, base: Base) -> usize {
+        facts_of_base(&self.facts, base).clauses
     }
 
     /// Whether the read of a value can't fail once its bytes are there.

@@ -17,8 +17,9 @@ use crate::order::{Order, places_by_name};
 use crate::part_proofs::{
     JOINED, Written, print_answer, print_fields_answer, print_parts_answer, print_read_answer,
 };
-use crate::parts::{has_answer, is_long, parts_of};
+use crate::parts::{has_answer, is_long, parts_of, whole};
 use crate::printer::Printer;
+use crate::read_proofs::{has_many_clauses, print_fields_read};
 use crate::refusal::Refusal;
 use crate::root::print_root;
 use crate::structs::{has_padding, print_padded, print_struct, print_struct_layout};
@@ -50,6 +51,8 @@ const LONG_STRUCT: &str = "//! Structs `$T`.\n\nghost use Rattle.$c.specs.$T as 
 const STRUCT_LAYOUT: &str = "-- The layout of `$T`.\n";
 
 const STRUCT_PROOF: &str = "proofs/$M/$TPlain/put/Answers.antt";
+
+const STRUCT_READ: &str = "proofs/$M/$TPlain/read/Answers.antt";
 
 const VERIFIED_HEAD: &str =
     "//! Verified views, and the schema as a value, by which buffers are verified.\n\n";
@@ -223,6 +226,10 @@ impl<'a> Files<'a> {
             let proof = print_padded(context, at);
             self.put(STRUCT_PROOF, at, &proof);
         }
+        if has_many_clauses(context, one, whole(one)) {
+            let proof = print_fields_read(context, at, one, Written::Fields, whole(one))?;
+            self.put_proof(STRUCT_READ, at, &proof);
+        }
         Ok(())
     }
 
@@ -234,22 +241,33 @@ impl<'a> Files<'a> {
             let written = Written::FieldsOf(place);
             let proof = print_fields_answer(context, at, one, written, *part)?;
             let mut path = Printer::new(context);
-            path.put_part_path(place, at);
+            path.put_part_path(place, "put", at);
             self.put_answer(path.as_str(), at, &proof);
+            if has_many_clauses(context, one, *part) {
+                let proof = print_fields_read(context, at, one, written, *part)?;
+                path.clear();
+                path.put_part_path(place, "read", at);
+                self.put_proof(path.as_str(), at, &proof);
+            }
         }
         let proof = print_parts_answer(context, at, one)?;
         self.put_answer(STRUCT_PROOF, at, &proof);
         let proof = print_read_answer(context, at, one)?;
-        self.put("proofs/$M/$TPlain/read/Answers.antt", at, &proof);
+        self.put(STRUCT_READ, at, &proof);
         Ok(())
     }
 
     // Adds a proof whose fields' shapes are imported.
-    fn put_answer(&mut self, path: &str, at: At, proof: &Printer<'_>) {
+    fn put_proof(&mut self, path: &str, at: At, proof: &Printer<'_>) {
         let mut file = Printer::new(self.context);
         file.put_definition_uses(proof.as_str(), self.order, at.index);
         file.join(proof);
         self.put(path, at, &file);
+    }
+
+    // Adds a proof that joins bytes.
+    fn put_answer(&mut self, path: &str, at: At, proof: &Printer<'_>) {
+        self.put_proof(path, at, proof);
         self.joined = true;
     }
 

@@ -28,6 +28,7 @@ mod order;
 mod part_proofs;
 mod parts;
 mod printer;
+mod read_proofs;
 mod refusal;
 mod root;
 mod shown;

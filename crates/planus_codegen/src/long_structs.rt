@@ -17,6 +17,9 @@ const CALL_COLUMNS: usize = 78;
 /// How many parts are given in the first line of a call that goes on.
 const LINE: usize = 10;
 
+/// The columns of the types of a function that takes parts, and of what is around each.
+const SIGNATURE_COLUMNS: usize = 81;
+
 const PART_HEAD: &str = "
 #[derive(Clone, Copy)]
 struct ";
@@ -51,10 +54,12 @@ impl<'a> Printer<'a> {
     }
 
     /// Adds the path of a part's proof.
-    pub(crate) fn put_part_path(&mut self, place: usize, at: At) {
+    pub(crate) fn put_part_path(&mut self, place: usize, method: &str, at: At) {
         self.put("proofs/$M/", at);
         self.put_part_type(place, at);
-        self.put_str("Plain/put/Answers.antt");
+        self.put_str("Plain/");
+        self.put_str(method);
+        self.put_str("/Answers.antt");
     }
 
     fn put_of_parts(&mut self, at: At) {
@@ -280,14 +285,17 @@ impl<'a> Printer<'a> {
     // The function that returns a struct of its parts.
     fn put_whole_method(&mut self, parts: &[Part], at: At) {
         self.put_str("    fn of_parts(");
+        let in_line = is_in_line(self.context.names.type_name(at.index), parts.len());
+        let (first, next) = if in_line { ("", ", ") } else { ("^", ",^") };
         for place in 0..parts.len() {
-            self.put(if place == 0 { "^" } else { ",^" }, at);
+            self.put(if place == 0 { first } else { next }, at);
             self.put_str("part_");
             self.put_usize(place.saturating_add(1));
             self.put_str(": &");
             self.put_part_type(place, at);
         }
-        self.put("^) -> $T\n        ensures { result ≡ spec.", at);
+        self.put(first, at);
+        self.put(") -> $T\n        ensures { result ≡ spec.", at);
         self.put_of_parts(at);
         self.put_part_names(parts, "~", "~", ".now", at);
         self.put(" }\n    {\n        $T {", at);
@@ -497,6 +505,12 @@ pub(crate) fn print_long_layout<'a>(
     printer.put_whole_definition(&parts, at);
     printer.put_whole_shape(whole(one), &parts, at);
     Ok(printer)
+}
+
+// Whether a line has room for a function that takes so many parts of a type.
+fn is_in_line(name: &[u8], parts: usize) -> bool {
+    let columns = name.len().saturating_add(16).saturating_mul(parts);
+    columns.saturating_add(name.len()) <= SIGNATURE_COLUMNS
 }
 
 // Whether one of the names is this with so many `_` and a word, and perhaps more.

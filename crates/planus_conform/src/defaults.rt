@@ -3,10 +3,9 @@
 ghost use Rattle.std.specs.Prelude.{◌≡◌, Some};
 ghost use Rattle.std.specs.Option.{option_map};
 ghost use Rattle.planus_schema.specs.Numbers as numbers_spec;
-ghost use Rattle.planus_resolve.specs.Defaults.{value_of, integer};
+ghost use Rattle.planus_resolve.specs.Defaults.{value_of};
 ghost use Rattle.planus_resolve.specs.Tables as tables_spec;
 ghost use Rattle.planus_conform.specs.Reads as reads_spec;
-ghost use Rattle.planus_conform.specs.Reads.{default_of};
 ghost use Rattle.planus_conform.specs.Defaults as spec;
 
 use crate::types::same_truth;

@@ -1,8 +1,6 @@
 //! The nodes: a declaration with its rows.
 
-ghost use Rattle.std.specs.Prelude.{◌≡◌, ◌++◌, ◌∷◌, [], map, IfOk, OnOk};
-ghost use Rattle.std.specs.List.{flat_map};
-ghost use Rattle.std.specs.Option.{option_map};
+ghost use Rattle.std.specs.Prelude.{◌≡◌, ◌++◌, ◌∷◌, [], map, OnOk};
 ghost use Rattle.planus_dot.specs.Rows.{row_view};
 ghost use Rattle.planus_dot.specs.Nodes as spec;
 ghost use Rattle.planus_dot.specs.Nodes.{label_text, node_line};

@@ -1,15 +1,13 @@
 #![tactic(auto, using(crate::proofs::Fed::fed_refused))]
 
-ghost use Rattle.std.specs.Prelude.{◌≡◌, ◌+◌, ◌-◌, ◌*◌, ◌^◌, min, slice_get};
+ghost use Rattle.std.specs.Prelude.{◌≡◌, ◌+◌, ◌-◌, ◌*◌, ◌^◌, min};
 ghost use Rattle.std.specs.Int.{byte_len, w32};
 ghost use Rattle.planus_read.specs.Places.{place_bytes, place_offset};
 ghost use Rattle.planus_read.specs.Slices.{slice_bytes};
 ghost use Rattle.planus_dump.specs.Answers.{bits_at, vector_at};
 ghost use Rattle.planus_dump.specs.Events as spec;
-ghost use Rattle.planus_dump.specs.Events.{enum_size, struct_size};
-ghost use Rattle.planus_dump.specs.Events.{enum_at, answer_event};
 ghost use Rattle.planus_dump.specs.inner.Feeding.{Feeds};
-ghost use Rattle.std.specs.Prelude.{Some, [], ◌∷◌};
+ghost use Rattle.std.specs.Prelude.{Some};
 
 use crate::enums::names_of;
 use crate::line_sink::LineSink;

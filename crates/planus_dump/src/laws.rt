@@ -2,7 +2,6 @@
 
 ghost use Rattle.std.specs.Prelude.{List, ℕ};
 ghost use Rattle.planus_dump.specs.FaultLines.{HasNoSpace};
-ghost use Rattle.planus_dump.specs.declared.schemas.Schema as schema;
 ghost use Rattle.planus_read.specs.declared.table_reader.Table as reader;
 ghost use Rattle.planus_dump.specs.AsRead.{ReadingsAreSaid, UnionsAreSaid, UnionVectorsAreSaid};
 ghost use Rattle.planus_dump.specs.AsRead.{FloatsAreSaid, EnumsAreSaid, StructsAreSaid};

@@ -2,8 +2,8 @@
 ghost use Rattle.std.specs.Prelude.{◌≡◌, length};
 ghost use Rattle.std.specs.List.{list_all, list_any};
 ghost use Rattle.std.specs.Prelude.{◌==◌};
-ghost use Rattle.planus_dump.specs.Schemas.{is_name_byte, is_name, item_fits, kind_fits};
-ghost use Rattle.planus_dump.specs.Schemas.{field_fits, table_fits, variants_fit};
+ghost use Rattle.planus_dump.specs.Schemas.{is_name_byte, is_name, kind_fits};
+ghost use Rattle.planus_dump.specs.Schemas.{table_fits, variants_fit};
 ghost use Rattle.planus_dump.specs.Schemas.{is_name_or_none, variant_fits, variant_kind_fits};
 ghost use Rattle.planus_dump.specs.Schemas.{union_fits, is_good, fixed_fits, fixed_kind_fits};
 ghost use Rattle.planus_dump.specs.Schemas.{fixed_kinds_fit, struct_fits, fixed_values_fit};

@@ -1,6 +1,6 @@
 //! A view: a dump as far as it is wanted, written line by line.
 ghost use Rattle.std.specs.Prelude.{◌≡◌, IfOk, IfErr, OnOk, OnErr};
-ghost use Rattle.std.specs.Result.{IsOk, IsErr};
+ghost use Rattle.std.specs.Result.{IsOk};
 ghost use Rattle.std.specs.Io.KnownBytes.{Appends};
 ghost use Rattle.planus_dump.specs.Views.{WritesView, FailsView};
 ghost use Rattle.planus_dump.specs.Writing.{WritesBeginning};

@@ -1,6 +1,6 @@
 //! The works: rounds of equal operations.
 
-ghost use Rattle.std.specs.Prelude.{◌≡◌, length};
+ghost use Rattle.std.specs.Prelude.{◌≡◌};
 
 use crate::reads::{self, MONSTER, NUMBERS, WEAPON, Walk};
 use crate::{lists, monsters, tables};

@@ -2,3 +2,5 @@ pub mod EnumLaws
 pub mod NumberLaws
 pub mod StructLaws
 pub mod ArrayLaws
+pub mod Broken
+pub mod Joined

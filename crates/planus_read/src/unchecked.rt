@@ -1,6 +1,6 @@
 //! Reads without tests, where all clauses of the reading hold.
 
-ghost use Rattle.std.specs.Prelude.{◌≡◌, [], ◌+◌, ◌≤◌, length, drop, Ok};
+ghost use Rattle.std.specs.Prelude.{◌≡◌, [], ◌+◌, drop, Ok};
 ghost use Rattle.planus_read.specs.Clauses.{AllHold, Answer, shown};
 ghost use Rattle.planus_read.specs.Slices.{slice_bytes, slice_start, ShowsBytes};
 ghost use Rattle.planus_read.specs.Reading.{target, head_clauses, items_at, count_at};

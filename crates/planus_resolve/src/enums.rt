@@ -1,6 +1,6 @@
 //! Enums.
 
-ghost use Rattle.std.specs.Prelude.{◌≡◌, ◌^◌, ◌<◌, ◌∷◌, true, false, map, IfOk, IfSome, [], Some, None};
+ghost use Rattle.std.specs.Prelude.{◌≡◌, ◌<◌, ◌∷◌, true, false, map, IfOk, IfSome, [], Some, None};
 ghost use Rattle.std.specs.Prelude.{if◌then◌else◌};
 ghost use Rattle.planus_syntax.specs.Values.{variant_of, enumeration_of};
 ghost use Rattle.planus_resolve.specs.Enums as spec;

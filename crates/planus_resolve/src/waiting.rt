@@ -5,7 +5,7 @@ ghost use Rattle.std.specs.Option.{option_map};
 ghost use Rattle.std.specs.List.{list_any};
 ghost use Rattle.planus_syntax.specs.Values.{names_of};
 ghost use Rattle.planus_resolve.specs.Names.{used_as};
-ghost use Rattle.planus_resolve.specs.Names.{head_of, at_index};
+ghost use Rattle.planus_resolve.specs.Names.{head_of};
 ghost use Rattle.planus_resolve.specs.inner.Read.{AreNoted};
 ghost use Rattle.planus_resolve.specs.Uses as spec;
 

@@ -5,7 +5,7 @@ ghost use Rattle.std.specs.String.{string_bytes};
 ghost use Rattle.planus_script.specs.Printed.{line_of};
 ghost use Rattle.planus_script.specs.inner.Outputs.{is_clean, printed_text};
 ghost use Rattle.planus_script.specs.Runner.{LeavesUnwritten};
-ghost use Rattle.planus_script.specs.DumpRuns.{spaced_bytes, line_bytes, input_bytes, vec_bytes};
+ghost use Rattle.planus_script.specs.DumpRuns.{spaced_bytes, input_bytes, vec_bytes};
 ghost use Rattle.planus_script.specs.DumpRuns.{IsFault, PrintsAnswer, PrintsDump, WritesDump};
 ghost use Rattle.planus_script.specs.DumpRuns.{BeginsDump};
 

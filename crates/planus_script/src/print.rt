@@ -1,7 +1,7 @@
 //! What is printed for a script.
 ghost use Rattle.std.specs.Prelude.{◌≡◌, ◌++◌, map, length, IfOk, OnOk};
 ghost use Rattle.std.specs.Prelude.{is_ok};
-ghost use Rattle.std.specs.List.{join_with_byte, flat_map};
+ghost use Rattle.std.specs.List.{flat_map};
 ghost use Rattle.std.specs.String.{string_bytes};
 ghost use Rattle.planus.specs.Replays.{finish_given, given_by};
 ghost use Rattle.planus_script.specs.Printed.{hex_line};

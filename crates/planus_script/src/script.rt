@@ -1,7 +1,7 @@
 //! Scripts to steps.
 
 ghost use Rattle.std.specs.Prelude.{◌≡◌, ℕ, ◌+◌, ◌-◌, ◌<◌, ◌≤◌, ◌==◌, List, [], ◌∷◌, length};
-ghost use Rattle.std.specs.Prelude.{IsTrue, ◌↔◌, Result, Ok, Err, MatchOption, MatchResult};
+ghost use Rattle.std.specs.Prelude.{Result, Ok, Err, MatchOption};
 ghost use Rattle.std.specs.Prelude.{unwrap_or, OnOk, OnErr, ◌++◌, map, IfOk, IfSome, IsOk};
 ghost use Rattle.std.specs.List.{slice_split, position, list_all, after_first};
 ghost use Rattle.std.specs.Option.{option_copied, option_map};

@@ -1,8 +1,7 @@
 //! The lists of the schema's value.
 
-ghost use Rattle.std.specs.Prelude.{◌≡◌, ◌++◌, ◌+◌, IfOk, OnOk, not, count_by, map, length};
+ghost use Rattle.std.specs.Prelude.{◌≡◌, ◌++◌, ◌+◌, IfOk, OnOk, map};
 ghost use Rattle.std.specs.List.Sorted.{IsPermutation, IsNonDecreasingBy};
-ghost use Rattle.planus_tie.specs.Ranks as ranks_spec;
 ghost use Rattle.planus_tie.specs.Shapes as spec;
 
 use crate::kinds::size_of;

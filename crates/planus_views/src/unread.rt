@@ -1,6 +1,6 @@
 //! Fields that `Debug` doesn't read on.
 
-ghost use Rattle.std.specs.Prelude.{◌≡◌, ◌≢◌, ◌+◌, ◌≤◌, ◌∷◌, [], length, IfOk, IfErr, IfSome, IfNone};
+ghost use Rattle.std.specs.Prelude.{◌≡◌, ◌≢◌, ◌+◌, IfOk, IfErr, IfSome, IfNone};
 ghost use Rattle.planus_read.specs.Clauses.{AllHold, FirstBroken};
 ghost use Rattle.planus_read.specs.Reading.{target};
 ghost use Rattle.planus_read.specs.Slices.{slice_bytes, slice_start};

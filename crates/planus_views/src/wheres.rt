@@ -1,7 +1,6 @@
 //! Where in a buffer an error or a fault is, told by the names of the fields that lead there.
 
 ghost use Rattle.std.specs.Prelude.{◌≡◌};
-ghost use Rattle.planus_verify.specs.Schemas.{shapes};
 ghost use Rattle.planus_views.specs.Names as spec;
 ghost use Rattle.planus_views.specs.Wheres as wheres_spec;
 

@@ -1,5 +1,5 @@
 //! Tables: an object of fields, and a vtable with their offsets.
-ghost use Rattle.std.specs.Prelude.{◌≡◌, ◌+◌, ◌≤◌, ◌++◌, ℕ, List, [], ◌∷◌, length, take, drop};
+ghost use Rattle.std.specs.Prelude.{◌≡◌, ◌+◌, ◌≤◌, ◌++◌, List, [], ◌∷◌, length, take, drop};
 ghost use Rattle.std.specs.Int.{w16, to_le_bytes};
 ghost use Rattle.planus_read.specs.Bytes.{BytesStand};
 ghost use Rattle.planus_write.specs.Tables.{Declared};

@@ -1,7 +1,6 @@
 //! The body of a table of a step.
-ghost use Rattle.std.specs.Prelude.{◌≡◌, [], map, None};
+ghost use Rattle.std.specs.Prelude.{◌≡◌, map, None};
 ghost use Rattle.planus.specs.Steps.{bare_field};
-ghost use Rattle.planus.specs.Slots.{greatest_field};
 ghost use Rattle.planus.specs.TableChecks.{table_fault};
 ghost use Rattle.planus.specs.inner.Names.{name_of, fault_since};
 

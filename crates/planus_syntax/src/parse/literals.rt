@@ -4,7 +4,6 @@ ghost use Rattle.std.specs.Option.{option_map};
 ghost use Rattle.planus_syntax.specs.Tokens.{pieces_of};
 ghost use Rattle.planus_syntax.specs.Values.{literal_of};
 ghost use Rattle.planus_syntax.specs.Reading as spec;
-ghost use Rattle.planus_syntax.specs.Reading.{Gives};
 ghost use Rattle.planus_syntax.specs.Counting.{GivesCounted, IfAny, LiteralCounted};
 
 use crate::parse::paths::path_at;

@@ -4,7 +4,6 @@ ghost use Rattle.std.specs.Prelude.{◌≡◌, ◌∷◌, List};
 ghost use Rattle.planus_syntax.specs.Tokens.{Piece, mark, pieces_of};
 ghost use Rattle.planus_syntax.specs.Values.{Name, path_of, kind_of, digits_of};
 ghost use Rattle.planus_syntax.specs.Reading as spec;
-ghost use Rattle.planus_syntax.specs.Reading.{Gives};
 ghost use Rattle.planus_syntax.specs.Counting.{GivesCounted, KindCounted, PathCounted};
 ghost use Rattle.planus_syntax.specs.Values.{after_before, dotted_before, number_before};
 

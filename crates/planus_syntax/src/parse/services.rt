@@ -3,7 +3,6 @@
 ghost use Rattle.planus_syntax.specs.Tokens.{pieces_of};
 ghost use Rattle.planus_syntax.specs.Values.{MethodV, method_of, item_of, service as service_item};
 ghost use Rattle.planus_syntax.specs.Reading as spec;
-ghost use Rattle.planus_syntax.specs.Reading.{Gives};
 ghost use Rattle.planus_syntax.specs.Counting.{GivesCounted, ItemCounted, MethodCounted};
 ghost use Rattle.planus_syntax.specs.Values.{method_before};
 

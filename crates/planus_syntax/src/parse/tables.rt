@@ -3,7 +3,6 @@
 ghost use Rattle.planus_syntax.specs.Tokens.{pieces_of};
 ghost use Rattle.planus_syntax.specs.Values.{FieldV, field_of, record_of};
 ghost use Rattle.planus_syntax.specs.Reading as spec;
-ghost use Rattle.planus_syntax.specs.Reading.{Gives};
 ghost use Rattle.planus_syntax.specs.Counting.{FieldCounted, GivesCounted, RecordCounted};
 ghost use Rattle.planus_syntax.specs.Values.{field_before};
 

@@ -4,7 +4,6 @@ ghost use Rattle.std.specs.Prelude.{map};
 ghost use Rattle.planus_syntax.specs.Tokens.{pieces_of};
 ghost use Rattle.planus_syntax.specs.Values.{MemberV, member_of, item_of, union as union_item};
 ghost use Rattle.planus_syntax.specs.Reading as spec;
-ghost use Rattle.planus_syntax.specs.Reading.{Gives};
 ghost use Rattle.planus_syntax.specs.Counting.{EachCounted, GivesCounted, ItemCounted, MemberCounted};
 ghost use Rattle.planus_syntax.specs.Values.{member_before, next_before};
 

@@ -1,10 +1,8 @@
 //! Tables, read in place.
-ghost use Rattle.std.specs.Prelude.{◌≡◌, ℕ, List, codes, ⊤};
-ghost use Rattle.std.proofs.Common.{lit≤};
+ghost use Rattle.std.specs.Prelude.{◌≡◌, codes, ⊤};
 ghost use Rattle.planus_read.specs.Clauses.{Answer, shown};
-ghost use Rattle.planus_read.specs.Located.{Located, Required};
+ghost use Rattle.planus_read.specs.Located.{Located};
 ghost use Rattle.planus_read.specs.Reading.{table_reading};
-ghost use Rattle.planus_read.specs.Tables.{FieldAnswer, table_start};
 ghost use Rattle.planus.specs.Views.{ShowsView};
 
 use crate::tables::kind::table_kind::TableKind;

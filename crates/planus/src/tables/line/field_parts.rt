@@ -1,5 +1,5 @@
 //! One field, declared and written if present.
-ghost use Rattle.std.specs.Prelude.{◌≡◌, ◌≤◌, ◌+◌, ℕ, List, [], ◌∷◌, ◌++◌, length};
+ghost use Rattle.std.specs.Prelude.{◌≡◌, ◌≤◌, ◌+◌, ℕ, List, [], ◌∷◌, ◌++◌};
 ghost use Rattle.planus_fields.specs.Fields.{reach_if};
 ghost use Rattle.planus_read.specs.Values.{Field};
 ghost use Rattle.planus_write.specs.Tables.{declared_of};
