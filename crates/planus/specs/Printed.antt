@@ -7,12 +7,13 @@ pub use Rattle.planus_read.specs.Bytes.{BytesStand}
 pub use Rattle.planus_read.specs.Enums.{Numbered, variant_in, u8_enum, u16_enum, u32_enum}
 pub use Rattle.planus_read.specs.Enums.{u64_enum, i8_enum, i16_enum, i32_enum, i64_enum}
 pub use Rattle.planus_read.specs.Slices.{slice_bytes, slice_start}
-pub use Rattle.planus_read.specs.Plain.{Shape}
+pub use Rattle.planus_read.specs.Plain.{Shape, own_reading}
 pub use Rattle.planus_read.specs.Shapes.{u8_shape, u16_shape, u32_shape, u64_shape, i8_shape}
 pub use Rattle.planus_read.specs.Shapes.{i16_shape, i32_shape, i64_shape, bool_shape, f32_shape}
 pub use Rattle.planus_read.specs.Shapes.{f64_shape, array_shape}
-pub use Rattle.planus_read.specs.lemmas.Broken.{in_front, behind_all}
-pub use Rattle.planus_read.specs.lemmas.Joined.{Ends, joined, ended, nothing_more, both}
+pub use Rattle.planus_read.specs.Clauses.{Clause}
+pub use Rattle.planus_read.specs.lemmas.PartLaws.{joined, ended, nothing_more, both}
+pub use Rattle.planus_read.specs.lemmas.PartLaws.{in_part, behind_part, passed_on}
 pub use Rattle.planus_read.specs.SizePrefixed.{IsPrefixed}
 pub use Rattle.planus_read.specs.Structs.{field, force_align, no_more, struct_layout, struct_shape}
 pub use Rattle.planus_write.specs.Finishing.{FinishGives, SizedFinishGives, EndsAs, FinishLeaves}

@@ -15,7 +15,7 @@ use crate::long_structs::{print_long_layout, print_part_uses};
 use crate::names::namespace_around;
 use crate::order::{Order, places_by_name};
 use crate::part_proofs::{
-    JOINED, Written, print_answer, print_fields_answer, print_parts_answer, print_read_answer,
+    Written, print_answer, print_fields_answer, print_parts_answer, print_read_answer,
 };
 use crate::parts::{has_answer, is_long, parts_of, whole};
 use crate::printer::Printer;
@@ -94,8 +94,6 @@ struct Files<'a> {
     files: Vec<PrintedFile>,
     /// Whether memory was refused, after which files are left out.
     failed: bool,
-    /// Whether a proof joins the bytes of many fields.
-    joined: bool,
 }
 
 impl<'a> Files<'a> {
@@ -221,7 +219,7 @@ impl<'a> Files<'a> {
         let context = self.context;
         if has_answer(one) {
             let proof = print_answer(context, at, one)?;
-            self.put_answer(STRUCT_PROOF, at, &proof);
+            self.put_proof(STRUCT_PROOF, at, &proof);
         } else if has_padding(one) {
             let proof = print_padded(context, at);
             self.put(STRUCT_PROOF, at, &proof);
@@ -242,7 +240,7 @@ impl<'a> Files<'a> {
             let proof = print_fields_answer(context, at, one, written, *part)?;
             let mut path = Printer::new(context);
             path.put_part_path(place, "put", at);
-            self.put_answer(path.as_str(), at, &proof);
+            self.put_proof(path.as_str(), at, &proof);
             if has_many_clauses(context, one, *part) {
                 let proof = print_fields_read(context, at, one, written, *part)?;
                 path.clear();
@@ -251,7 +249,7 @@ impl<'a> Files<'a> {
             }
         }
         let proof = print_parts_answer(context, at, one)?;
-        self.put_answer(STRUCT_PROOF, at, &proof);
+        self.put_proof(STRUCT_PROOF, at, &proof);
         let proof = print_read_answer(context, at, one)?;
         self.put(STRUCT_READ, at, &proof);
         Ok(())
@@ -263,12 +261,6 @@ impl<'a> Files<'a> {
         file.put_definition_uses(proof.as_str(), self.order, at.index);
         file.join(proof);
         self.put(path, at, &file);
-    }
-
-    // Adds a proof that joins bytes.
-    fn put_answer(&mut self, path: &str, at: At, proof: &Printer<'_>) {
-        self.put_proof(path, at, proof);
-        self.joined = true;
     }
 
     fn put_flags(&mut self, at: At, declared: &Declared) {
@@ -486,20 +478,6 @@ impl<'a> Files<'a> {
         self.put_namespaces();
         self.put_library();
         self.put_definition_list();
-        if self.joined {
-            self.put_joined();
-        }
-    }
-
-    // What the proofs of structs of many fields stand on.
-    fn put_joined(&mut self) {
-        let at = At::declaration(0);
-        let mut list = Printer::new(self.context);
-        list.put_str("mod Joined\n");
-        self.put("proofs/Lib.antt", at, &list);
-        let mut text = Printer::new(self.context);
-        text.put_str(JOINED);
-        self.put("proofs/Joined.antt", at, &text);
     }
 }
 
@@ -520,7 +498,6 @@ fn files_of(context: &Context<'_>) -> Result<Vec<PrintedFile>, AllocError> {
         modules: &modules,
         files: Vec::new(context.alloc),
         failed: false,
-        joined: false,
     };
     files.put_all();
     if files.failed {

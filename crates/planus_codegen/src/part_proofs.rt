@@ -13,16 +13,19 @@ const OF_NUMBERS: &str = "use Rattle.std.proofs.Common.{arith}\n";
 
 const OF_ARRAYS: &str = "use Rattle.std.proofs.Common.{arith, rules, lit<}\n";
 
-const OF_TOTAL: &str = "use Rattle.std.proofs.Common.{sym, subst}\n";
+const OF_TOTAL: &str = "\
+use Rattle.std.proofs.Common.{sym, subst}
+use Rattle.planus.specs.Printed.{slice_bytes, both}
+";
 
-// The second of two parts is the last.
-const OF_TWO: &str = "use Rattle.std.proofs.Common.{sym, subst, rules}\n";
-
-const OF_BROKEN: &str = "use Rattle.std.proofs.Common.{sym, subst, rules, ◌+◌}\n";
+const OF_BROKEN: &str = "\
+use Rattle.std.proofs.Common.{sym, subst, ◌+◌}
+use Rattle.planus.specs.Printed.{slice_bytes, both, in_front, behind_all}
+";
 
 const USES: &str = "\
 use Rattle.std.proofs.lemmas.List.{nil_from_length}
-use Rattle.$c.proofs.Joined.{joined, ended";
+use Rattle.planus.specs.Printed.{joined, ended";
 
 const ANSWER: &str = "
 pub returns-clause-encoded : goal.returns-clause-encoded
@@ -41,9 +44,7 @@ returns-clause-fits c =
     ";
 
 const READ_USES: &str = "\
-use Rattle.planus.specs.Printed.{slice_bytes}
 use Rattle.$c.specs.$T as spec
-use Rattle.$c.proofs.Joined.{both}
 use Rattle.$c.proofs.$M.$TPlain.read.Goals as goal
 
 ";
@@ -60,32 +61,6 @@ const READ_FITS: &str = "
 pub returns-clause-fits : goal.returns-clause-fits
 returns-clause-fits c = subst (λ x. spec.$M_shape.fits x)~(sym c.of_parts.ensures)
     ";
-
-/// What the proofs of structs of many fields stand on.
-pub(crate) const JOINED: &str = "\
--- Lists that are joined of equal ones.
-use Rattle.std.specs.Prelude.{◌≡◌, ℕ, List, [], ◌++◌}
-use Rattle.std.proofs.Common.{sym, ap, ◌∙◌, append_assoc, append-nil}
-
--- the first list has the bytes of some fields, and then these
-pub record Ends (list fields end : List ℕ) : Type 0 where
-  pub is : list ≡ fields ++ end
-
-pub joined : {a e l f z : List ℕ} → a ≡ e → Ends l f z → Ends (a ++ l) (e ++ f) z
-joined {a} {e} {l} {f} {z} first rest = record {
-  is = ap (λ x. x ++ l) first ∙ ap (λ x. e ++ x) rest.is ∙ sym (append_assoc e f z);
-}
-
--- what is known of a part, and of those behind it
-pub both : {A B : Type 0} → A → B → A × B
-both first rest = (first, rest)
-
-pub ended : {l z : List ℕ} → l ≡ z → Ends l [] z
-ended same = record { is = same }
-
-pub behind : {a z l : List ℕ} → a ≡ z → l ≡ [] → a ++ l ≡ z
-behind {a} {z} {l} first none = ap (λ x. a ++ x) none ∙ append-nil a ∙ first
-";
 
 /// What is written one after another: a struct's fields, the fields of one of its parts, or its parts.
 #[derive(Clone, Copy)]
@@ -230,7 +205,7 @@ impl<'a> Printer<'a> {
         let number = gaps_in(before(items, place)).saturating_add(1);
         let is_last = place.saturating_add(1) == items.len();
         self.put_str(if is_last {
-            "(ended (behind zeros_"
+            "(ended (nothing_more zeros_"
         } else {
             "(joined zeros_"
         });
@@ -270,7 +245,7 @@ impl<'a> Printer<'a> {
         self.put(USES, at);
         let last = items.len().saturating_sub(1);
         let padded = gaps_in(items) > gaps_in(before(items, last));
-        self.put_str(if padded { ", behind" } else { "" });
+        self.put_str(if padded { ", nothing_more" } else { "" });
         let in_parts = matches!(written, Written::Parts);
         self.put_str(if in_parts { ", both}\n" } else { "}\n" });
         if matches!(written, Written::Parts) {
@@ -311,14 +286,13 @@ impl<'a> Printer<'a> {
         self.put_char('\n');
     }
 
-    // What holds of a part that was read.
-    fn put_held(&mut self, place: usize, part: Part, at: At) {
-        let number = place.saturating_add(1);
-        self.put_str("    let held_");
-        self.put_usize(number);
-        self.put(" =~spec.", at);
+    // A definition of a part's shape, at the part's bytes.
+    fn put_at_part(&mut self, word: &str, place: usize, part: Part, at: At) {
+        self.put("~(spec.", at);
         self.put_part_word(place, at);
-        self.put("_shape.unbroken~(slice_bytes c.args.buffer)~", at);
+        self.put_str("_shape.");
+        self.put_str(word);
+        self.put("~(slice_bytes c.args.buffer)~", at);
         if part.start > 0 {
             self.put_str("(c.args.offset + ");
             self.put_usize(part.start);
@@ -326,9 +300,17 @@ impl<'a> Printer<'a> {
         } else {
             self.put_str("c.args.offset");
         }
+    }
+
+    // A part that was read breaks no clause.
+    fn put_held(&mut self, place: usize, part: Part, at: At) {
+        self.put_str("(behind_all");
+        self.put_at_part("clauses", place, part, at);
+        self.put(")~_~_", at);
+        self.put_at_part("unbroken", place, part, at);
         self.put("~_~c.in_ok-part_", at);
-        self.put_usize(number);
-        self.put_str(".ensures.answer in\n");
+        self.put_usize(place.saturating_add(1));
+        self.put(".ensures.answer)~", at);
     }
 
     // The error of a part behind others, which hold.
@@ -340,13 +322,23 @@ impl<'a> Printer<'a> {
         self.put_usize(number);
         self.put_str("-clause-answer\nreturns-in_err-part_");
         self.put_usize(number);
-        self.put_str("-clause-answer c =\n");
+        self.put_str("-clause-answer c =\n    ");
         for (place, part) in parts.iter().enumerate() {
             if place < count {
                 self.put_held(place, *part, at);
             }
+            if place == count {
+                self.put_str("(in_front");
+                self.put_at_part("clauses", place, *part, at);
+                self.put(")~_~_~c.in_err-part_", at);
+                self.put_usize(number);
+                self.put_str(".ensures.answer)");
+            }
         }
-        self.put_str("    search rules\n");
+        for _ in 0..count {
+            self.put_char(')');
+        }
+        self.put_char('\n');
     }
 
     // What is known of each part that was read.
@@ -411,11 +403,7 @@ pub(crate) fn print_read_answer<'a>(
     let mut printer = Printer::new(context);
     let parts = parts_of(context.alloc, one)?;
     let total = context.is_total_declaration(at.index);
-    printer.put_str(match (total, parts.len()) {
-        (true, _) => OF_TOTAL,
-        (false, 0..=2) => OF_TWO,
-        _ => OF_BROKEN,
-    });
+    printer.put_str(if total { OF_TOTAL } else { OF_BROKEN });
     printer.put(READ_USES, at);
     printer.put(READ_ANSWER, at);
     printer.put_known_parts(parts.len(), "answer", at);

@@ -2,5 +2,4 @@ pub mod EnumLaws
 pub mod NumberLaws
 pub mod StructLaws
 pub mod ArrayLaws
-pub mod Broken
-pub mod Joined
+pub mod PartLaws
