@@ -19,8 +19,10 @@ use Rattle.planus.specs.Printed.{slice_bytes, both}
 ";
 
 const OF_BROKEN: &str = "\
-use Rattle.std.proofs.Common.{sym, subst, ◌+◌}
-use Rattle.planus.specs.Printed.{slice_bytes, both, in_front, behind_all}
+use Rattle.std.specs.Prelude.{ℕ, ◌+◌, List, [], ◌++◌}
+use Rattle.std.proofs.Common.{sym, subst}
+use Rattle.planus.specs.Printed.{slice_bytes, both, Clause, own_reading, in_part, behind_part}
+use Rattle.planus.specs.Printed.{passed_on}
 ";
 
 const USES: &str = "\
@@ -61,6 +63,12 @@ const READ_FITS: &str = "
 pub returns-clause-fits : goal.returns-clause-fits
 returns-clause-fits c = subst (λ x. spec.$M_shape.fits x)~(sym c.of_parts.ensures)
     ";
+
+const BYTES: &str = "(slice_bytes c.args.buffer)";
+
+const PASSED_ON: &str = "-clause-answer c =
+    passed_on~(own_reading~spec.$M_shape~(slice_bytes c.args.buffer)~c.args.offset)~_~\
+c.from_residual-in_err-part_";
 
 /// What is written one after another: a struct's fields, the fields of one of its parts, or its parts.
 #[derive(Clone, Copy)]
@@ -286,31 +294,69 @@ impl<'a> Printer<'a> {
         self.put_char('\n');
     }
 
-    // A definition of a part's shape, at the part's bytes.
-    fn put_at_part(&mut self, word: &str, place: usize, part: Part, at: At) {
-        self.put("~(spec.", at);
-        self.put_part_word(place, at);
-        self.put_str("_shape.");
-        self.put_str(word);
-        self.put("~(slice_bytes c.args.buffer)~", at);
+    // Where a part starts.
+    fn put_part_start(&mut self, from: &str, part: Part) {
         if part.start > 0 {
-            self.put_str("(c.args.offset + ");
+            self.put_str("(");
+            self.put_str(from);
+            self.put_str(" + ");
             self.put_usize(part.start);
             self.put_str(")");
         } else {
-            self.put_str("c.args.offset");
+            self.put_str(from);
         }
     }
 
-    // A part that was read breaks no clause.
-    fn put_held(&mut self, place: usize, part: Part, at: At) {
-        self.put_str("(behind_all");
-        self.put_at_part("clauses", place, part, at);
-        self.put(")~_~_", at);
-        self.put_at_part("unbroken", place, part, at);
-        self.put("~_~c.in_ok-part_", at);
-        self.put_usize(place.saturating_add(1));
-        self.put(".ensures.answer)~", at);
+    // The clauses behind each part but the last, those of the later parts first.
+    fn put_behind_parts(&mut self, parts: &[Part], at: At) {
+        self.put_str("\n-- the clauses behind a part\n");
+        for (place, part) in parts.iter().enumerate().rev() {
+            if place > 0 {
+                let is_last = place.saturating_add(1) == parts.len();
+                self.put_str(if is_last { "" } else { "\n" });
+                self.put_behind_part(place, *part, is_last, at);
+            }
+        }
+    }
+
+    fn put_behind_part(&mut self, place: usize, part: Part, is_last: bool, at: At) {
+        self.put_str("abbrev behind_");
+        self.put_usize(place);
+        self.put_str(" : List ℕ → ℕ → List Clause\nbehind_");
+        self.put_usize(place);
+        self.put(" S f =~spec.", at);
+        self.put_part_word(place, at);
+        self.put("_shape.clauses S~", at);
+        self.put_part_start("f", part);
+        self.put("~++ ", at);
+        if is_last {
+            self.put_str("[]\n");
+        } else {
+            self.put_str("behind_");
+            self.put_usize(place.saturating_add(1));
+            self.put_str(" S f\n");
+        }
+    }
+
+    // A part by its shape, its bytes and what is behind it.
+    fn put_at_part(&mut self, parts: &[Part], place: usize, part: Part, at: At) {
+        let number = place.saturating_add(1);
+        self.put("~spec.", at);
+        self.put_part_word(place, at);
+        self.put("_shape~", at);
+        self.put_str(BYTES);
+        self.put("~", at);
+        self.put_part_start("c.args.offset", part);
+        self.put("~", at);
+        if number == parts.len() {
+            self.put("[]~", at);
+        } else {
+            self.put_str("(behind_");
+            self.put_usize(number);
+            self.put("~", at);
+            self.put_str(BYTES);
+            self.put("~c.args.offset)~", at);
+        }
     }
 
     // The error of a part behind others, which hold.
@@ -322,20 +368,30 @@ impl<'a> Printer<'a> {
         self.put_usize(number);
         self.put_str("-clause-answer\nreturns-in_err-part_");
         self.put_usize(number);
-        self.put_str("-clause-answer c =\n    ");
+        self.put(PASSED_ON, at);
+        self.put_usize(number);
+        self.put(".ensures.1~", at);
         for (place, part) in parts.iter().enumerate() {
-            if place < count {
-                self.put_held(place, *part, at);
-            }
-            if place == count {
-                self.put_str("(in_front");
-                self.put_at_part("clauses", place, *part, at);
-                self.put(")~_~_~c.in_err-part_", at);
-                self.put_usize(number);
-                self.put_str(".ensures.answer)");
+            if place <= count {
+                let word = if place < count {
+                    "behind_part"
+                } else {
+                    "in_part"
+                };
+                self.put_str("(");
+                self.put_str(word);
+                self.put_at_part(parts, place, *part, at);
+                self.put_str(if place < count {
+                    "c.in_ok-part_"
+                } else {
+                    "c.in_err-part_"
+                });
+                self.put_usize(place.saturating_add(1));
+                self.put_str(".ensures.answer");
+                self.put(if place < count { "~" } else { "" }, at);
             }
         }
-        for _ in 0..count {
+        for _ in 0..number {
             self.put_char(')');
         }
         self.put_char('\n');
@@ -411,6 +467,7 @@ pub(crate) fn print_read_answer<'a>(
     printer.put_known_parts(parts.len(), "fits", at);
     printer.put_str("\n");
     if !total {
+        printer.put_behind_parts(&parts, at);
         for count in 1..parts.len() {
             printer.put_broken(&parts, count, at);
         }

@@ -1,7 +1,6 @@
 -- Laws of parts that stand one behind another, by which structs of many fields are written and read.
-use Rattle.std.specs.Prelude.{◌≡◌, ℕ, List, [], ◌∷◌, ◌++◌, Result, Ok, Err}
+use Rattle.std.specs.Prelude.{◌≡◌, ℕ, List, [], ◌∷◌, ◌++◌, Result, Ok, Err, IsErrAnd}
 use Rattle.std.proofs.Common.{sym, ap, subst, ◌∙◌, append_assoc, append-nil, inl, inr}
-use Rattle.core.specs.Result.{IsErrAnd}
 use Rattle.planus_read.specs.declared.errors.ErrorKind.{ErrorKind}
 use Rattle.planus_read.specs.Clauses.{Clause, Reading, Answer, AllHold, FirstBroken}
 use Rattle.planus_read.specs.Plain.{Shape}
