@@ -31,7 +31,7 @@ abbrev pub $M_is : (x : $T) → Numbered $q $M_values x
 
 const READ_FOUND: &str = "        let number = <$b as Plain>::read(buffer, offset)?;
         match from_0(number) {
-            Some(value) => Ok(value),
+            Some(this) => Ok(this),
             None => Err(ErrorKind::UnknownEnumTag {
                 source: UnknownEnumTagKind {
                     tag: number as i128,

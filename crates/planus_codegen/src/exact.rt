@@ -9,16 +9,16 @@ use planus_schema::{Base, Scalar, Struct, StructField};
 /// Of a type whose proof needs nothing of its members.
 const EXACT: &str = "
 impl Exact for $T {
-    fn equal_is_same(^a: $T,^b: $T^) {}
+    fn equal_is_same(^this: $T,^other: $T^) {}
 }
 ";
 
 const EXACT_BY_FIELDS: &str = "
 impl Exact for $T {
-    fn equal_is_same(^a: $T,^b: $T^) {
+    fn equal_is_same(^this: $T,^other: $T^) {
 ";
 
-const FIELD: &str = "        $t::equal_is_same(^a.$n,^b.$n^);\n";
+const FIELD: &str = "        $t::equal_is_same(^this.$n,^other.$n^);\n";
 
 const ENUM_PROOF: &str = "\
 use Rattle.std.proofs.Common.{rules}
@@ -52,9 +52,9 @@ fn has_own_proof(field: &StructField) -> bool {
 
 fn scalar_proof(scalar: Scalar) -> &'static str {
     match scalar {
-        Scalar::Bool => "(same.bool c.args.a.$f c.args.b.$f)",
-        scalar if is_signed(scalar) => "(same.int c.args.a.$f c.args.b.$f)",
-        _ => "(same.nat c.args.a.$f c.args.b.$f)",
+        Scalar::Bool => "(same.bool c.args.this.$f c.args.other.$f)",
+        scalar if is_signed(scalar) => "(same.int c.args.this.$f c.args.other.$f)",
+        _ => "(same.nat c.args.this.$f c.args.other.$f)",
     }
 }
 

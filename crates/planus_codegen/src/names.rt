@@ -12,7 +12,7 @@ use crate::known::{is_known_module, is_known_type};
 use crate::refusal::Refusal;
 use planus_schema::{
     Body, Declared, add, allowed, are_apart, are_apart_from, are_names, are_scopes, capital,
-    capitals, has_name as is_in, is_among, is_held, is_reserved, last_word, snake,
+    capitals, has_name as is_in, is_among, is_held, is_reserved, last_word, snake, value_spelled,
 };
 use std::alloc::{AllocError, Global};
 
@@ -158,7 +158,8 @@ fn member_spelled(alloc: Global, body: &Body, name: &[u8]) -> Result<Vec<u8>, Al
     match body {
         Body::Table(_) | Body::Struct(_) => snake(alloc, name),
         Body::Enum(one) if one.flags => capitals(alloc, name),
-        Body::Enum(_) | Body::Union(_) => Vec::from_slice(alloc, name),
+        Body::Enum(_) => value_spelled(alloc, name),
+        Body::Union(_) => Vec::from_slice(alloc, name),
     }
 }
 

@@ -60,6 +60,10 @@ words_of_members =
     codes "builder" ∷ codes "clone" ∷ codes "data" ∷ codes "deriving" ∷ codes "fields" ∷
     codes "module" ∷ codes "record" ∷ codes "result" ∷ codes "table" ∷ []
 
+-- what the methods of an enum call its values
+unfoldable pub words_of_values : List (List ℕ)
+words_of_values = codes "other" ∷ codes "this" ∷ []
+
 -- a word that no field, type or module of a declaration can be
 abbrev pub is_held : List ℕ → Bool
 is_held w = is_reserved w || is_in words_of_members w

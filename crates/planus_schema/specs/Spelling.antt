@@ -10,7 +10,7 @@ use Rattle.planus_schema.specs.Distinct.{items_of}
 use Rattle.planus_schema.specs.declared.schema.Body.{Body}
 use Rattle.planus_schema.specs.declared.schema.Body.TheVariants as body
 use Rattle.planus_schema.specs.declared.schema.Declared.{Declared}
-use Rattle.planus_schema.specs.Names.{is_held}
+use Rattle.planus_schema.specs.Names.{is_held, is_in, words_of_values}
 
 abbrev pub after_dots : List ℕ → List ℕ → List ℕ
 after_dots word [] = word
@@ -62,6 +62,10 @@ scope_from names (w ∷ ws) = scope_from (names ++ set_apart names names w ∷ [
 abbrev pub allowed : List ℕ → List ℕ
 allowed name = if is_held name then name ++ 95 ∷ [] else name
 
+-- with `_` after it where the methods of its enum have the word
+abbrev pub value_spelled : List ℕ → List ℕ
+value_spelled name = if is_in words_of_values name then name ++ 95 ∷ [] else name
+
 -- the names of a declaration's members in the schema: fields, values, or what a union is of
 abbrev pub said_in : Body → List (List ℕ)
 said_in (body.Table one) = map (λ f. f.name.items) one.fields.items
@@ -69,11 +73,11 @@ said_in (body.Struct one) = map (λ f. f.name.items) one.fields.items
 said_in (body.Enum one) = map (λ v. v.name.items) one.values.items
 said_in (body.Union one) = map (λ m. m.name.items) one.members.items
 
--- fields are in small letters, the values of flags in capitals, others as they are
+-- fields are in small letters, the values of flags in capitals, others almost as they are
 abbrev pub member_spelled : Body → List ℕ → List ℕ
 member_spelled (body.Table one) name = snake name
 member_spelled (body.Struct one) name = snake name
-member_spelled (body.Enum one) name = if one.flags then capitals name else name
+member_spelled (body.Enum one) name = if one.flags then capitals name else value_spelled name
 member_spelled (body.Union one) name = name
 
 abbrev pub member_word : Body → List ℕ → List ℕ

@@ -31,4 +31,4 @@ pub use scope::{
     is_reserved,
 };
 pub use slots::{is_union, slot_of, slots_taken, width};
-pub use spelling::{add, allowed, capital, capitals, last_word, snake};
+pub use spelling::{add, allowed, capital, capitals, last_word, snake, value_spelled};

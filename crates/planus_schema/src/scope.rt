@@ -99,6 +99,9 @@ const OF_MEMBERS: [&str; 9] = [
     "builder", "clone", "data", "deriving", "fields", "module", "record", "result", "table",
 ];
 
+/// What the methods of an enum call its values.
+const OF_VALUES: [&str; 2] = ["other", "this"];
+
 /// Returns whether a name is one of these words.
 pub fn is_one_of(words: &[&str], name: &[u8]) -> bool
     ensures { result ≡ list_any (λ word. bytes_eq word.now name.now) words.now }
@@ -117,6 +120,13 @@ fn is_of_members(name: &[u8]) -> bool
     ensures { result ≡ spec.is_in spec.words_of_members name.now }
 {
     is_one_of(&OF_MEMBERS, name)
+}
+
+/// Returns whether no value of an enum can be this word.
+pub fn is_of_values(name: &[u8]) -> bool
+    ensures { result ≡ spec.is_in spec.words_of_values name.now }
+{
+    is_one_of(&OF_VALUES, name)
 }
 
 /// Returns whether no field, type or module of a declaration can be this word.

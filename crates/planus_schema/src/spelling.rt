@@ -4,7 +4,7 @@ ghost use Rattle.std.specs.Prelude.{◌≡◌, ◌++◌, ◌∷◌, [], IfOk};
 ghost use Rattle.planus_schema.specs.Distinct.{items_of};
 ghost use Rattle.planus_schema.specs.Spelling as spec;
 
-use crate::scope::{is_among, is_held};
+use crate::scope::{is_among, is_held, is_of_values};
 use std::alloc::{AllocError, Global};
 
 /// Returns what follows the last dot of a name.
@@ -120,4 +120,15 @@ pub fn allowed(mut name: Vec<u8>) -> Result<Vec<u8>, AllocError>
         name.push(b'_')?;
     }
     Ok(name)
+}
+
+/// Returns the name of an enum's value, with `_` after it where the methods of the enum have the word.
+pub fn value_spelled(alloc: Global, name: &[u8]) -> Result<Vec<u8>, AllocError>
+    ensures { IfOk result (λ v. v.items ≡ spec.value_spelled name.now) }
+{
+    let mut out = Vec::from_slice(alloc, name)?;
+    if is_of_values(name) {
+        out.push(b'_')?;
+    }
+    Ok(out)
 }
