@@ -42,8 +42,8 @@ impl Stride for Fix {
 impl PlainField for Fix {}
 
 impl Exact for Fix {
-    fn equal_is_same(a: Fix, b: Fix) {
-        Pos::equal_is_same(a.at, b.at);
-        Kind::equal_is_same(a.kind, b.kind);
+    fn equal_is_same(this: Fix, other: Fix) {
+        Pos::equal_is_same(this.at, other.at);
+        Kind::equal_is_same(this.kind, other.kind);
     }
 }

@@ -45,5 +45,5 @@ impl PlainTotal for Gauge {
 }
 
 impl Exact for Gauge {
-    fn equal_is_same(a: Gauge, b: Gauge) {}
+    fn equal_is_same(this: Gauge, other: Gauge) {}
 }

@@ -56,5 +56,5 @@ impl Stride for Kind {
 impl PlainField for Kind {}
 
 impl Exact for Kind {
-    fn equal_is_same(a: Kind, b: Kind) {}
+    fn equal_is_same(this: Kind, other: Kind) {}
 }

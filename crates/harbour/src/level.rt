@@ -55,5 +55,5 @@ impl Stride for Level {
 impl PlainField for Level {}
 
 impl Exact for Level {
-    fn equal_is_same(a: Level, b: Level) {}
+    fn equal_is_same(this: Level, other: Level) {}
 }

@@ -79,7 +79,7 @@ impl PlainTotal for Needs {
 }
 
 impl Exact for Needs {
-    fn equal_is_same(a: Needs, b: Needs) {}
+    fn equal_is_same(this: Needs, other: Needs) {}
 }
 
 impl std::fmt::Debug for Needs {

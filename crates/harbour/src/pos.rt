@@ -46,5 +46,5 @@ impl PlainTotal for Pos {
 }
 
 impl Exact for Pos {
-    fn equal_is_same(a: Pos, b: Pos) {}
+    fn equal_is_same(this: Pos, other: Pos) {}
 }

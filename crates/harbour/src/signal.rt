@@ -95,7 +95,7 @@ impl Plain for Signal {
     fn read(buffer: SliceWithStartOffset<'_>, offset: usize) -> Result<Signal, ErrorKind> {
         let number = <i8 as Plain>::read(buffer, offset)?;
         match from_0(number) {
-            Some(value) => Ok(value),
+            Some(this) => Ok(this),
             None => Err(ErrorKind::UnknownEnumTag {
                 source: UnknownEnumTagKind {
                     tag: number as i128,
@@ -165,5 +165,5 @@ fn from_20(number: i8) -> Option<Signal>
 }
 
 impl Exact for Signal {
-    fn equal_is_same(a: Signal, b: Signal) {}
+    fn equal_is_same(this: Signal, other: Signal) {}
 }

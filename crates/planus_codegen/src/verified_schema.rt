@@ -11,7 +11,7 @@ use std::alloc::AllocError;
 
 const USES: &str = "\
 ghost use Rattle.std.specs.Prelude.{◌≡◌};
-ghost use Rattle.planus_views.specs.Printed.{shapes};
+ghost use Rattle.planus_views.specs.Printed.{shapes, names_of, name_texts};
 ghost use Rattle.$c.specs.Verified.{verified_schema, verified_names};
 
 use planus_views::{

@@ -64,7 +64,7 @@ listed_text n own values = start_text n own values
 
 abbrev pub asking : List ℕ
 asking = codes "let number = <$b as Plain>::read(buffer, offset)?; match from_0(number) {"
-    ++ (codes " Some(value) => Ok(value), None => Err(ErrorKind::UnknownEnumTag {"
+    ++ (codes " Some(this) => Ok(this), None => Err(ErrorKind::UnknownEnumTag {"
     ++ codes " source: UnknownEnumTagKind { tag: number as i128 } }) } } }")
 
 -- or asks the functions that find a variant by its number

@@ -14,7 +14,7 @@ const NUMBER_HEAD: &str = "} impl $T { pub fn number(self) -> $b ensures { \
      result $= ($M_is self).number } { match self {";
 
 const ASKING: &str = "let number = <$b as Plain>::read(buffer, offset)?; match from_0(number) { \
-     Some(value) => Ok(value), None => Err(ErrorKind::UnknownEnumTag { \
+     Some(this) => Ok(this), None => Err(ErrorKind::UnknownEnumTag { \
      source: UnknownEnumTagKind { tag: number as i128 } }) } } }";
 
 const FOUND_NEXT: &str = "_ => from_$p(number), } }";

@@ -43,14 +43,33 @@ dive_part_1 x =
 
 abbrev pub dive_part_2_shape : Shape DivePart2 16 8
 dive_part_2_shape = struct_shape
-    (field (λ x. x.place) f64_shape (field (λ x. x.cracks) u16_shape no_more))
+    (field (λ x. x.place) f64_shape (field (λ x. x.cracks) u16_shape
+    (field (λ x. x.left) gear_shape (field (λ x. x.right) gear_shape
+    (field (λ x. x.tied) gear_shape (field (λ x. x.lent) gear_shape
+    (field (λ x. x.raised) gear_shape no_more)))))))
     (struct_layout 3 2 (lit≤ tt) (lit< tt))
-    (λ v. record { place = v.0; cracks = v.1.0 })
+    (λ v. record {
+      place = v.0;
+      cracks = v.1.0;
+      left = v.1.1.0;
+      right = v.1.1.1.0;
+      tied = v.1.1.1.1.0;
+      lent = v.1.1.1.1.1.0;
+      raised = v.1.1.1.1.1.1.0;
+    })
     (λ x. refl)
 
 abbrev pub dive_part_2 : Dive → DivePart2
 dive_part_2 x =
-    record { place = x.place; cracks = x.cracks }
+    record {
+      place = x.place;
+      cracks = x.cracks;
+      left = x.left;
+      right = x.right;
+      tied = x.tied;
+      lent = x.lent;
+      raised = x.raised;
+    }
 
 abbrev pub dive_of_parts : DivePart1 → DivePart2 → Dive
 dive_of_parts p1 p2 =
@@ -65,6 +84,11 @@ dive_of_parts p1 p2 =
       marks = p1.marks;
       place = p2.place;
       cracks = p2.cracks;
+      left = p2.left;
+      right = p2.right;
+      tied = p2.tied;
+      lent = p2.lent;
+      raised = p2.raised;
     }
 
 abbrev pub dive_shape : Shape Dive 56 8

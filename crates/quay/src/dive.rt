@@ -21,6 +21,11 @@ pub struct Dive {
     pub marks: [Gear; 2],
     pub place: f64,
     pub cracks: u16,
+    pub left: Gear,
+    pub right: Gear,
+    pub tied: Gear,
+    pub lent: Gear,
+    pub raised: Gear,
 }
 
 impl Plain for Dive {
@@ -76,6 +81,11 @@ impl Dive {
         DivePart2 {
             place: self.place,
             cracks: self.cracks,
+            left: self.left,
+            right: self.right,
+            tied: self.tied,
+            lent: self.lent,
+            raised: self.raised,
         }
     }
 
@@ -93,6 +103,11 @@ impl Dive {
             marks: part_1.marks,
             place: part_2.place,
             cracks: part_2.cracks,
+            left: part_2.left,
+            right: part_2.right,
+            tied: part_2.tied,
+            lent: part_2.lent,
+            raised: part_2.raised,
         }
     }
 }
@@ -135,6 +150,11 @@ impl Plain for DivePart1 {
 struct DivePart2 {
     place: f64,
     cracks: u16,
+    left: Gear,
+    right: Gear,
+    tied: Gear,
+    lent: Gear,
+    raised: Gear,
 }
 
 impl Plain for DivePart2 {
@@ -149,10 +169,12 @@ impl Plain for DivePart2 {
     const SIZE: usize = 16;
 
     fn put(&self, bytes: &mut [u8]) {
-        put_fields!(self, bytes; place: 8, cracks: 2, _: 6);
+        put_fields!(self, bytes; place: 8, cracks: 2, left: 1, right: 1, tied: 1, lent: 1,
+            raised: 1, _: 1);
     }
 
     fn read(buffer: SliceWithStartOffset<'_>, offset: usize) -> Result<DivePart2, ErrorKind> {
-        read_fields!(DivePart2, buffer, offset; place, cracks: 8)
+        read_fields!(DivePart2, buffer, offset; place, cracks: 8, left: 10, right: 11, tied: 12,
+            lent: 13, raised: 14)
     }
 }

@@ -13,6 +13,7 @@ pub enum Gear {
     Hook = 0,
     Grab = 1,
     Magnet = 2,
+    other_ = 100,
 }
 
 impl Gear {
@@ -24,6 +25,7 @@ impl Gear {
             Gear::Hook => 0,
             Gear::Grab => 1,
             Gear::Magnet => 2,
+            Gear::other_ => 100,
         }
     }
 }
@@ -44,7 +46,7 @@ impl Plain for Gear {
     }
 
     fn read(buffer: SliceWithStartOffset<'_>, offset: usize) -> Result<Gear, ErrorKind> {
-        read_variant!(i8, buffer, offset; Gear::Hook, Gear::Grab, Gear::Magnet)
+        read_variant!(i8, buffer, offset; Gear::Hook, Gear::Grab, Gear::Magnet, Gear::other_)
     }
 }
 
@@ -55,5 +57,5 @@ impl Stride for Gear {
 impl PlainField for Gear {}
 
 impl Exact for Gear {
-    fn equal_is_same(a: Gear, b: Gear) {}
+    fn equal_is_same(this: Gear, other: Gear) {}
 }

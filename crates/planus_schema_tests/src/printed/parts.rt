@@ -16,6 +16,11 @@ const DIVE: Dive = Dive {
     marks: [Gear::Magnet, Gear::Hook],
     place: 2.5,
     cracks: 0x1234,
+    left: Gear::Magnet,
+    right: Gear::Grab,
+    tied: Gear::Hook,
+    lent: Gear::other_,
+    raised: Gear::Grab,
 };
 
 // By flatc 2.0.8: a quay "East" with `DIVE`, from byte 48 on.
@@ -23,8 +28,8 @@ const QUAY: [u8; 120] = [
     32, 0, 0, 0, 0, 0, 0, 0, 24, 0, 12, 0, 4, 0, 0, 0, 0, 0, 0, 0, 0, 0, 0, 0, 0, 0, 0, 0, 0, 0, 8,
     0, 24, 0, 0, 0, 72, 0, 0, 0, 4, 0, 0, 0, 1, 0, 0, 0, 8, 7, 6, 5, 4, 3, 2, 1, 9, 0, 255, 255, 2,
     0, 212, 254, 1, 0, 0, 0, 120, 86, 52, 18, 1, 0, 0, 0, 0, 0, 128, 190, 2, 0, 0, 0, 0, 0, 0, 0,
-    0, 0, 0, 0, 0, 0, 4, 64, 52, 18, 0, 0, 0, 0, 0, 0, 0, 0, 0, 0, 4, 0, 0, 0, 69, 97, 115, 116, 0,
-    0, 0, 0,
+    0, 0, 0, 0, 0, 0, 4, 64, 52, 18, 2, 1, 0, 100, 1, 0, 0, 0, 0, 0, 4, 0, 0, 0, 69, 97, 115, 116,
+    0, 0, 0, 0,
 ];
 
 fn are_its_bytes() -> bool {
@@ -65,15 +70,22 @@ fn has_unknown(bytes: &[u8], tag: i128) -> bool {
     )
 }
 
-// The numbers 8 and 9 stand for gears of the second part, and then 7 for that of the first.
+fn has_unknown_at(bytes: &mut [u8; 120], place: usize, number: u8) -> bool
+    requires { place < 120 }
+{
+    bytes[place] = number;
+    has_unknown(bytes, number as i128)
+}
+
+// Numbers that no gear has, each before those that stand there: of the second part, then of the first.
 fn is_first_error() -> bool {
     let mut bytes = QUAY;
-    bytes[81] = 9;
-    let second = has_unknown(&bytes, 9);
-    bytes[80] = 8;
-    let first_mark = has_unknown(&bytes, 8);
-    bytes[64] = 7;
-    second && first_mark && has_unknown(&bytes, 7)
+    has_unknown_at(&mut bytes, 102, 12)
+        && has_unknown_at(&mut bytes, 101, 11)
+        && has_unknown_at(&mut bytes, 98, 10)
+        && has_unknown_at(&mut bytes, 81, 9)
+        && has_unknown_at(&mut bytes, 80, 8)
+        && has_unknown_at(&mut bytes, 64, 7)
 }
 
 #[test]

@@ -3,7 +3,7 @@ use Rattle.planus.specs.Printed.{i16_shape, array_shape}
 use Rattle.quay.specs.Gear.{gear_shape}
 use Rattle.std.proofs.Common.{arith, rules, lit<}
 use Rattle.std.proofs.lemmas.List.{nil_from_length}
-use Rattle.quay.proofs.Joined.{joined, ended, behind}
+use Rattle.planus.specs.Printed.{joined, ended, nothing_more}
 use Rattle.quay.proofs.dive.DivePart1Plain.put.Goals as goal
 
 pub returns-clause-encoded : goal.returns-clause-encoded
@@ -40,4 +40,4 @@ returns-clause-encoded c =
     (joined zeros_1 (joined items_1 (joined c.put_fields-put-3.ensures.encoded (joined zeros_2
     (joined c.put_fields-put-4.ensures.encoded (joined c.put_fields-put-5.ensures.encoded
     (joined zeros_3 (joined c.put_fields-put-6.ensures.encoded (joined items_2
-    (ended (behind zeros_4 none))))))))))))).is
+    (ended (nothing_more zeros_4 none))))))))))))).is

@@ -1,7 +1,7 @@
 use Rattle.std.specs.Prelude.{◌≡◌, []}
 use Rattle.std.proofs.Common.{arith, ap, subst, ◌∙◌}
 use Rattle.std.proofs.lemmas.List.{nil_from_length}
-use Rattle.quay.proofs.Joined.{joined, ended, both}
+use Rattle.planus.specs.Printed.{joined, ended, both}
 use Rattle.quay.specs.Dive as spec
 use Rattle.quay.proofs.dive.DivePlain.put.Goals as goal
 
