@@ -14,12 +14,10 @@ use crate::exact::{print_exact_enum, print_exact_struct};
 use crate::long_structs::{print_long_layout, print_part_uses};
 use crate::names::namespace_around;
 use crate::order::{Order, places_by_name};
-use crate::part_proofs::{
-    Written, print_answer, print_fields_answer, print_parts_answer, print_read_answer,
-};
+use crate::part_proofs::{Written, print_answer, print_fields_answer, print_parts_answer};
 use crate::parts::{has_answer, is_long, parts_of, whole};
 use crate::printer::Printer;
-use crate::read_proofs::{has_many_clauses, print_fields_read};
+use crate::read_proofs::{has_many_clauses, print_fields_read, print_parts_read};
 use crate::refusal::Refusal;
 use crate::root::print_root;
 use crate::structs::{has_padding, print_padded, print_struct, print_struct_layout};
@@ -250,8 +248,8 @@ impl<'a> Files<'a> {
         }
         let proof = print_parts_answer(context, at, one)?;
         self.put_proof(STRUCT_PROOF, at, &proof);
-        let proof = print_read_answer(context, at, one)?;
-        self.put(STRUCT_READ, at, &proof);
+        let proof = print_parts_read(context, at, one)?;
+        self.put_proof(STRUCT_READ, at, &proof);
         Ok(())
     }
 

@@ -1,4 +1,4 @@
-//! The proofs of structs of many fields: each field is named in them.
+//! The proofs of how structs of many fields are written: each field is named in them.
 
 use crate::at::At;
 use crate::context::Context;
@@ -12,18 +12,6 @@ const OF_PARTS: &str = "use Rattle.std.proofs.Common.{arith, ap, subst, ◌∙�
 const OF_NUMBERS: &str = "use Rattle.std.proofs.Common.{arith}\n";
 
 const OF_ARRAYS: &str = "use Rattle.std.proofs.Common.{arith, rules, lit<}\n";
-
-const OF_TOTAL: &str = "\
-use Rattle.std.proofs.Common.{sym, subst}
-use Rattle.planus.specs.Printed.{slice_bytes, both}
-";
-
-const OF_BROKEN: &str = "\
-use Rattle.std.specs.Prelude.{ℕ, ◌+◌, List, [], ◌++◌}
-use Rattle.std.proofs.Common.{sym, subst}
-use Rattle.planus.specs.Printed.{slice_bytes, both, Clause, own_reading, in_part, behind_part}
-use Rattle.planus.specs.Printed.{passed_on}
-";
 
 const USES: &str = "\
 use Rattle.std.proofs.lemmas.List.{nil_from_length}
@@ -44,31 +32,6 @@ const FITS: &str = "
 pub returns-clause-fits : goal.returns-clause-fits
 returns-clause-fits c =
     ";
-
-const READ_USES: &str = "\
-use Rattle.$c.specs.$T as spec
-use Rattle.$c.proofs.$M.$TPlain.read.Goals as goal
-
-";
-
-const READ_ANSWER: &str = "\
-pub returns-clause-answer : goal.returns-clause-answer
-returns-clause-answer c =
-    subst (λ x. spec.$M_shape.There (slice_bytes c.args.buffer) c.args.offset x)~\
-(sym c.of_parts.ensures)
-    ";
-
-const READ_FITS: &str = "
-
-pub returns-clause-fits : goal.returns-clause-fits
-returns-clause-fits c = subst (λ x. spec.$M_shape.fits x)~(sym c.of_parts.ensures)
-    ";
-
-const BYTES: &str = "(slice_bytes c.args.buffer)";
-
-const PASSED_ON: &str = "-clause-answer c =
-    passed_on~(own_reading~spec.$M_shape~(slice_bytes c.args.buffer)~c.args.offset)~_~\
-c.from_residual-in_err-part_";
 
 /// What is written one after another: a struct's fields, the fields of one of its parts, or its parts.
 #[derive(Clone, Copy)]
@@ -95,7 +58,7 @@ fn arrays_in(items: &[Item]) -> usize {
     items.iter().filter(|item| item.is_array).count()
 }
 
-fn before(items: &[Item], place: usize) -> &[Item] {
+pub(crate) fn before(items: &[Item], place: usize) -> &[Item] {
     items.get(..place).unwrap_or(items)
 }
 
@@ -293,124 +256,6 @@ impl<'a> Printer<'a> {
         }
         self.put_char('\n');
     }
-
-    // Where a part starts.
-    fn put_part_start(&mut self, from: &str, part: Part) {
-        if part.start > 0 {
-            self.put_str("(");
-            self.put_str(from);
-            self.put_str(" + ");
-            self.put_usize(part.start);
-            self.put_str(")");
-        } else {
-            self.put_str(from);
-        }
-    }
-
-    // The clauses behind each part but the last, those of the later parts first.
-    fn put_behind_parts(&mut self, parts: &[Part], at: At) {
-        self.put_str("\n-- the clauses behind a part\n");
-        for (place, part) in parts.iter().enumerate().rev() {
-            if place > 0 {
-                let is_last = place.saturating_add(1) == parts.len();
-                self.put_str(if is_last { "" } else { "\n" });
-                self.put_behind_part(place, *part, is_last, at);
-            }
-        }
-    }
-
-    fn put_behind_part(&mut self, place: usize, part: Part, is_last: bool, at: At) {
-        self.put_str("abbrev behind_");
-        self.put_usize(place);
-        self.put_str(" : List ℕ → ℕ → List Clause\nbehind_");
-        self.put_usize(place);
-        self.put(" S f =~spec.", at);
-        self.put_part_word(place, at);
-        self.put("_shape.clauses S~", at);
-        self.put_part_start("f", part);
-        self.put("~++ ", at);
-        if is_last {
-            self.put_str("[]\n");
-        } else {
-            self.put_str("behind_");
-            self.put_usize(place.saturating_add(1));
-            self.put_str(" S f\n");
-        }
-    }
-
-    // A part by its shape, its bytes and what is behind it.
-    fn put_at_part(&mut self, parts: &[Part], place: usize, part: Part, at: At) {
-        let number = place.saturating_add(1);
-        self.put("~spec.", at);
-        self.put_part_word(place, at);
-        self.put("_shape~", at);
-        self.put_str(BYTES);
-        self.put("~", at);
-        self.put_part_start("c.args.offset", part);
-        self.put("~", at);
-        if number == parts.len() {
-            self.put("[]~", at);
-        } else {
-            self.put_str("(behind_");
-            self.put_usize(number);
-            self.put("~", at);
-            self.put_str(BYTES);
-            self.put("~c.args.offset)~", at);
-        }
-    }
-
-    // The error of a part behind others, which hold.
-    fn put_broken(&mut self, parts: &[Part], count: usize, at: At) {
-        let number = count.saturating_add(1);
-        self.put_str("\npub returns-in_err-part_");
-        self.put_usize(number);
-        self.put_str("-clause-answer : goal.returns-in_err-part_");
-        self.put_usize(number);
-        self.put_str("-clause-answer\nreturns-in_err-part_");
-        self.put_usize(number);
-        self.put(PASSED_ON, at);
-        self.put_usize(number);
-        self.put(".ensures.1~", at);
-        for (place, part) in parts.iter().enumerate() {
-            if place <= count {
-                let word = if place < count {
-                    "behind_part"
-                } else {
-                    "in_part"
-                };
-                self.put_str("(");
-                self.put_str(word);
-                self.put_at_part(parts, place, *part, at);
-                self.put_str(if place < count {
-                    "c.in_ok-part_"
-                } else {
-                    "c.in_err-part_"
-                });
-                self.put_usize(place.saturating_add(1));
-                self.put_str(".ensures.answer");
-                self.put(if place < count { "~" } else { "" }, at);
-            }
-        }
-        for _ in 0..number {
-            self.put_char(')');
-        }
-        self.put_char('\n');
-    }
-
-    // What is known of each part that was read.
-    fn put_known_parts(&mut self, count: usize, clause: &str, at: At) {
-        for place in 0..count {
-            self.put_str("(both c.in_ok-part_");
-            self.put_usize(place.saturating_add(1));
-            self.put_str(".ensures.");
-            self.put_str(clause);
-            self.put("~", at);
-        }
-        self.put_str("tt");
-        for _ in 0..count {
-            self.put_char(')');
-        }
-    }
 }
 
 /// Returns the proof of how the fields of a struct, or those of a part, are written.
@@ -447,30 +292,5 @@ pub(crate) fn print_parts_answer<'a>(
     let items = items_of_parts(context.alloc, one, &parts)?;
     printer.put_answer(Written::Parts, &items, at);
     printer.put_fits(parts.len(), at);
-    Ok(printer)
-}
-
-/// Returns the proof of how the parts of a struct are read.
-pub(crate) fn print_read_answer<'a>(
-    context: &'a Context<'a>,
-    at: At,
-    one: &Struct,
-) -> Result<Printer<'a>, AllocError> {
-    let mut printer = Printer::new(context);
-    let parts = parts_of(context.alloc, one)?;
-    let total = context.is_total_declaration(at.index);
-    printer.put_str(if total { OF_TOTAL } else { OF_BROKEN });
-    printer.put(READ_USES, at);
-    printer.put(READ_ANSWER, at);
-    printer.put_known_parts(parts.len(), "answer", at);
-    printer.put(READ_FITS, at);
-    printer.put_known_parts(parts.len(), "fits", at);
-    printer.put_str("\n");
-    if !total {
-        printer.put_behind_parts(&parts, at);
-        for count in 1..parts.len() {
-            printer.put_broken(&parts, count, at);
-        }
-    }
     Ok(printer)
 }
