@@ -45,8 +45,11 @@ schema_by n ranks text without given lines (Ok b) g a w h = λ t. record {
       ∙ ap (is_schema_text n ranks given) (sym w) ∙ sym h ∙ t;
 }
 
-pub body_viewed : {E : Type 0} (n : Naming) (ranks : List ℕ) (totals : List Bool) (files : List PrintedFile) (i : ℕ) (one : Table) (b : Body) (path : List ℕ) (found : Option (List ℕ)) (r : Result Bool E) → b ≡ body.Table one → path ≡ view_path_of n i → found ≡ text_at path files → IfOk r (λ v. IsTrue v → IsViewTextTied n ranks totals i one found) → IfOk r (λ v. IsTrue v → IsBodyViewTied n ranks totals files i b)
-body_viewed n ranks totals files i one b path found r is p f h =
+weakened : {A E : Type 0} (r : Result A E) {P Q : A → Type 0} → ((v : A) → P v → Q v) → IfOk r P → IfOk r Q
+weakened (Ok v) f h = f v h
+weakened (Err e) f h = tt
+
+pub body_viewed : {E : Type 0} (n : Naming) (ranks : List ℕ) (totals : List Bool) (files : List PrintedFile) (i : ℕ) (b : Body) (path : List ℕ) (found : Option (List ℕ)) (r : Result Bool E) → path ≡ view_path_of n i → found ≡ text_at path files → IfOk r (λ v. IsTrue v → IsViewTextTied n ranks totals i b found) → IfOk r (λ v. IsTrue v → IsBodyViewTied n ranks totals files i b)
+body_viewed n ranks totals files i b path found r p f h =
     let whole : found ≡ text_at (view_path_of n i) files = f ∙ ap (λ q. text_at q files) p in
-    let there : IfOk r (λ v. IsTrue v → IsBodyViewTied n ranks totals files i (body.Table one)) = subst (λ o. IfOk r (λ v. IsTrue v → IsViewTextTied n ranks totals i one o)) whole h in
-    subst (λ x. IfOk r (λ v. IsTrue v → IsBodyViewTied n ranks totals files i x)) (sym is) there
+    weakened r (λ v tied is has. subst (λ o. IsViewTextTied n ranks totals i b o) whole (tied is)) h

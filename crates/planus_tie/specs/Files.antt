@@ -1,5 +1,5 @@
 -- The files of a printed crate.
-use Rattle.std.specs.Prelude.{ℕ, ◌+◌, Bool, IsTrue, ⊤, List, [], ◌∷◌, ◌++◌, fold, codes, Option, Some}
+use Rattle.std.specs.Prelude.{ℕ, ◌+◌, Bool, ◌||◌, IsTrue, ⊤, List, [], ◌∷◌, ◌++◌, fold, codes, Option, Some}
 use Rattle.std.specs.Prelude.{None, if◌then◌else◌}
 use Rattle.std.specs.Bool.{MatchBool}
 use Rattle.std.specs.List.{list_any}
@@ -11,10 +11,11 @@ use Rattle.planus_schema.specs.declared.schema.Declared.{Declared}
 use Rattle.planus_schema.specs.declared.schema.Table.{Table}
 use Rattle.planus_tie.specs.Enums.{IsEnumTied}
 use Rattle.planus_tie.specs.Flags.{IsFlagsTied}
-use Rattle.planus_tie.specs.Ranks.{is_table, ranks_of, totals_of}
+use Rattle.planus_tie.specs.Ranks.{is_table, is_union_body, ranks_of, totals_of}
 use Rattle.planus_tie.specs.SchemaTies.{IsSchemaTied}
 use Rattle.planus_tie.specs.Structs.{IsStructTied}
 use Rattle.planus_tie.specs.Ties.{IsTableTied}
+use Rattle.planus_tie.specs.UnionViews.{IsUnionViewTied}
 use Rattle.planus_tie.specs.Unions.{IsUnionTied}
 use Rattle.planus_tie.specs.Views.{IsViewTied}
 use Rattle.planus_tie.specs.Wanted.{module_of}
@@ -57,15 +58,23 @@ AreDeclaredTied n files i (d ∷ ds) =
 abbrev pub view_path_of : Naming → ℕ → List ℕ
 view_path_of n i = codes "src/verified/" ++ (module_of n i ++ codes ".rt")
 
-abbrev pub IsViewTextTied : Naming → List ℕ → List Bool → ℕ → Table → Option (List ℕ) → Type 0
-IsViewTextTied n ranks totals i one None = ⊥
-IsViewTextTied n ranks totals i one (Some text) = IsViewTied n ranks totals i one text
+-- a text is that of the view of a table or of a union
+abbrev pub IsTextViewTied : Naming → List ℕ → List Bool → ℕ → Body → List ℕ → Type 0
+IsTextViewTied n ranks totals i (body.Table one) text = IsViewTied n ranks totals i one text
+IsTextViewTied n ranks totals i (body.Union one) text = IsUnionViewTied n ranks i one text
+IsTextViewTied n ranks totals i b text = ⊤
 
--- a table's view is there, and is the table's
+abbrev pub IsViewTextTied : Naming → List ℕ → List Bool → ℕ → Body → Option (List ℕ) → Type 0
+IsViewTextTied n ranks totals i b None = ⊥
+IsViewTextTied n ranks totals i b (Some text) = IsTextViewTied n ranks totals i b text
+
+abbrev pub has_view : Body → Bool
+has_view b = is_table b || is_union_body b
+
+-- the view of a table or of a union is there, and is the declaration's
 abbrev pub IsBodyViewTied : Naming → List ℕ → List Bool → List PrintedFile → ℕ → Body → Type 0
-IsBodyViewTied n ranks totals files i (body.Table one) =
-    IsViewTextTied n ranks totals i one (text_at (view_path_of n i) files)
-IsBodyViewTied n ranks totals files i b = ⊤
+IsBodyViewTied n ranks totals files i b = IsTrue (has_view b)
+    → IsViewTextTied n ranks totals i b (text_at (view_path_of n i) files)
 
 -- of each declaration from an index on
 abbrev pub AreViewsTied : Naming → List ℕ → List Bool → List PrintedFile → ℕ → List Declared
@@ -86,14 +95,14 @@ abbrev pub HasSchema : Naming → List ℕ → List PrintedFile → Type 0
 HasSchema n ranks files = IsTrue (has_tables n.declared.now)
     → IsSchemaTextTied n ranks (text_at (codes "src/verified.rt") files)
 
--- the file of each table's view, and the schema's value
+-- the file of each view, and the schema's value
 abbrev pub AreVerifiedTied : Naming → List PrintedFile → Type 0
 AreVerifiedTied n files =
     AreViewsTied n (ranks_of n.declared.now) (totals_of n.declared.now) files 0 n.declared.now
     × HasSchema n (ranks_of n.declared.now) files
 
--- Each declaration has its file, and where verified reading is printed, each table has that of its
--- view, and there is the schema's value.
+-- Each declaration has its file, and where verified reading is printed, each table and each union has
+-- that of its view, and there is the schema's value.
 pub record AreTied (verified : Bool) (n : Naming) (files : List PrintedFile) : Type 0 where
   pub declared : AreDeclaredTied n files 0 n.declared.now
   pub views : IsTrue verified → AreVerifiedTied n files

@@ -13,6 +13,7 @@ pub mod SchemaTies
 pub mod Shapes
 pub mod Structs
 pub mod Ties
+pub mod UnionViews
 pub mod Unions
 pub mod Views
 pub mod Wanted

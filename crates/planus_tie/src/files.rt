@@ -8,13 +8,14 @@ use crate::enums::is_enum_tied;
 use crate::flags::is_flags_tied;
 use crate::naming::Naming;
 use crate::pieces::push_str;
-use crate::ranks::{is_table, ranks_of, totals_of};
+use crate::ranks::{is_table, is_union_body, ranks_of, totals_of};
 use crate::schema::is_schema_tied;
 use crate::structs::is_struct_tied;
 use crate::tie::is_table_tied;
+use crate::union_views::is_union_view_tied;
 use crate::unions::is_union_tied;
 use crate::views::is_view_tied;
-use planus_schema::{Body, Declared, Table};
+use planus_schema::{Body, Declared};
 use std::alloc::{AllocError, Global};
 
 /// A file: its path in the crate's folder, and its text.
@@ -117,22 +118,47 @@ fn view_path_of(alloc: Global, naming: &Naming<'_>, index: usize) -> Result<Vec<
     Ok(out)
 }
 
+fn is_text_view_tied(
+    alloc: Global,
+    naming: &Naming<'_>,
+    ranks: &[usize],
+    totals: &[bool],
+    index: usize,
+    body: &Body,
+    text: &[u8],
+) -> Result<bool, AllocError>
+    ensures { IfOk result (λ b. IsTrue b → spec.IsTextViewTied naming.now ranks.now totals.now index
+        body.now text.now) }
+{
+    match body {
+        Body::Table(one) => is_view_tied(alloc, naming, ranks, totals, index, one, text),
+        Body::Union(one) => is_union_view_tied(alloc, naming, ranks, index, one, text),
+        _ => Ok(true),
+    }
+}
+
 fn is_view_text_tied(
     alloc: Global,
     naming: &Naming<'_>,
     ranks: &[usize],
     totals: &[bool],
     index: usize,
-    one: &Table,
+    body: &Body,
     text: Option<&[u8]>,
 ) -> Result<bool, AllocError>
     ensures { IfOk result (λ b. IsTrue b → spec.IsViewTextTied naming.now ranks.now totals.now index
-        one.now (option_copied text.entry)) }
+        body.now (option_copied text.entry)) }
 {
     match text {
-        Some(text) => is_view_tied(alloc, naming, ranks, totals, index, one, text),
+        Some(text) => is_text_view_tied(alloc, naming, ranks, totals, index, body, text),
         None => Ok(false),
     }
+}
+
+fn has_view(body: &Body) -> bool
+    ensures { result ≡ spec.has_view body.now }
+{
+    is_table(body) || is_union_body(body)
 }
 
 fn is_body_view_tied(
@@ -147,15 +173,15 @@ fn is_body_view_tied(
     ensures { IfOk result (λ b. IsTrue b → spec.IsBodyViewTied naming.now ranks.now totals.now
         files.now index body.now) }
 {
-    let Body::Table(one) = body else {
+    if !has_view(body) {
         return Ok(true);
-    };
+    }
     let path = view_path_of(alloc, naming, index)?;
     let text = text_at(files, &path);
-    is_view_text_tied(alloc, naming, ranks, totals, index, one, text)
+    is_view_text_tied(alloc, naming, ranks, totals, index, body, text)
 }
 
-/// Returns whether the file of each table's view is the table's.
+/// Returns whether the file of each view is the declaration's.
 fn are_views_tied(
     alloc: Global,
     naming: &Naming<'_>,
@@ -220,7 +246,8 @@ fn are_verified_tied(
 }
 
 /// Returns whether the file of each declaration is the declaration's, and where verified reading is
-/// printed, that of each table's view is the table's, and the schema's value is the schema's.
+/// printed, that of each view of a table or a union is the declaration's, and the schema's value is the
+/// schema's.
 pub fn are_tied(
     alloc: Global,
     naming: &Naming<'_>,

@@ -27,6 +27,7 @@ mod shares;
 mod spelling;
 mod structs;
 mod tie;
+mod union_views;
 mod unions;
 mod views;
 

@@ -12,7 +12,7 @@ pub(crate) fn is_table(body: &Body) -> bool
     matches!(body, Body::Table(_))
 }
 
-fn is_union_body(body: &Body) -> bool
+pub(crate) fn is_union_body(body: &Body) -> bool
     ensures { result ≡ spec.is_union_body body.now }
 {
     matches!(body, Body::Union(_))

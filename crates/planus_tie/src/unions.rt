@@ -25,7 +25,7 @@ const CHAINED_HEAD: &str = "#[tactic(auto, unfolding(crate::specs::$T::from_$p_o
      (slice_bytes buffer.entry) (slice_start buffer.entry) tag offset result } \
      { match tag {";
 
-fn holes_of(index: usize, place: usize, base: Base, tag: u8) -> Holes
+pub(crate) fn holes_of(index: usize, place: usize, base: Base, tag: u64) -> Holes
     ensures { result ≡ spec.holes_of index place base tag }
 {
     Holes {
@@ -34,7 +34,7 @@ fn holes_of(index: usize, place: usize, base: Base, tag: u8) -> Holes
         base,
         number: Number {
             negative: false,
-            magnitude: tag as u64,
+            magnitude: tag,
         },
         size: 0,
         alignment: 0,
@@ -49,7 +49,7 @@ fn union_holes(index: usize) -> Holes
     holes_of(index, 0, Base::Text, 0)
 }
 
-fn members_of(
+pub(crate) fn members_of(
     alloc: Global,
     index: usize,
     members: &[UnionMember],
@@ -59,7 +59,7 @@ fn members_of(
     let mut all = Vec::new(alloc);
     let mut place = 0;
     'members: for member in members {
-        all.push(holes_of(index, place, member.base, member.tag))?;
+        all.push(holes_of(index, place, member.base, member.tag as u64))?;
         place += 1;
     }
     Ok(all)
