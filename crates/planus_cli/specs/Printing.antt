@@ -167,7 +167,7 @@ SaysLine false ds name unsaid said = Appends unsaid said (crates_line ds name)
 pub record PrintsCrate (disk : Disk) (folder name : List ℕ) (check verified : Bool)
     (schema : Schema) (unsaid said : Option (List ℕ)) : Type 0 where
   pub files : List PrintedFile
-  pub are : IsPrinted verified schema.declarations.items files
+  pub are : IsPrinted verified schema files
   pub told : Option (List ℕ)
   pub prints : PrintsAll disk folder check files 0 0 unsaid told
   pub says : SaysLine check schema.declarations.items name told said

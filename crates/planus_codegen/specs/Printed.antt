@@ -1,6 +1,7 @@
 -- Printed code that is its schema's.
 use Rattle.std.specs.Prelude.{◌≡◌, Bool, true, List, length, map}
 use Rattle.planus_schema.specs.declared.schema.Declared.{Declared}
+use Rattle.planus_schema.specs.declared.schema.Schema.{Schema}
 use Rattle.planus_schema.specs.Names.{are_names, are_scopes}
 use Rattle.planus_schema.specs.Spelling.{all_member_names, names_in}
 use Rattle.planus_tie.specs.Files.{AreTied}
@@ -28,10 +29,11 @@ pub record IsNamingOf (ds : List Declared) (names : Names) (n : Naming) : Type 0
   pub members : n.members.now ≡ names.members.items
 
 -- With names that are fit, the files have the code of each declaration, and where verified reading
--- is printed, that of each table's verified view, and the schema as a value.
-pub record IsPrinted (verified : Bool) (ds : List Declared) (files : List PrintedFile) : Type 0 where
+-- is printed, that of each table's verified view, and the schema as a value; and the root and the file
+-- identifier, or none.
+pub record IsPrinted (verified : Bool) (schema : Schema) (files : List PrintedFile) : Type 0 where
   pub names : Names
   pub naming : Naming
-  pub fit : AreFit ds names
-  pub named : IsNamingOf ds names naming
-  pub tied : AreTied verified naming files
+  pub fit : AreFit schema.declarations.items names
+  pub named : IsNamingOf schema.declarations.items names naming
+  pub tied : AreTied verified schema.statements naming files

@@ -510,6 +510,7 @@ fn files_of(context: &Context<'_>) -> Result<Vec<PrintedFile>, AllocError> {
 /// They are read again before: each table has its accessors and its lines, its verified view has
 /// its accessors, both have the look-up by the table's key, and there is the schema as a value.
 /// Each enum has its numbers, each union its tags, each struct its layout, each set of flags its bits.
+/// There are the functions of the root and the file identifier, where the schema has them.
 /// [`Refusal::Unsupported`] where something in it has no form in code, [`Refusal::Untied`] where
 /// the printed code isn't the schema's.
 pub fn print_crate(
@@ -518,12 +519,18 @@ pub fn print_crate(
     name: &str,
     verified: bool,
 ) -> Result<Vec<PrintedFile>, Refusal>
-    ensures { IfOk result (λ files. IsPrinted verified schema.now.declarations.items files.items) }
+    ensures { IfOk result (λ files. IsPrinted verified schema.now files.items) }
 {
     refuse_unsupported(alloc, &schema.declarations)?;
     let context = Context::new(alloc, schema, name, verified)?;
     let files = files_of(&context)?;
-    if !are_tied(alloc, &context.naming(), &files, verified)? {
+    if !are_tied(
+        alloc,
+        &context.naming(),
+        &schema.statements,
+        &files,
+        verified,
+    )? {
         return Err(Refusal::Untied);
     }
     Ok(files)

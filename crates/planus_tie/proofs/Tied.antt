@@ -1,6 +1,6 @@
 -- Texts that pass their tests.
 use Rattle.std.proofs.Common.{◌≡◌, ℕ, Bool, IsTrue, List, sym, ap, subst, ◌∙◌}
-use Rattle.std.specs.Prelude.{Result, Ok, Err, IfOk}
+use Rattle.std.specs.Prelude.{Result, Ok, Err, IfOk, true, ◌&&◌}
 use Rattle.std.specs.Prelude.{Option}
 use Rattle.planus_schema.specs.declared.schema.Body.{Body}
 use Rattle.planus_schema.specs.declared.schema.Body.TheVariants as body
@@ -53,3 +53,8 @@ pub body_viewed : {E : Type 0} (n : Naming) (ranks : List ℕ) (totals : List Bo
 body_viewed n ranks totals files i b path found r p f h =
     let whole : found ≡ text_at (view_path_of n i) files = f ∙ ap (λ q. text_at q files) p in
     weakened r (λ v tied is has. subst (λ o. IsViewTextTied n ranks totals i b o) whole (tied is)) h
+
+-- after a test that is met comes another one
+pub then_tested : {E : Type 0} (r : Result Bool E) (first one other : Bool) → first ≡ one → IsTrue first → IfOk r (λ b. b ≡ other) → IfOk r (λ b. b ≡ (one && other))
+then_tested (Err e) first one other h t w = tt
+then_tested (Ok b) first one other h t w = w ∙ ap (λ a. a && other) (sym t ∙ h)

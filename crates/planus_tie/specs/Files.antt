@@ -1,17 +1,20 @@
 -- The files of a printed crate.
-use Rattle.std.specs.Prelude.{ℕ, ◌+◌, Bool, ◌||◌, IsTrue, ⊤, List, [], ◌∷◌, ◌++◌, fold, codes, Option, Some}
-use Rattle.std.specs.Prelude.{None, if◌then◌else◌}
+use Rattle.std.specs.Prelude.{◌≡◌, ℕ, ◌+◌, Bool, ◌||◌, IsTrue, ⊤, not, is_none, List, [], ◌∷◌, ◌++◌, fold}
+use Rattle.std.specs.Prelude.{codes, Option, Some, None, if◌then◌else◌}
 use Rattle.std.specs.Bool.{MatchBool}
 use Rattle.std.specs.List.{list_any}
+use Rattle.std.specs.Option.{option_map}
 use Rattle.std.specs.Str.{bytes_eq}
 use Rattle.std.specs.String.{string_bytes}
 use Rattle.planus_schema.specs.declared.schema.Body.{Body}
 use Rattle.planus_schema.specs.declared.schema.Body.TheVariants as body
 use Rattle.planus_schema.specs.declared.schema.Declared.{Declared}
+use Rattle.planus_schema.specs.declared.schema.Statements.{Statements}
 use Rattle.planus_schema.specs.declared.schema.Table.{Table}
 use Rattle.planus_tie.specs.Enums.{IsEnumTied}
 use Rattle.planus_tie.specs.Flags.{IsFlagsTied}
 use Rattle.planus_tie.specs.Ranks.{is_table, is_union_body, ranks_of, totals_of}
+use Rattle.planus_tie.specs.Roots.{IsRootTied, IsIdentifierTied}
 use Rattle.planus_tie.specs.SchemaTies.{IsSchemaTied}
 use Rattle.planus_tie.specs.Structs.{IsStructTied}
 use Rattle.planus_tie.specs.Ties.{IsTableTied}
@@ -101,8 +104,35 @@ AreVerifiedTied n files =
     AreViewsTied n (ranks_of n.declared.now) (totals_of n.declared.now) files 0 n.declared.now
     × HasSchema n (ranks_of n.declared.now) files
 
+-- the bytes of a file identifier, where there is one
+abbrev pub identifier_of : Statements → Option (List ℕ)
+identifier_of said = option_map (λ bytes. bytes.items) said.identifier
+
+abbrev pub has_identifier : Statements → Bool
+has_identifier said = not (is_none said.identifier)
+
+abbrev pub IsRootTextTied : Bool → Bool → Naming → ℕ → Option (List ℕ) → Type 0
+IsRootTextTied verified identified n i None = ⊥
+IsRootTextTied verified identified n i (Some text) = IsRootTied verified identified n i text
+
+-- The file of a root is there, and is the root's, or there is none.
+abbrev pub IsRootFileTied : Bool → Bool → Naming → Option ℕ → Option (List ℕ) → Type 0
+IsRootFileTied verified identified n None found = found ≡ None
+IsRootFileTied verified identified n (Some i) found = IsRootTextTied verified identified n i found
+
+-- The crate's own file is there, and has the constant of the identifier, or none.
+abbrev pub IsLibraryTied : Option (List ℕ) → Option (List ℕ) → Type 0
+IsLibraryTied identifier None = ⊥
+IsLibraryTied identifier (Some text) = IsIdentifierTied identifier text
+
 -- Each declaration has its file, and where verified reading is printed, each table and each union has
--- that of its view, and there is the schema's value.
-pub record AreTied (verified : Bool) (n : Naming) (files : List PrintedFile) : Type 0 where
-  pub declared : AreDeclaredTied n files 0 n.declared.now
-  pub views : IsTrue verified → AreVerifiedTied n files
+-- that of its view, and there is the schema's value. There are the root and the identifier of the
+-- last statements.
+pub record AreTied (verified : Bool) (said : Statements) (n : Naming) (files : List PrintedFile)
+    : Type 0
+  where
+    pub declared : AreDeclaredTied n files 0 n.declared.now
+    pub root : IsRootFileTied verified (has_identifier said) n said.root
+        (text_at (codes "src/root.rt") files)
+    pub library : IsLibraryTied (identifier_of said) (text_at (codes "src/lib.rt") files)
+    pub views : IsTrue verified → AreVerifiedTied n files

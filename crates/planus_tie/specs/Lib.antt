@@ -9,6 +9,7 @@ pub mod NameLists
 pub mod Plains
 pub mod Ranks
 pub mod Reading
+pub mod Roots
 pub mod SchemaTies
 pub mod Shapes
 pub mod Structs

@@ -1,6 +1,6 @@
 //! The files of a printed crate.
 
-ghost use Rattle.std.specs.Prelude.{◌≡◌, IfOk, IsTrue, None};
+ghost use Rattle.std.specs.Prelude.{◌≡◌, codes, IfOk, IsTrue, None};
 ghost use Rattle.std.specs.Option.{option_copied};
 ghost use Rattle.planus_tie.specs.Files as spec;
 
@@ -9,13 +9,14 @@ use crate::flags::is_flags_tied;
 use crate::naming::Naming;
 use crate::pieces::push_str;
 use crate::ranks::{is_table, is_union_body, ranks_of, totals_of};
+use crate::roots::{is_identifier_tied, is_root_tied};
 use crate::schema::is_schema_tied;
 use crate::structs::is_struct_tied;
 use crate::tie::is_table_tied;
 use crate::union_views::is_union_view_tied;
 use crate::unions::is_union_tied;
 use crate::views::is_view_tied;
-use planus_schema::{Body, Declared};
+use planus_schema::{Body, Declared, Statements};
 use std::alloc::{AllocError, Global};
 
 /// A file: its path in the crate's folder, and its text.
@@ -245,18 +246,102 @@ fn are_verified_tied(
     has_schema(alloc, naming, &ranks, files)
 }
 
-/// Returns whether the file of each declaration is the declaration's, and where verified reading is
-/// printed, that of each view of a table or a union is the declaration's, and the schema's value is the
-/// schema's.
-pub fn are_tied(
+fn identifier_of(said: &Statements) -> Option<&[u8]>
+    ensures { option_copied result ≡ spec.identifier_of said.now }
+{
+    match &said.identifier {
+        Some(identifier) => Some(identifier.as_slice()),
+        None => None,
+    }
+}
+
+fn is_root_text_tied(
     alloc: Global,
     naming: &Naming<'_>,
+    verified: bool,
+    identified: bool,
+    index: usize,
+    text: Option<&[u8]>,
+) -> Result<bool, AllocError>
+    ensures { IfOk result (λ b. IsTrue b → spec.IsRootTextTied verified identified naming.now index
+        (option_copied text.entry)) }
+{
+    match text {
+        Some(text) => is_root_tied(alloc, naming, verified, identified, index, text),
+        None => Ok(false),
+    }
+}
+
+fn is_root_file_tied(
+    alloc: Global,
+    naming: &Naming<'_>,
+    verified: bool,
+    identified: bool,
+    root: Option<usize>,
+    text: Option<&[u8]>,
+) -> Result<bool, AllocError>
+    ensures { IfOk result (λ b. IsTrue b → spec.IsRootFileTied verified identified naming.now root
+        (option_copied text.entry)) }
+{
+    match root {
+        Some(index) => is_root_text_tied(alloc, naming, verified, identified, index, text),
+        None => Ok(text.is_none()),
+    }
+}
+
+fn is_library_tied(
+    alloc: Global,
+    identifier: Option<&[u8]>,
+    text: Option<&[u8]>,
+) -> Result<bool, AllocError>
+    ensures { IfOk result (λ b. IsTrue b → spec.IsLibraryTied (option_copied identifier.entry)
+        (option_copied text.entry)) }
+{
+    match text {
+        Some(text) => is_identifier_tied(alloc, identifier, text),
+        None => Ok(false),
+    }
+}
+
+fn has_root(
+    alloc: Global,
+    naming: &Naming<'_>,
+    said: &Statements,
     files: &[PrintedFile],
     verified: bool,
 ) -> Result<bool, AllocError>
-    ensures { IfOk result (λ b. IsTrue b → spec.AreTied verified naming.now files.now) }
+    ensures { IfOk result (λ b. IsTrue b → spec.IsRootFileTied verified
+        (spec.has_identifier said.now) naming.now said.now.root
+        (spec.text_at (codes "src/root.rt") files.now)) }
+{
+    let identified = said.identifier.is_some();
+    let text = text_at(files, b"src/root.rt");
+    is_root_file_tied(alloc, naming, verified, identified, said.root, text)
+}
+
+fn has_library(alloc: Global, said: &Statements, files: &[PrintedFile]) -> Result<bool, AllocError>
+    ensures { IfOk result (λ b. IsTrue b → spec.IsLibraryTied (spec.identifier_of said.now)
+        (spec.text_at (codes "src/lib.rt") files.now)) }
+{
+    is_library_tied(alloc, identifier_of(said), text_at(files, b"src/lib.rt"))
+}
+
+/// Returns whether the file of each declaration is the declaration's, and where verified reading is
+/// printed, that of each view of a table or a union is the declaration's, and the schema's value is the
+/// schema's; and whether there are the root and the file identifier of the last statements, or none.
+pub fn are_tied(
+    alloc: Global,
+    naming: &Naming<'_>,
+    said: &Statements,
+    files: &[PrintedFile],
+    verified: bool,
+) -> Result<bool, AllocError>
+    ensures { IfOk result (λ b. IsTrue b → spec.AreTied verified said.now naming.now files.now) }
 {
     if !are_declared_tied(alloc, naming, files)? {
+        return Ok(false);
+    }
+    if !has_root(alloc, naming, said, files, verified)? || !has_library(alloc, said, files)? {
         return Ok(false);
     }
     if !verified {

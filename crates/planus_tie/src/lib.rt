@@ -1,6 +1,6 @@
 //! Printed text, read again: the accessors of tables and of their verified views, the look-up of both
-//! by a key, the lines of what is created, the schema's value, enums, unions, structs and flags are
-//! those that a schema wants.
+//! by a key, the lines of what is created, the schema's value, enums, unions, structs, flags, the root
+//! and the file identifier are those that a schema wants.
 #![tactic(auto)]
 
 mod bare;
@@ -21,6 +21,7 @@ mod pieces;
 mod plains;
 mod ranks;
 mod reading;
+mod roots;
 mod schema;
 mod shapes;
 mod shares;
