@@ -79,9 +79,9 @@ array_type item (Some count) = codes "[" ++ (item ++ (codes ";" ++ (decimal coun
 abbrev pub padding_text : ℕ → List ℕ
 padding_text bytes = if bytes == 0 then [] else codes "_:" ++ (decimal bytes ++ codes ",")
 
--- of the first field nothing but its name
+-- of a field at the start nothing but its name
 abbrev pub place_text : Naming → Holes → List ℕ
-place_text n h = if h.place == 0 then bracketed h.count (member_of n h.index h.place)
+place_text n h = if h.number.magnitude == 0 then bracketed h.count (member_of n h.index h.place)
     else member_of n h.index h.place ++ (codes ":" ++ bracketed h.count (integer_text h.number))
 
 -- of a struct's field `t` its type, `z` its size, `x` the padding after it, `w` its name and its

@@ -1,10 +1,12 @@
 pub mod Bare
 pub mod Constants
 pub mod Enums
+pub mod FieldTexts
 pub mod Files
 pub mod Flags
 pub mod Holes
 pub mod Keys
+pub mod LongStructs
 pub mod NameLists
 pub mod Plains
 pub mod Ranks

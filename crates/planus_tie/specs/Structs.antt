@@ -1,13 +1,15 @@
 -- The text of a struct.
-use Rattle.std.specs.Prelude.{◌≡◌, ℕ, ◌+◌, ◌-◌, ◌==◌, nat_lt, Bool, true, false, not, is_none, List, []}
-use Rattle.std.specs.Prelude.{◌∷◌, ◌++◌, codes, Option, None, if◌then◌else◌}
+use Rattle.std.specs.Prelude.{◌≡◌, ℕ, ◌+◌, ◌-◌, ◌==◌, nat_lt, Bool, true, false, List, [], ◌∷◌, ◌++◌}
+use Rattle.std.specs.Prelude.{None, if◌then◌else◌}
+use Rattle.std.specs.Bool.{MatchBool}
 use Rattle.planus_schema.specs.declared.schema.Base.TheVariants as base
 use Rattle.planus_schema.specs.declared.schema.Struct.{Struct}
 use Rattle.planus_schema.specs.declared.schema.StructField.{StructField}
 use Rattle.planus_tie.specs.Bare.{bare}
-use Rattle.planus_tie.specs.Holes.{filled, each, has_text}
+use Rattle.planus_tie.specs.FieldTexts.{fields_text, put_text, taken_text}
+use Rattle.planus_tie.specs.Holes.{has_text}
+use Rattle.planus_tie.specs.LongStructs.{AreInParts}
 use Rattle.planus_tie.specs.Plains.{layout_text, read_text}
-use Rattle.planus_tie.specs.Reading.{after, after_in}
 use Rattle.planus_tie.specs.declared.holes.Holes.{Holes}
 use Rattle.planus_tie.specs.declared.naming.Naming.{Naming}
 
@@ -47,20 +49,6 @@ fields_from i size place [] = []
 fields_from i size place (f ∷ fs) =
     field_holes i place (offset_of size fs) f ∷ fields_from i size (place + 1) fs
 
-abbrev pub fields_text : Naming → Holes → List Holes → List ℕ
-fields_text n own fields = filled n own (codes "pub struct $T {")
-    ++ (each n (codes "pub $n: $t,") fields ++ filled n own (codes "}"))
-
--- each field with its size, and the padding after it
-abbrev pub put_text : Naming → Holes → List Holes → List ℕ
-put_text n own fields = filled n own (codes "put_fields!(self, bytes;")
-    ++ (each n (codes "$n: $z, $x") fields ++ filled n own (codes ");"))
-
--- each field, and its offset but of the first
-abbrev pub taken_text : Naming → Holes → List Holes → List ℕ
-taken_text n own fields = filled n own (codes "read_fields!($T, buffer, offset;")
-    ++ (each n (codes "$w,") fields ++ filled n own (codes ") } }"))
-
 abbrev pub struct_text : Naming → Holes → List Holes → List ℕ
 struct_text n own fields = fields_text n own fields ++ (layout_text n own
     ++ (put_text n own fields ++ (read_text n own ++ taken_text n own fields)))
@@ -78,28 +66,12 @@ is_above room (h ∷ hs) = if nat_lt room (elements h) then true else is_above (
 abbrev pub is_long : List Holes → Bool
 is_long fields = is_above 12 fields
 
-abbrev pub field_mark : Naming → Holes → List ℕ
-field_mark n h = bare (filled n h (codes "$n: $z"))
+abbrev pub IsStructText : Naming → Holes → List Holes → List ℕ → Type 0
+IsStructText n own fields text = MatchBool (is_long fields) (AreInParts n own fields text)
+    (has_text text (struct_text n own fields) ≡ true)
 
--- what follows when each field was found with its size, in order
-abbrev pub behind_fields : Naming → List Holes → Option (List ℕ) → Option (List ℕ)
-behind_fields n [] text = text
-behind_fields n (h ∷ hs) text = behind_fields n hs (after_in (field_mark n h) text)
-
-abbrev pub head_text : Naming → Holes → List Holes → List ℕ
-head_text n own fields = fields_text n own fields ++ layout_text n own
-
--- its parts write each field
-abbrev pub is_long_text : Naming → Holes → List Holes → List ℕ → Bool
-is_long_text n own fields text =
-    not (is_none (behind_fields n fields (after (bare (head_text n own fields)) text)))
-
-abbrev pub is_struct_text : Naming → Holes → List Holes → List ℕ → Bool
-is_struct_text n own fields text = if is_long fields then is_long_text n own fields text
-    else has_text text (struct_text n own fields)
-
--- The text has each field, the size and the alignment. It writes the fields in order, and where they
--- are few reads each at its offset.
+-- The text has each field, the size and the alignment, and writes and reads each field at its offset,
+-- in one or in parts.
 abbrev pub IsStructTied : Naming → ℕ → Struct → List ℕ → Type 0
-IsStructTied n i one text = is_struct_text n (struct_holes i one)
-    (fields_from i one.size 0 one.fields.items) (bare text) ≡ true
+IsStructTied n i one text = IsStructText n (struct_holes i one)
+    (fields_from i one.size 0 one.fields.items) (bare text)

@@ -134,18 +134,18 @@ fn push_part(
     push_str(out, ",")
 }
 
-/// Returns the first of these lines, this many.
-pub(crate) fn front<'a, 'b>(lines: &'a [Line<'b>], count: usize) -> &'a [Line<'b>]
-    ensures { result.now ≡ take count lines.now }
+/// Returns the first of these items, this many.
+pub(crate) fn front<T>(items: &[T], count: usize) -> &[T]
+    ensures { result.now ≡ take count items.now }
 {
-    lines.split_at(count.min(lines.len())).0
+    items.split_at(count.min(items.len())).0
 }
 
-/// Returns the lines after these.
-pub(crate) fn back<'a, 'b>(lines: &'a [Line<'b>], count: usize) -> &'a [Line<'b>]
-    ensures { result.now ≡ drop count lines.now }
+/// Returns the items after these.
+pub(crate) fn back<T>(items: &[T], count: usize) -> &[T]
+    ensures { result.now ≡ drop count items.now }
 {
-    lines.split_at(count.min(lines.len())).1
+    items.split_at(count.min(items.len())).1
 }
 
 fn push_parts(

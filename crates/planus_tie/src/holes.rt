@@ -23,7 +23,7 @@ pub(crate) struct Holes {
     pub(crate) size: usize,
     pub(crate) alignment: usize,
     pub(crate) count: Option<usize>,
-    pub(crate) padding: usize,
+    pub(crate) padding: u64,
 }
 
 fn is_signed(base: Base) -> bool
@@ -170,14 +170,14 @@ fn push_array_type(out: &mut Vec<u8>, naming: &Naming<'_>, holes: Holes) -> Resu
     }
 }
 
-fn push_padding(out: &mut Vec<u8>, bytes: usize) -> Result<(), AllocError>
+fn push_padding(out: &mut Vec<u8>, bytes: u64) -> Result<(), AllocError>
     ensures { OnOk result (out.new.items ≡ out.old.items ++ spec.padding_text bytes) }
 {
     if bytes == 0 {
         return Ok(());
     }
     push_str(out, "_:")?;
-    push_number(out, bytes as u64)?;
+    push_number(out, bytes)?;
     push_str(out, ",")
 }
 
@@ -194,7 +194,7 @@ fn push_place(out: &mut Vec<u8>, naming: &Naming<'_>, holes: Holes) -> Result<()
     ensures { OnOk result (out.new.items ≡ out.old.items ++ spec.place_text naming.now holes) }
 {
     let name = naming.member_of(holes.index, holes.place);
-    if holes.place == 0 {
+    if holes.number.magnitude == 0 {
         return push_bracketed(out, holes.count, name);
     }
     out.extend_from_slice(name)?;

@@ -1,14 +1,14 @@
 //! Whether the text of a struct is its schema's.
 
-ghost use Rattle.std.specs.Prelude.{◌≡◌, ◌++◌, IfOk, OnOk, IsTrue};
-ghost use Rattle.std.specs.Option.{option_copied};
+ghost use Rattle.std.specs.Prelude.{◌≡◌, IfOk, IsTrue};
 ghost use Rattle.planus_tie.specs.Structs as spec;
 
 use crate::bare::bare;
-use crate::holes::{Holes, has_text, push_each, push_filled};
+use crate::field_texts::{push_fields, push_put, push_taken};
+use crate::holes::{Holes, has_text};
+use crate::long_structs::are_in_parts;
 use crate::naming::Naming;
 use crate::plains::{push_layout, push_read};
-use crate::reading::{after, after_in};
 use planus_schema::{Base, Number, Struct, StructField};
 use std::alloc::{AllocError, Global};
 
@@ -49,7 +49,7 @@ fn field_holes(index: usize, place: usize, next: usize, field: &StructField) -> 
         count: field.count,
         padding: next
             .saturating_sub(field.distance)
-            .saturating_sub(field.size),
+            .saturating_sub(field.size) as u64,
     }
 }
 
@@ -76,48 +76,6 @@ fn fields_of(alloc: Global, index: usize, one: &Struct) -> Result<Vec<Holes>, Al
         rest = after;
     }
     Ok(fields)
-}
-
-fn push_fields(
-    out: &mut Vec<u8>,
-    naming: &Naming<'_>,
-    own: Holes,
-    fields: &[Holes],
-) -> Result<(), AllocError>
-    ensures { OnOk result (out.new.items ≡ out.old.items
-        ++ spec.fields_text naming.now own fields.now) }
-{
-    push_filled(out, naming, own, "pub struct $T {")?;
-    push_each(out, naming, fields, "pub $n: $t,")?;
-    push_filled(out, naming, own, "}")
-}
-
-fn push_put(
-    out: &mut Vec<u8>,
-    naming: &Naming<'_>,
-    own: Holes,
-    fields: &[Holes],
-) -> Result<(), AllocError>
-    ensures { OnOk result (out.new.items ≡ out.old.items
-        ++ spec.put_text naming.now own fields.now) }
-{
-    push_filled(out, naming, own, "put_fields!(self, bytes;")?;
-    push_each(out, naming, fields, "$n: $z, $x")?;
-    push_filled(out, naming, own, ");")
-}
-
-fn push_taken(
-    out: &mut Vec<u8>,
-    naming: &Naming<'_>,
-    own: Holes,
-    fields: &[Holes],
-) -> Result<(), AllocError>
-    ensures { OnOk result (out.new.items ≡ out.old.items
-        ++ spec.taken_text naming.now own fields.now) }
-{
-    push_filled(out, naming, own, "read_fields!($T, buffer, offset;")?;
-    push_each(out, naming, fields, "$w,")?;
-    push_filled(out, naming, own, ") } }")
 }
 
 fn struct_text(
@@ -166,63 +124,6 @@ fn is_long(fields: &[Holes]) -> bool
     is_above(MOST_ELEMENTS, fields)
 }
 
-fn field_mark(alloc: Global, naming: &Naming<'_>, field: Holes) -> Result<Vec<u8>, AllocError>
-    ensures { IfOk result (λ mark. mark.items ≡ spec.field_mark naming.now field) }
-{
-    let mut out = Vec::new(alloc);
-    push_filled(&mut out, naming, field, "$n: $z")?;
-    bare(alloc, &out)
-}
-
-/// Returns what follows when each field was found with its size, in order.
-fn behind_fields<'a>(
-    alloc: Global,
-    naming: &Naming<'_>,
-    fields: &[Holes],
-    text: Option<&'a [u8]>,
-) -> Result<Option<&'a [u8]>, AllocError>
-    ensures { IfOk result (λ found. option_copied found
-        ≡ spec.behind_fields naming.now fields.now (option_copied text.entry)) }
-{
-    let mut found = text;
-    let mut rest = fields;
-    'fields: while let Some((field, next)) = rest.split_first() {
-        let mark = field_mark(alloc, naming, *field)?;
-        found = after_in(&mark, found);
-        rest = next;
-    }
-    Ok(found)
-}
-
-fn head_text(
-    alloc: Global,
-    naming: &Naming<'_>,
-    own: Holes,
-    fields: &[Holes],
-) -> Result<Vec<u8>, AllocError>
-    ensures { IfOk result (λ out. out.items ≡ spec.head_text naming.now own fields.now) }
-{
-    let mut out = Vec::new(alloc);
-    push_fields(&mut out, naming, own, fields)?;
-    push_layout(&mut out, naming, own)?;
-    Ok(out)
-}
-
-fn is_long_text(
-    alloc: Global,
-    naming: &Naming<'_>,
-    own: Holes,
-    fields: &[Holes],
-    text: &[u8],
-) -> Result<bool, AllocError>
-    ensures { IfOk result (λ b. b ≡ spec.is_long_text naming.now own fields.now text.now) }
-{
-    let head = head_text(alloc, naming, own, fields)?;
-    let head = bare(alloc, &head)?;
-    let found = behind_fields(alloc, naming, fields, after(&head, text))?;
-    Ok(found.is_some())
-}
-
 fn is_struct_text(
     alloc: Global,
     naming: &Naming<'_>,
@@ -230,10 +131,11 @@ fn is_struct_text(
     fields: &[Holes],
     text: &[u8],
 ) -> Result<bool, AllocError>
-    ensures { IfOk result (λ b. b ≡ spec.is_struct_text naming.now own fields.now text.now) }
+    ensures { IfOk result (λ b. IsTrue b
+        → spec.IsStructText naming.now own fields.now text.now) }
 {
     if is_long(fields) {
-        return is_long_text(alloc, naming, own, fields, text);
+        return are_in_parts(alloc, naming, own, fields, text);
     }
     let wanted = struct_text(alloc, naming, own, fields)?;
     has_text(alloc, text, &wanted)

@@ -1,5 +1,5 @@
 use Rattle.planus_tie.proofs.Parts.{then_added}
-use Rattle.planus_tie.proofs.structs.push_put.Goals as goal
+use Rattle.planus_tie.proofs.field_texts.push_fields.Goals as goal
 
 pub returns : goal.returns
 returns c = then_added c.push_filled-2.result c.args.out.now.items c.push_filled.new.out.items
