@@ -4,8 +4,8 @@
     random_printed.py PROGRAM [COUNT [SEED]]
 
 Each of COUNT schemas (2000, if none is given) has enums, flags, structs with arrays and of up to 30
-fields, unions of tables, structs and strings, and tables with fields of each kind, defaults and attributes, under names that code
-spells otherwise, in up to three namespaces. Each must be printed; the program reads what it prints
+fields, unions of tables, structs and strings, and tables with fields of each kind, defaults and
+attributes, under names that code spells otherwise, in up to three namespaces. Each must be printed; the program reads what it prints
 again, and refuses code that isn't the schema's. The schemas are the same in each run.
 """
 
@@ -26,7 +26,8 @@ FLOATS = ["0.0", "-0.0", "1.5", "-2.25e3", ".5", "3.", "1e-7", "0x1.8p1", "inf",
 # Words of Rust, of clauses, and of what is printed, and other spellings.
 WORDS = ["type", "match", "self", "ref", "open", "table", "value", "result", "number", "bits", "lines",
          "HPMax", "x1y", "camelCase", "snake_case", "B", "builder", "fields", "create", "read", "new",
-         "checked", "verify", "kind", "schema", "name", "text", "offset", "buffer", "given", "a_1"]
+         "checked", "verify", "kind", "schema", "name", "text", "offset", "buffer", "given", "a_1", "this",
+         "other"]
 
 class Schema:
     def __init__(self, chance):
