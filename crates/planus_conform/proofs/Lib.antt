@@ -4,3 +4,5 @@ pub mod Witnesses
 pub mod AsRead
 pub mod NoBreaks
 pub mod OtherTypes
+pub mod EnumNumbers
+pub mod EnumValues

@@ -46,11 +46,11 @@ use Rattle.planus_conform.specs.NoBreaks.{has_fields, is_filled, UnchangedBreaks
 
 -- ---- tests
 
-and_false_left : (a b : Bool) → a ≡ false → (a && b) ≡ false
+pub and_false_left : (a b : Bool) → a ≡ false → (a && b) ≡ false
 and_false_left true b e = absurd cc
 and_false_left false b e = refl
 
-and_false_right : (a b : Bool) → b ≡ false → (a && b) ≡ false
+pub and_false_right : (a b : Bool) → b ≡ false → (a && b) ≡ false
 and_false_right true b e = e
 and_false_right false b e = refl
 
@@ -58,7 +58,7 @@ or_false : (a b : Bool) → a ≡ false → b ≡ false → (a || b) ≡ false
 or_false true b e f = absurd cc
 or_false false b e f = f
 
-or_none : (a b : Bool) → (a || b) ≡ false → (a ≡ false) × (b ≡ false)
+pub or_none : (a b : Bool) → (a || b) ≡ false → (a ≡ false) × (b ≡ false)
 or_none true b e = absurd cc
 or_none false b e = (refl, e)
 
@@ -82,7 +82,7 @@ joined xs ys e f = ap (λ zs. zs ++ ys) e ∙ f
 
 -- ---- members of lists
 
-abbrev IsIn : {A : Type 0} → A → List A → Type 0
+abbrev pub IsIn : {A : Type 0} → A → List A → Type 0
 IsIn x [] = ⊥
 IsIn x (y ∷ ys) = (x ≡ y) ⊎ IsIn x ys
 
@@ -91,7 +91,7 @@ contains [] x i = absurd i
 contains (y ∷ ys) x (inl e) = (0, omega arith, sym e)
 contains (y ∷ ys) x (inr i) = let more = contains ys x i in (suc more.0, omega (arith, more.1), more.2)
 
-contained : {A : Type 0} (xs : List A) (x : A) → Contains xs x → IsIn x xs
+pub contained : {A : Type 0} (xs : List A) (x : A) → Contains xs x → IsIn x xs
 contained [] x (k, l, e) = absurd (omega (arith, l))
 contained (y ∷ ys) x (zero, l, e) = inl (sym e)
 contained (y ∷ ys) x (suc k, l, e) = inr (contained ys x (k, omega (arith, l), e))
@@ -110,7 +110,7 @@ module _ {A : Type 0} (name : A → List ℕ) (test : A → A → Bool)
   not_first x (y ∷ ys) a f (inl e) = subst (λ z. bytes_eq (name x) (name z) ≡ false) (sym e) a.0
   not_first x (y ∷ ys) a f (inr i) = not_first x ys a.1 f i
 
-  none_moved : (xs : List A) → IsDistinct bytes_eq (map name xs) → (f : A) → IsIn f xs → list_any (λ g. test g f) xs ≡ false
+  pub none_moved : (xs : List A) → IsDistinct bytes_eq (map name xs) → (f : A) → IsIn f xs → list_any (λ g. test g f) xs ≡ false
   unfolding IsDistinct
   none_moved [] d f i = refl
   none_moved (x ∷ xs) d f (inl e) =

@@ -8,5 +8,6 @@ pub mod Defaults
 pub mod Breaks
 pub mod Conforms
 pub mod Witnesses
+pub mod EnumWitnesses
 pub mod AsRead
 pub mod NoBreaks

@@ -4,6 +4,7 @@ ghost use Rattle.std.specs.Prelude.{ℕ, List, Option};
 ghost use Rattle.planus_schema.specs.declared.schema.Declared as declared;
 ghost use Rattle.planus_conform.specs.declared.breaks.Way as ways;
 ghost use Rattle.planus_conform.specs.Witnesses.{ChangesShow, TypesShow};
+ghost use Rattle.planus_conform.specs.EnumWitnesses.{ValuesShow, RemovedShow, AddedShow};
 ghost use Rattle.planus_conform.specs.AsRead.{TextsAreFound, TablesAreFound};
 ghost use Rattle.planus_conform.specs.NoBreaks.{UnchangedBreaksNothing, AddedFieldsBreakNothing};
 
@@ -19,6 +20,16 @@ pub fn changes_have_witnesses()
 /// Each two scalar types read eight bytes differently, as the item of a vector.
 pub fn types_have_witnesses()
     ensures { (way : ways.Way) (old new : List declared.Declared) → TypesShow way old new }
+{}
+
+/// Of the bytes of an enum's value that is removed or has another number old code returns the value;
+/// new code fails, or returns a value of another name. A number that one schema's code alone knows is
+/// not read alike.
+pub fn values_have_witnesses()
+    ensures values { (way : ways.Way) (old new : List declared.Declared) → ValuesShow way old new }
+    ensures removed { (way : ways.Way) (old new : List declared.Declared)
+        → RemovedShow way old new }
+    ensures added { (way : ways.Way) (old new : List declared.Declared) → AddedShow way old new }
 {}
 
 /// The accessor of a string that may be absent returns what is said to be found.
