@@ -28,7 +28,7 @@ use Rattle.planus_schema.specs.declared.schema.TableField.{TableField}
 use Rattle.planus_schema.specs.declared.schema.Union.{Union}
 use Rattle.planus_schema.specs.declared.schema.UnionMember.{UnionMember}
 use Rattle.planus_schema.specs.Numbers.{scalar_size}
-use Rattle.planus_resolve.specs.Defaults.{ValueV}
+use Rattle.planus_conform.specs.Floats.{DefaultV}
 use Rattle.planus_conform.specs.declared.breaks.Break.{Break}
 use Rattle.planus_conform.specs.declared.breaks.Change.{Change}
 use Rattle.planus_conform.specs.declared.breaks.Change.TheVariants as change
@@ -42,10 +42,10 @@ use Rattle.planus_conform.specs.Reads.{absent_found, is_nothing, given, default_
 use Rattle.planus_conform.specs.Matching.{match_at, is_index, Matches}
 use Rattle.planus_conform.specs.Alike.{Same, is_left_out, is_missing, is_withdrawn, is_unopened, is_number_read, is_newer, is_given_up, is_excused, is_excused_within, SameAnswers, ReadAlike, is_identified, PassAlike}
 use Rattle.planus_conform.specs.Types.{scalar_code, are_matched, same_base, same_count, same_part, same_truth, same_type}
-use Rattle.planus_conform.specs.Defaults.{same_number, same_value, same_default}
+use Rattle.planus_conform.specs.Defaults.{same_number, same_given, same_default}
 use Rattle.planus_conform.specs.Breaks.{meets_old, meets_new, noted, change_if, is_moved, may_require, same_nested, kept_change, change_from, field_change, field_breaks, is_part_moved, part_change_to, part_change, part_breaks, struct_breaks, has_number, is_value_moved, value_change, value_breaks, added_values, enum_change, enum_breaks, is_member_moved, member_change_to, member_change, member_breaks, is_member, added_members, union_breaks, breaks_to, body_breaks, body_if, declared_breaks, breaks_from, root_change, identifier_change, breaks_by}
 use Rattle.planus_conform.specs.Conforms.{names_stay, ConformBy}
-use Rattle.planus_conform.proofs.Parts.{both_true, both_nothing, same_truths, same_counts, same_values, same_scalars, same_bytes, same_numbers, no_change, no_enum_change, none_if, none_if_not, and_true, or_right, or_left, true_or_false}
+use Rattle.planus_conform.proofs.Parts.{both_true, both_nothing, same_truths, same_counts, same_givens, same_scalars, same_bytes, same_numbers, no_change, no_enum_change, none_if, none_if_not, and_true, or_right, or_left, true_or_false}
 
 module _ (w : Way) (m : List (Option ℕ)) (old new : List Declared) where
   abbrev SimTable : ℕ → Seen → Found → Type 0
@@ -299,13 +299,13 @@ module _ (w : Way) (m : List (Option ℕ)) (old new : List Declared) where
   choose_near false true e a b c d x y = absurd cc
   choose_near false false e a b c d x y = y
 
-  default_sim : (p q : Bool) (v u : ValueV) → (if p || q then p && q else same_value v u) ≡ true → Sim (if p then absent else default v) (if q then absent else default u)
+  default_sim : (p q : Bool) (v u : DefaultV) → (if p || q then p && q else same_given v u) ≡ true → Sim (if p then absent else default v) (if q then absent else default u)
   default_sim true true v u e = refl
   default_sim true false v u e = absurd cc
   default_sim false true v u e = absurd cc
-  default_sim false false v u e = ap default (same_values v u e)
+  default_sim false false v u e = ap default (same_givens v u e)
 
-  left_out : (p : Bool) (v : ValueV) → is_left_out (if p then absent else default v) ≡ true
+  left_out : (p : Bool) (v : DefaultV) → is_left_out (if p then absent else default v) ≡ true
   left_out true v = refl
   left_out false v = refl
 
@@ -336,8 +336,8 @@ module _ (w : Way) (m : List (Option ℕ)) (old new : List Declared) where
   absent_near : (f g : TableField) → may_require w f.required g.required ≡ true → (f.required || g.required || same_default f g) ≡ true → Near (absent_found f) (absent_found g)
   absent_near f g e k =
       require_near f.required g.required (same_default f g) e k (default_found f.kind (default_of f)) (default_found g.kind (default_of g))
-      (left_out (is_nothing f.kind (default_of f)) (given (default_of f))) (left_out (is_nothing g.kind (default_of g)) (given (default_of g)))
-      (λ d. default_sim (is_nothing f.kind (default_of f)) (is_nothing g.kind (default_of g)) (given (default_of f)) (given (default_of g)) d)
+      (left_out (is_nothing f.kind (default_of f)) (given f.kind.base (default_of f))) (left_out (is_nothing g.kind (default_of g)) (given g.kind.base (default_of g)))
+      (λ d. default_sim (is_nothing f.kind (default_of f)) (is_nothing g.kind (default_of g)) (given f.kind.base (default_of f)) (given g.kind.base (default_of g)) d)
 
   -- ---- fields that both schemas' code reads
 
@@ -557,14 +557,14 @@ module _ (w : Way) (m : List (Option ℕ)) (old new : List Declared) where
   choose_there true x y e g = e
   choose_there false x y e g = g
 
-  default_there : (p : Bool) (v : ValueV) → is_missing (if p then absent else default v) ≡ false
+  default_there : (p : Bool) (v : DefaultV) → is_missing (if p then absent else default v) ≡ false
   default_there true v = refl
   default_there false v = refl
 
   absent_there : (f : TableField) → Needed f.required (absent_found f)
   absent_there f e =
       subst (λ b. is_missing (if b then missing else default_found f.kind (default_of f)) ≡ false) (sym e)
-      (default_there (is_nothing f.kind (default_of f)) (given (default_of f)))
+      (default_there (is_nothing f.kind (default_of f)) (given f.kind.base (default_of f)))
 
   placed_there : (f : TableField) (seen : Seen) → Needed f.required (placed_found old f seen)
   placed_there f seen e =

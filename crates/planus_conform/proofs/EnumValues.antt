@@ -12,19 +12,19 @@ use Rattle.planus_schema.specs.declared.schema.Declared.{Declared}
 use Rattle.planus_schema.specs.declared.schema.Enum.{Enum}
 use Rattle.planus_schema.specs.declared.schema.EnumValue.{EnumValue}
 use Rattle.planus_schema.specs.Numbers.{scalar_size, fits}
-use Rattle.planus_resolve.specs.Enums.{IsEnum, number_of_value, same_number as same_of}
+use Rattle.planus_resolve.specs.Enums.{number_of_value, same_number as same_of}
 use Rattle.planus_conform.specs.declared.breaks.Change.{Change}
 use Rattle.planus_conform.specs.declared.breaks.Change.TheVariants as change
 use Rattle.planus_conform.specs.declared.breaks.Way.{Way}
 use Rattle.planus_conform.specs.declared.breaks.Way.TheVariants as way
 use Rattle.planus_conform.specs.Found.{Found, known, stranger, item, items}
-use Rattle.planus_conform.specs.Values.{body_at, enum_in, width_of, is_value, is_known, number_found, enum_found, stride}
+use Rattle.planus_conform.specs.Values.{body_at, enum_in, is_value, is_known, number_found, enum_found, stride}
 use Rattle.planus_conform.specs.Reads.{answer}
 use Rattle.planus_conform.specs.Alike.{Same, is_excused, SameAnswers}
 use Rattle.planus_conform.specs.Types.{scalar_code, same_truth}
 use Rattle.planus_conform.specs.Defaults.{same_number}
 use Rattle.planus_conform.specs.Breaks.{meets_old, meets_new, change_if, has_number, is_value_moved, value_change}
-use Rattle.planus_conform.specs.EnumWitnesses.{bytes_of, one_number, name_in, name_found, name_read, AreEnums, IsReadAway, ValuesShow, RemovedShow, AddedShow}
+use Rattle.planus_conform.specs.EnumWitnesses.{bytes_of, one_number, name_in, name_found, name_read, AreEnums, ValuesShow, RemovedShow, AddedShow}
 use Rattle.planus_conform.proofs.Parts.{both_true, and_true, not_true, or_right, same_truths, same_scalars, number_is_same, no_enum_change}
 use Rattle.planus_conform.proofs.NoBreaks.{IsIn, contained, none_moved, and_false_left, and_false_right, or_none}
 use Rattle.planus_conform.proofs.EnumNumbers.{is_number_of, own_bits, bits_read}

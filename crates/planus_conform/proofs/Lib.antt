@@ -6,3 +6,4 @@ pub mod NoBreaks
 pub mod OtherTypes
 pub mod EnumNumbers
 pub mod EnumValues
+pub mod FloatBits

@@ -39,9 +39,9 @@ use Rattle.planus_conform.specs.Values.{body_of, member_in}
 use Rattle.planus_conform.specs.Reads.{is_nothing, given, default_of, field_in, part_in}
 use Rattle.planus_conform.specs.Matching.{named, matches_of, match_in, match_at, is_index}
 use Rattle.planus_conform.specs.Types.{scalar_code, are_matched, same_base, same_count, same_truth, same_type}
-use Rattle.planus_conform.specs.Defaults.{same_number, same_value, same_default}
+use Rattle.planus_conform.specs.Defaults.{same_number, same_given, same_default}
 use Rattle.planus_conform.specs.Breaks.{meets_old, meets_new, noted, change_if, is_moved, may_require, same_nested, kept_change, change_from, field_change, field_breaks, is_part_moved, part_change_to, part_change, part_breaks, has_number, is_value_moved, value_change, value_breaks, added_values, enum_change, is_member_moved, member_change_to, member_change, member_breaks, is_member, added_members, breaks_to, body_breaks, body_if, declared_breaks, breaks_from, root_change, identifier_change}
-use Rattle.planus_conform.proofs.Parts.{both_true, not_true, and_true, or_right, truth_is_same, number_is_same, value_is_same, count_is_same}
+use Rattle.planus_conform.proofs.Parts.{both_true, not_true, and_true, or_right, truth_is_same, number_is_same, given_is_same, count_is_same}
 use Rattle.planus_conform.specs.NoBreaks.{has_fields, is_filled, UnchangedBreaksNothing, GrowsTo, GrowAllTo, AddedFieldsBreakNothing}
 
 -- ---- tests
@@ -379,9 +379,9 @@ requires_alike way.Forward false = refl
 default_is_same : (f : TableField) → same_default f f ≡ true
 default_is_same f = by_test (is_nothing f.kind (default_of f))
   where
-    by_test : (p : Bool) → (if p || p then p && p else same_value (given (default_of f)) (given (default_of f))) ≡ true
+    by_test : (p : Bool) → (if p || p then p && p else same_given (given f.kind.base (default_of f)) (given f.kind.base (default_of f))) ≡ true
     by_test true = refl
-    by_test false = value_is_same (given (default_of f))
+    by_test false = given_is_same (given f.kind.base (default_of f))
 
 default_kept : (r : Bool) (f : TableField) → (r || r || same_default f f) ≡ true
 default_kept true f = refl

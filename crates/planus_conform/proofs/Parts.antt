@@ -8,8 +8,9 @@ use Rattle.planus_schema.specs.declared.number.Number.{Number}
 use Rattle.planus_schema.specs.declared.scalar.Scalar.{Scalar}
 use Rattle.planus_schema.specs.declared.scalar.Scalar.TheVariants as scalar
 use Rattle.planus_resolve.specs.Defaults.{ValueV, absent as nothing, integer, float, text, empty}
+use Rattle.planus_conform.specs.Floats.{DefaultV, written, float_of}
 use Rattle.planus_conform.specs.Types.{scalar_code, same_count, same_truth}
-use Rattle.planus_conform.specs.Defaults.{same_number, same_value}
+use Rattle.planus_conform.specs.Defaults.{same_number, same_value, same_given}
 use Rattle.planus_conform.specs.Breaks.{change_if}
 use Rattle.planus_conform.specs.declared.breaks.Change.{Change}
 
@@ -64,6 +65,11 @@ same_values (float a) (float b) e = ap float (same_bytes a b e)
 same_values (text a) (text b) e = ap text (same_bytes a b e)
 same_values empty empty e = refl
 same_values v w e = absurd cc
+
+pub same_givens : (v w : DefaultV) → same_given v w ≡ true → v ≡ w
+same_givens (written v) (written w) e = ap written (same_values v w e)
+same_givens (float_of a) (float_of b) e = ap float_of (eqb-true a b e)
+same_givens v w e = absurd cc
 
 decoded : ℕ → Scalar
 decoded n =
@@ -143,3 +149,7 @@ value_is_same (integer n) = number_is_same n
 value_is_same (float w) = (bytes_eq-Decides w w).1 refl
 value_is_same (text w) = (bytes_eq-Decides w w).1 refl
 value_is_same empty = refl
+
+pub given_is_same : (v : DefaultV) → same_given v v ≡ true
+given_is_same (written v) = value_is_same v
+given_is_same (float_of n) = eq-eqb n n refl

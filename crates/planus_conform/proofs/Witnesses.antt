@@ -8,20 +8,21 @@ use Rattle.planus_schema.specs.declared.schema.Base.{Base}
 use Rattle.planus_schema.specs.declared.schema.Base.TheVariants as base
 use Rattle.planus_schema.specs.declared.schema.Declared.{Declared}
 use Rattle.planus_schema.specs.declared.schema.TableField.{TableField}
-use Rattle.planus_resolve.specs.Defaults.{ValueV, empty}
+use Rattle.planus_resolve.specs.Defaults.{empty}
 use Rattle.planus_conform.specs.declared.breaks.Change.{Change}
 use Rattle.planus_conform.specs.declared.breaks.Change.TheVariants as change
 use Rattle.planus_conform.specs.declared.breaks.Way.{Way}
 use Rattle.planus_conform.specs.declared.breaks.Way.TheVariants as way
+use Rattle.planus_conform.specs.Floats.{DefaultV, written}
 use Rattle.planus_conform.specs.Found.{field, Found, unknown, withdrawn, absent, missing, default, table}
 use Rattle.planus_conform.specs.Values.{body_at, fields_in, table_found}
 use Rattle.planus_conform.specs.Reads.{is_nothing, given, default_found, default_of, absent_found, field_in, placed_found, one_union_found, unions_found, found_by, found_if, called}
 use Rattle.planus_conform.specs.Alike.{Same, is_left_out, is_missing, is_excused, SameAnswers}
 use Rattle.planus_conform.specs.Types.{same_type}
-use Rattle.planus_conform.specs.Defaults.{same_value, same_default}
+use Rattle.planus_conform.specs.Defaults.{same_given, same_default}
 use Rattle.planus_conform.specs.Breaks.{meets_new, change_if, may_require, same_nested, kept_change, change_from}
 use Rattle.planus_conform.specs.Witnesses.{empty_table, shows_absent, ChangesShow}
-use Rattle.planus_conform.proofs.Parts.{value_is_same}
+use Rattle.planus_conform.proofs.Parts.{given_is_same}
 
 abbrev seen : Seen
 seen = record { object = 4 ∷ 0 ∷ 0 ∷ 0 ∷ []; slots = [] }
@@ -58,27 +59,27 @@ once w old new i j n (inl e) =
     inl (subst (λ b. (b || is_excused w (called old (table i seen) (field n)) (called new (table j seen) (field n))) ≡ true) (tables_not_excused w i j) e)
 once w old new i j n (inr s) = inr s
 
-abbrev given_in : Found → ValueV
+abbrev given_in : Found → DefaultV
 given_in (default v) = v
-given_in x = empty
+given_in x = written empty
 
 -- ---- absent fields
 
-default_shows : (p q : Bool) (v w : ValueV) → (if p || q then p && q else same_value v w) ≡ false → Same (if p then absent else default v) (if q then absent else default w) → ⊥
+default_shows : (p q : Bool) (v w : DefaultV) → (if p || q then p && q else same_given v w) ≡ false → Same (if p then absent else default v) (if q then absent else default w) → ⊥
 default_shows true true v w e s = absurd cc
 default_shows true false v w e s = absurd cc
 default_shows false true v w e s = absurd cc
 default_shows false false v w e s =
     let same : v ≡ w = ap given_in s in
-    let is : same_value v w ≡ true = subst (λ u. same_value v u ≡ true) same (value_is_same v) in
+    let is : same_given v w ≡ true = subst (λ u. same_given v u ≡ true) same (given_is_same v) in
     absurd cc
 
-left_out : (p : Bool) (v : ValueV) → is_left_out (if p then absent else default v) ≡ true
+left_out : (p : Bool) (v : DefaultV) → is_left_out (if p then absent else default v) ≡ true
 left_out true v = refl
 left_out false v = refl
 
 default_left : (f : TableField) → is_left_out (default_found f.kind (default_of f)) ≡ true
-default_left f = left_out (is_nothing f.kind (default_of f)) (given (default_of f))
+default_left f = left_out (is_nothing f.kind (default_of f)) (given f.kind.base (default_of f))
 
 unknown_not_excused : (w : Way) (x : Found) → (is_missing x ≡ true) ⊎ (is_left_out x ≡ true) → is_excused w x unknown ≡ false
 unknown_not_excused way.Both x k = refl
@@ -176,7 +177,7 @@ defaults_show w f g d false true e k a = absurd cc
 defaults_show w f g d false false e k (inl a) =
     let no = left_not_excused w _ _ (default_left f) (default_left g) in absurd cc
 defaults_show w f g d false false e k (inr a) =
-    default_shows (is_nothing f.kind (default_of f)) (is_nothing g.kind (default_of g)) (given (default_of f)) (given (default_of g)) d a
+    default_shows (is_nothing f.kind (default_of f)) (is_nothing g.kind (default_of g)) (given f.kind.base (default_of f)) (given g.kind.base (default_of g)) d a
 
 abbrev absent_if : Option TableField → Found
 absent_if None = unknown

@@ -2,7 +2,7 @@
 use Rattle.std.specs.Prelude.{ℕ, List}
 use Rattle.planus_dump.specs.Answers.{Seen, SeenItems, SeenUnions}
 use Rattle.planus_schema.specs.declared.schema.Base.{Base}
-use Rattle.planus_resolve.specs.Defaults.{ValueV}
+use Rattle.planus_conform.specs.Floats.{DefaultV}
 
 -- A call of an accessor: of a table's field by its slot, of a struct's field by its distance, of an
 -- item of a vector or an array, or of the root of the buffer that is in the byte vector of a slot.
@@ -25,7 +25,7 @@ pub data Found : Type 0 where
   unopened : Found
   absent : Found
   missing : Found
-  default : ValueV → Found
+  default : DefaultV → Found
   shown : List ℕ → Found
   bits : ℕ → Found
   known : ℕ → Found

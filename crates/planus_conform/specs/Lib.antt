@@ -1,3 +1,4 @@
+pub mod Floats
 pub mod Found
 pub mod Values
 pub mod Reads

@@ -19,6 +19,7 @@ use Rattle.planus_schema.specs.Numbers.{zero_number}
 use Rattle.planus_resolve.specs.Defaults.{ValueV, absent as nothing, integer, float, text, empty}
 use Rattle.planus_resolve.specs.Defaults.{value_of}
 use Rattle.planus_resolve.specs.Tables.{is_number}
+use Rattle.planus_conform.specs.Floats.{DefaultV, written, default_as}
 use Rattle.planus_conform.specs.Found.{Call, field, part, item, buffer, Found, unknown, withdrawn}
 use Rattle.planus_conform.specs.Found.{unopened}
 use Rattle.planus_conform.specs.Found.{absent, missing, default, fault, table, structure, member}
@@ -38,12 +39,12 @@ is_nothing t (Some (text w)) = false
 is_nothing t (Some empty) = false
 
 -- a number has the default 0
-abbrev pub given : Option ValueV → ValueV
-given None = integer zero_number
-given (Some v) = v
+abbrev pub given : Base → Option ValueV → DefaultV
+given b None = written (integer zero_number)
+given b (Some v) = default_as b v
 
 abbrev pub default_found : FieldType → Option ValueV → Found
-default_found t v = if is_nothing t v then absent else default (given v)
+default_found t v = if is_nothing t v then absent else default (given t.base v)
 
 abbrev pub default_of : TableField → Option ValueV
 default_of f = option_map value_of f.default

@@ -7,7 +7,9 @@ ghost use Rattle.planus_resolve.specs.Defaults.{value_of};
 ghost use Rattle.planus_resolve.specs.Tables as tables_spec;
 ghost use Rattle.planus_conform.specs.Reads as reads_spec;
 ghost use Rattle.planus_conform.specs.Defaults as spec;
+ghost use Rattle.planus_conform.specs.Floats as floats_spec;
 
+use crate::floats::float_bits;
 use crate::types::same_truth;
 use planus_schema::{Base, FieldType, Number, TableField, Value};
 
@@ -59,15 +61,36 @@ fn same_value(a: &Value, b: &Value) -> bool
     }
 }
 
-fn same_given(a: &Option<Value>, b: &Option<Value>) -> bool
-    ensures { result ≡ spec.same_value (reads_spec.given (option_map value_of a.now))
-        (reads_spec.given (option_map value_of b.now)) }
+/// Returns the bits of a default of this type, if it is a float and not hexadecimal.
+fn value_bits(base: Base, value: &Value) -> Option<u64>
+    ensures { result ≡ floats_spec.value_bits base (value_of value.now) }
+{
+    match value {
+        Value::Float(text) => float_bits(base, text),
+        _ => None,
+    }
+}
+
+fn same_written(f: Base, g: Base, a: &Value, b: &Value) -> bool
+    ensures { result ≡ spec.same_given (floats_spec.default_as f (value_of a.now))
+        (floats_spec.default_as g (value_of b.now)) }
+{
+    match (value_bits(f, a), value_bits(g, b)) {
+        (Some(a), Some(b)) => a == b,
+        (None, None) => same_value(a, b),
+        _ => false,
+    }
+}
+
+fn same_given(f: Base, g: Base, a: &Option<Value>, b: &Option<Value>) -> bool
+    ensures { result ≡ spec.same_given (reads_spec.given f (option_map value_of a.now))
+        (reads_spec.given g (option_map value_of b.now)) }
 {
     let zero = Value::Integer(zero());
     match (a, b) {
-        (Some(a), Some(b)) => same_value(a, b),
-        (Some(a), None) => same_value(a, &zero),
-        (None, Some(b)) => same_value(&zero, b),
+        (Some(a), Some(b)) => same_written(f, g, a, b),
+        (Some(a), None) => same_written(f, g, a, &zero),
+        (None, Some(b)) => same_written(f, g, &zero, b),
         (None, None) => true,
     }
 }
@@ -81,6 +104,6 @@ pub(crate) fn same_default(f: &TableField, g: &TableField) -> bool
     if f_nothing || g_nothing {
         f_nothing && g_nothing
     } else {
-        same_given(&f.default, &g.default)
+        same_given(f.kind.base, g.kind.base, &f.default, &g.default)
     }
 }

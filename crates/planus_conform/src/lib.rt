@@ -6,6 +6,7 @@ mod conform;
 mod defaults;
 mod enums;
 mod fields;
+mod floats;
 pub mod laws;
 mod matching;
 mod rename;
