@@ -1,5 +1,5 @@
 -- The messages of breaks.
-use Rattle.std.specs.Prelude.{ℕ, Bool, true, false, List, ◌++◌, codes}
+use Rattle.std.specs.Prelude.{ℕ, Bool, true, false, List, [], ◌++◌, codes}
 use Rattle.planus_conform.specs.declared.breaks.Change.{Change}
 use Rattle.planus_conform.specs.declared.breaks.Change.TheVariants as change
 use Rattle.planus_conform.specs.declared.breaks.Place.{Place}
@@ -10,9 +10,10 @@ use Rattle.planus_cli.specs.declared.changes.Saying.{Saying}
 abbrev pub before_text : List ℕ
 before_text = codes "the old schema has this"
 
--- What is said of a change: its word; whose code reads data of the other schema otherwise; what that
--- means, and what to do instead.
+-- What is said of a change: `note: ` if it is no break; its word; whose code reads data of the other
+-- schema otherwise; what that means, and what to do instead.
 pub record SayingV : Type 0 where
+  pub label : List ℕ
   pub word : List ℕ
   pub hurt : List ℕ
   pub effect : List ℕ
@@ -20,6 +21,7 @@ pub record SayingV : Type 0 where
 
 abbrev pub saying_view : Saying → SayingV
 saying_view s = record {
+  label = s.label.now;
   word = s.word.now;
   hurt = s.hurt.now;
   effect = s.effect.now;
@@ -27,8 +29,13 @@ saying_view s = record {
 }
 
 abbrev pub hurts : List ℕ → List ℕ → List ℕ → List ℕ → SayingV
-hurts who word effect advice =
-    record { word = word; hurt = who; effect = effect; advice = advice }
+hurts who word effect advice = record {
+  label = [];
+  word = word;
+  hurt = who;
+  effect = effect;
+  advice = advice;
+}
 
 -- a change that breaks each way
 abbrev pub hurts_both : List ℕ → List ℕ → List ℕ → SayingV
@@ -41,6 +48,16 @@ hurts_new = hurts (codes "new")
 -- a change that breaks old code that reads new data
 abbrev pub hurts_old : List ℕ → List ℕ → List ℕ → SayingV
 hurts_old = hurts (codes "old")
+
+-- a change of which a user's code alone knows
+abbrev pub notes : List ℕ → List ℕ → List ℕ → SayingV
+notes word effect advice = record {
+  label = codes "note: ";
+  word = word;
+  hurt = codes "none";
+  effect = effect;
+  advice = advice;
+}
 
 -- a part that has another slot, distance, number or tag
 abbrev pub moved : Place → SayingV
@@ -141,7 +158,14 @@ saying_of change.IdentifierChanged p r = hurts_both (codes "identifier_changed")
 saying_of change.IdentifierAdded p r = hurts_new (codes "identifier_added")
     (codes "a new identifier: new code takes no old buffer for its own")
     (codes "leave it out")
+saying_of change.Renamed p r = notes (codes "renamed")
+    (codes "another name: code of either schema reads the same")
+    (codes "change it in your own code")
+saying_of change.DefaultRespelled p r = notes (codes "default_respelled")
+    (codes "its default is written otherwise: code of either schema reads the same")
+    (codes "no code has to change")
 
 -- the message of a change of what has this name
 abbrev pub message_of : SayingV → List ℕ → List ℕ
-message_of s name = codes "`" ++ (name ++ (codes "`: " ++ (s.effect ++ (codes "; " ++ s.advice))))
+message_of s name = s.label
+    ++ (codes "`" ++ (name ++ (codes "`: " ++ (s.effect ++ (codes "; " ++ s.advice)))))

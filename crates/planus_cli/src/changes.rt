@@ -12,9 +12,11 @@ pub(crate) const BEFORE: &str = "the old schema has this";
 /// What is said of a change.
 #[derive(Clone, Copy)]
 pub struct Saying {
+    /// `note: ` of what is no break.
+    pub label: &'static str,
     /// The change in a word.
     pub word: &'static str,
-    /// Whose code reads data of the other schema otherwise: `old`, `new` or `both`.
+    /// Whose code reads data of the other schema otherwise: `old`, `new`, `both` or `none`.
     pub hurt: &'static str,
     pub effect: &'static str,
     /// What to do instead.
@@ -30,8 +32,22 @@ fn hurts(
     ensures { spec.saying_view result ≡ spec.hurts hurt.now word.now effect.now advice.now }
 {
     Saying {
+        label: "",
         word,
         hurt,
+        effect,
+        advice,
+    }
+}
+
+/// Of a change of which a user's code alone knows.
+fn notes(word: &'static str, effect: &'static str, advice: &'static str) -> Saying
+    ensures { spec.saying_view result ≡ spec.notes word.now effect.now advice.now }
+{
+    Saying {
+        label: "note: ",
+        word,
+        hurt: "none",
         effect,
         advice,
     }
@@ -281,6 +297,20 @@ pub(crate) fn saying_of(change: Change, place: Place, is_required: bool) -> Sayi
                 "leave it out",
             )
         }
+        Change::Renamed => {
+            notes(
+                "renamed",
+                "another name: code of either schema reads the same",
+                "change it in your own code",
+            )
+        }
+        Change::DefaultRespelled => {
+            notes(
+                "default_respelled",
+                "its default is written otherwise: code of either schema reads the same",
+                "no code has to change",
+            )
+        }
     }
 }
 
@@ -288,7 +318,8 @@ pub(crate) fn saying_of(change: Change, place: Place, is_required: bool) -> Sayi
 pub(crate) fn message_of(alloc: Global, saying: Saying, name: &[u8]) -> Result<Vec<u8>, AllocError>
     ensures { IfOk result (λ text. text.items ≡ spec.message_of (spec.saying_view saying) name.now) }
 {
-    let mut text = Vec::from_slice(alloc, b"`")?;
+    let mut text = Vec::from_slice(alloc, saying.label.as_bytes())?;
+    text.extend_from_slice(b"`")?;
     text.extend_from_slice(name)?;
     text.extend_from_slice(b"`: ")?;
     text.extend_from_slice(saying.effect.as_bytes())?;

@@ -7,6 +7,7 @@ pub mod Alike
 pub mod Types
 pub mod Defaults
 pub mod Breaks
+pub mod Notes
 pub mod Conforms
 pub mod Witnesses
 pub mod EnumWitnesses

@@ -13,7 +13,8 @@ pub enum Way {
     Forward,
 }
 
-/// A change by which code of the new schema reads other than that of the old one.
+/// A change by which code of the new schema reads other than that of the old one, or of which a
+/// user's code alone knows.
 #[derive(Clone, Copy)]
 pub enum Change {
     /// No declaration has the name.
@@ -58,6 +59,10 @@ pub enum Change {
     IdentifierChanged,
     /// The new schema alone has a file identifier.
     IdentifierAdded,
+    /// No break: the part has another name.
+    Renamed,
+    /// No break: the default is written otherwise, with the same value.
+    DefaultRespelled,
 }
 
 /// What changed. The first number is the index of the declaration in the old schema.

@@ -23,7 +23,7 @@ fn is_value_moved(values: &[EnumValue], v: &EnumValue) -> bool
         && !same_number(v.number, u.number))
 }
 
-fn value_change(met: bool, values: &[EnumValue], v: &EnumValue) -> Option<Change>
+pub(crate) fn value_change(met: bool, values: &[EnumValue], v: &EnumValue) -> Option<Change>
     ensures { result ≡ spec.value_change met values.now v.now }
 {
     if is_value_moved(values, v) {

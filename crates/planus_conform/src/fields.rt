@@ -13,7 +13,7 @@ use crate::ways::{change_if, meets_new, note};
 use planus_schema::TableField;
 use std::alloc::AllocError;
 
-fn field_in(fields: &[TableField], slot: usize) -> Option<&TableField>
+pub(crate) fn field_in(fields: &[TableField], slot: usize) -> Option<&TableField>
     ensures { option_map (λ f. f.now) result ≡ reads_spec.field_in fields.now slot }
 {
     'fields: for field in fields {
@@ -91,7 +91,7 @@ fn change_from(
     }
 }
 
-fn field_change(
+pub(crate) fn field_change(
     way: Way,
     matches: &[Option<usize>],
     fields: &[TableField],

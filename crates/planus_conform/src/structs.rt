@@ -11,7 +11,7 @@ use crate::ways::{change_if, note};
 use planus_schema::{Struct, StructField};
 use std::alloc::AllocError;
 
-fn part_in(fields: &[StructField], distance: usize) -> Option<&StructField>
+pub(crate) fn part_in(fields: &[StructField], distance: usize) -> Option<&StructField>
     ensures { option_map (λ f. f.now) result ≡ reads_spec.part_in fields.now distance }
 {
     'fields: for field in fields {
@@ -41,7 +41,11 @@ fn part_change_to(
     }
 }
 
-fn part_change(matches: &[Option<usize>], fields: &[StructField], f: &StructField) -> Option<Change>
+pub(crate) fn part_change(
+    matches: &[Option<usize>],
+    fields: &[StructField],
+    f: &StructField,
+) -> Option<Change>
     ensures { result ≡ spec.part_change matches.now fields.now f.now }
 {
     if is_part_moved(fields, f) {

@@ -11,7 +11,7 @@ use crate::ways::{change_if, meets_new, meets_old, note};
 use planus_schema::{Union, UnionMember};
 use std::alloc::AllocError;
 
-fn member_in(members: &[UnionMember], tag: u8) -> Option<&UnionMember>
+pub(crate) fn member_in(members: &[UnionMember], tag: u8) -> Option<&UnionMember>
     ensures { option_map (λ m. m.now) result ≡ values_spec.member_in members.now tag }
 {
     'members: for member in members {
@@ -52,7 +52,7 @@ fn member_change_to(
     }
 }
 
-fn member_change(
+pub(crate) fn member_change(
     met: bool,
     matches: &[Option<usize>],
     members: &[UnionMember],
