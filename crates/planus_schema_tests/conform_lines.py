@@ -63,12 +63,14 @@ def line_faults(line):
             yield f"place {place}"
     if not line["message"].endswith("; " + line["advice"]):
         yield f"advice {line['advice']}"
-    if line["hurt"] not in ("old", "new", "both"):
+    if line["hurt"] not in ("old", "new", "both", "none"):
         yield f"hurt {line['hurt']}"
+    if (line["hurt"] == "none") != line["message"].startswith("note: "):
+        yield f"label {line['message']}"
     name = line["part"] or line["declaration"]
     if (name is None) != (line["change"] in OF_STATEMENTS):
         yield f"name {name}"
-    if name is not None and not line["message"].startswith(f"`{name}`: "):
+    if name is not None and not line["message"].removeprefix("note: ").startswith(f"`{name}`: "):
         yield f"name {name}"
 
 

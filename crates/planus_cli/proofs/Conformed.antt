@@ -2,11 +2,9 @@
 use Rattle.std.proofs.Common.{◌≡◌, ℕ, Bool, List, [], ◌∷◌, ◌++◌, Option, map, refl, sym, ap, ◌∙◌, append-nil, append_assoc}
 use Rattle.std.specs.Borrow.{Bor}
 use Rattle.planus_conform.specs.declared.breaks.Break.{Break}
-use Rattle.planus_conform.specs.declared.breaks.Way.{Way}
 use Rattle.planus_conform.specs.declared.rename.Rename.{Rename}
-use Rattle.planus_conform.specs.Conforms.{Conforms}
 use Rattle.planus_cli.specs.declared.meaning.Meaning.{Meaning}
-use Rattle.planus_cli.specs.Conforming.{IsRenameOf, AreRenamesOf, AreWritten, TellsOf}
+use Rattle.planus_cli.specs.Conforming.{IsRenameOf, AreRenamesOf, AreWritten, TellsAll, status_of}
 use Rattle.planus_cli.specs.Telling.{TellsBreak, TellsBreaks}
 
 -- one more break
@@ -36,15 +34,20 @@ renames_push [] (q ∷ rs) w r are is = absurd are
 renames_push (v ∷ ws) [] w r are is = absurd are
 renames_push (v ∷ ws) (q ∷ rs) w r are is = (are.0, renames_push ws rs w r are.1 is)
 
--- nothing breaks
-pub tells_none : (json : Bool) (w : Way) (rs : List Rename) (old new : Meaning) (bs : List Break) (before unsaid : Option (List ℕ)) → bs ≡ []
-    → Conforms w rs old.schema new.schema → TellsOf json w rs old new bs 0 before before unsaid unsaid
-tells_none json w rs old new [] before unsaid none conforms = (refl, refl, refl, conforms)
-tells_none json w rs old new (b ∷ bs) before unsaid none conforms = absurd cc
+-- nothing is told
+pub tells_none : (json : Bool) (rs : List Rename) (old new : Meaning) (bs : List Break) (before unsaid : Option (List ℕ)) → bs ≡ []
+    → TellsAll json rs old new bs before before unsaid unsaid
+tells_none json rs old new [] before unsaid none = (refl, refl)
+tells_none json rs old new (b ∷ bs) before unsaid none = absurd cc
 
--- all that breaks is told
-pub tells_some : (json : Bool) (w : Way) (rs : List Rename) (old new : Meaning) (bs : List Break) (out : List ℕ)
+-- all is told
+pub tells_some : (json : Bool) (rs : List Rename) (old new : Meaning) (bs : List Break) (out : List ℕ)
     (before after unsaid said : Option (List ℕ)) → ¬ (bs ≡ [])
-    → TellsBreaks json rs old new bs out → AreWritten json out before after unsaid said → TellsOf json w rs old new bs 1 before after unsaid said
-tells_some json w rs old new [] out before after unsaid said some are written = absurd (some refl)
-tells_some json w rs old new (b ∷ bs) out before after unsaid said some are written = (refl, (out, are, written))
+    → TellsBreaks json rs old new bs out → AreWritten json out before after unsaid said → TellsAll json rs old new bs before after unsaid said
+tells_some json rs old new [] out before after unsaid said some are written = absurd (some refl)
+tells_some json rs old new (b ∷ bs) out before after unsaid said some are written = (out, are, written)
+
+-- with status 0 nothing breaks
+pub none_breaks : (bs : List Break) → status_of bs ≡ 0 → bs ≡ []
+none_breaks [] e = refl
+none_breaks (b ∷ bs) e = absurd cc

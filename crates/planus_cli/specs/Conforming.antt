@@ -1,5 +1,5 @@
 -- What `conform` tells of two schemas.
-use Rattle.std.specs.Prelude.{◌≡◌, ◌⊎◌, ℕ, Bool, true, false, List, [], ◌∷◌}
+use Rattle.std.specs.Prelude.{◌≡◌, ◌⊎◌, ℕ, Bool, true, false, List, [], ◌∷◌, ◌++◌}
 use Rattle.std.specs.Prelude.{Option, Some, None}
 use Rattle.std.specs.Io.KnownBytes.{Appends}
 use Rattle.planus_conform.specs.declared.breaks.Break.{Break}
@@ -8,6 +8,7 @@ use Rattle.planus_conform.specs.declared.breaks.Way.TheVariants as way
 use Rattle.planus_conform.specs.declared.rename.Rename.{Rename}
 use Rattle.planus_conform.specs.Breaks.{breaks_of}
 use Rattle.planus_conform.specs.Conforms.{Conforms}
+use Rattle.planus_conform.specs.Notes.{notes_of}
 use Rattle.planus_cli.specs.declared.meaning.Meaning.{Meaning}
 use Rattle.planus_cli.specs.Arguments.{WordsV, before_equals, after_equals}
 use Rattle.planus_cli.specs.Each.{Does, RunsFiles}
@@ -45,18 +46,27 @@ abbrev pub AreWritten : Bool → List ℕ → Option (List ℕ) → Option (List
 AreWritten true out before after unsaid said = Appends before after out × (said ≡ unsaid)
 AreWritten false out before after unsaid said = (after ≡ before) × Appends unsaid said out
 
--- Nothing breaks, the schemas conform, and nothing is told; or all that breaks is told, in order.
-abbrev pub TellsOf : Bool → Way → List Rename → Meaning → Meaning → List Break → Does
-TellsOf json w rs old new [] status before after unsaid said = (status ≡ 0)
-    × (after ≡ before) × (said ≡ unsaid) × Conforms w rs old.schema new.schema
-TellsOf json w rs old new (one ∷ rest) status before after unsaid said = (status ≡ 1)
-    × ((out : List ℕ) × TellsBreaks json rs old new (one ∷ rest) out
-    × AreWritten json out before after unsaid said)
+-- Nothing is told, or all of these, in order.
+abbrev pub TellsAll : Bool → List Rename → Meaning → Meaning → List Break → Option (List ℕ)
+    → Option (List ℕ) → Option (List ℕ) → Option (List ℕ) → Type 0
+TellsAll json rs old new [] before after unsaid said = (after ≡ before) × (said ≡ unsaid)
+TellsAll json rs old new (one ∷ rest) before after unsaid said =
+    (out : List ℕ) × TellsBreaks json rs old new (one ∷ rest) out
+    × AreWritten json out before after unsaid said
 
--- what is told of what breaks from one schema to another
-abbrev pub Compares : Bool → Way → List Rename → Meaning → Meaning → Does
-Compares json w rs old new status before after unsaid said =
-    TellsOf json w rs old new (breaks_of w rs old.schema new.schema) status before after unsaid said
+abbrev pub status_of : List Break → ℕ
+status_of [] = 0
+status_of (one ∷ rest) = 1
+
+-- With status 0 nothing breaks, and the schemas conform. All that breaks is told, and then all that
+-- changes a user's code alone.
+pub record Compares (json : Bool) (w : Way) (rs : List Rename) (old new : Meaning) (status : ℕ)
+    (before after unsaid said : Option (List ℕ)) : Type 0 where
+  pub ends : status ≡ status_of (breaks_of w rs old.schema new.schema)
+  pub conforms : status ≡ 0 → Conforms w rs old.schema new.schema
+  pub tells :
+      TellsAll json rs old new (breaks_of w rs old.schema new.schema
+      ++ notes_of w rs old.schema new.schema) before after unsaid said
 
 -- The meanings of both were found, and compared.
 pub record ComparesMeanings (places : Places) (words : WordsV) (old : Meaning) (name : List ℕ)

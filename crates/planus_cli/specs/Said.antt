@@ -62,7 +62,7 @@ details_of Check = codes "\nSays on standard error what is wrong with each schem
 details_of Format = codes "\nPrints the canonical text of each schema, with its comments.\n\n  --write  replaces each file by its text\n  --check  prints nothing, and says which files don't have that text\n\nEnds with 0 where nothing is wrong, with 1 where a schema has a fault or --check names\na file, and with 2 where the call is wrong or a file can't be read or written.\n"
 details_of View = codes "\nPrints what a buffer holds, a line a value, as far as the lines and bytes go.\n\n  --root NAME      the root is this table, and not that of the schema\n  --size-prefixed  BUFFER is any number of buffers, each after its size\n  --lines N        at most N lines, and not 1000\n  --bytes N        at most N bytes, and not 1048576\n  -I FOLDER        included files are sought in this folder too\n\nEnds with 0 where all is shown, with 1 where something is wrong with the buffer or\nmore follows, and with 2 where the call is wrong or a file can't be read.\n"
 details_of Dot = codes "\nPrints the graph of a schema for Graphviz: a node for each declaration, with its\nfields and their types, and an edge for each that names a declaration. For a picture,\nplanus dot a.fbs | dot -Tsvg -o a.svg. Included files are sought beside the file and\nin each FOLDER.\nEnds with 0 where the graph is printed, with 1 where the schema has a fault, and with\n2 where the call is wrong or a file can't be read.\n"
-details_of Conform = codes "\nSays on standard error what breaks where the schema NEW replaces OLD, or nothing: each\nchange by which code of one reads data of the other otherwise, and what to do instead.\n\n  --against FOLDER  SCHEMA is NEW, and OLD the file of its name in this folder\n  --backward        only what breaks new code that reads old data\n  --forward         only what breaks old code that reads new data\n  --rename OLD=NEW  what is OLD in the old schema is NEW in the new one\n  --json            a line of JSON on standard output for each change, for a program\n  -I FOLDER         included files are sought in this folder too\n\nEnds with 0 where nothing breaks, with 1 where something does or a schema has a fault,\nand with 2 where the call is wrong or a file can't be read.\n"
+details_of Conform = codes "\nSays on standard error what breaks where the schema NEW replaces OLD: each change by\nwhich code of one reads data of the other otherwise, and what to do instead. A note\nsays what changes your own code alone.\n\n  --against FOLDER  SCHEMA is NEW, and OLD the file of its name in this folder\n  --backward        only what breaks new code that reads old data\n  --forward         only what breaks old code that reads new data\n  --rename OLD=NEW  what is OLD in the old schema is NEW in the new one\n  --json            a line of JSON on standard output for each change, for a program\n  -I FOLDER         included files are sought in this folder too\n\nEnds with 0 where nothing breaks, with 1 where something does or a schema has a fault,\nand with 2 where the call is wrong or a file can't be read.\n"
 details_of Completions = codes "\nPrints the script by which this shell completes calls of planus: commands, their\noptions, and files. It says how it is used.\n"
 details_of RattleCommand = codes "\nPrints the code of a schema as a crate: its files in FOLDER, whose last word is the\ncrate's name. A file that has its text already is left alone.\n\n  -o FOLDER        the folder of the crate, which is made if it isn't there\n  --check          writes nothing, and says which files aren't what is printed\n  --no-verified    prints no views of verified buffers, so that less is to be proved\n  -I FOLDER        included files are sought in this folder too\n\nEnds with 0 where all is printed, with 1 where the schema has a fault or something\nthat isn't supported, or --check names a file, and with 2 where the call is wrong or\na file can't be read or written.\n"
 

@@ -16,7 +16,7 @@ use crate::said::{CLEAN, FAILED, FAULTY};
 use crate::sources::meaning_at;
 use crate::streams::{RunError, write_out};
 use crate::told::told;
-use planus_conform::{Rename, Way, conforms};
+use planus_conform::{Break, Rename, Way, conforms, notes_of};
 use std::alloc::{AllocError, Global};
 use std::io::Write;
 
@@ -37,7 +37,37 @@ fn write_told<W: Write, X: Write>(
     }
 }
 
-/// Tells what breaks. Returns the exit status.
+fn status_of(breaks: &[Break]) -> u8
+    ensures { result ≡ spec.status_of breaks.now }
+{
+    if breaks.is_empty() { CLEAN } else { FAULTY }
+}
+
+/// Tells of these breaks and notes, if there are any.
+fn tell<W: Write, X: Write>(
+    alloc: Global,
+    json: bool,
+    renames: &[Rename],
+    old: &Meaning,
+    new: &Meaning,
+    all: &[Break],
+    writer: &mut W,
+    errors: &mut X,
+) -> Result<(), RunError>
+    requires old { AreSpelled old.now.files.items old.now.declarations.items }
+    requires new { AreSpelled new.now.files.items new.now.declarations.items }
+    ensures { OnOk result (spec.TellsAll json renames.now old.now new.now all.now
+        (W.contents writer.old) (W.contents writer.new)
+        (X.contents errors.old) (X.contents errors.new)) }
+{
+    if all.is_empty() {
+        return Ok(());
+    }
+    let out = told(alloc, json, renames, old, new, all)?;
+    write_told(json, &out, writer, errors)
+}
+
+/// Tells what breaks, and then what changes a user's code alone. Returns the exit status.
 fn compare<W: Write, X: Write>(
     alloc: Global,
     json: bool,
@@ -54,13 +84,12 @@ fn compare<W: Write, X: Write>(
         (W.contents writer.old) (W.contents writer.new)
         (X.contents errors.old) (X.contents errors.new)) }
 {
-    let breaks = conforms(alloc, way, renames, &old.schema, &new.schema)?;
-    if breaks.is_empty() {
-        return Ok(CLEAN);
-    }
-    let out = told(alloc, json, renames, old, new, &breaks)?;
-    write_told(json, &out, writer, errors)?;
-    Ok(FAULTY)
+    let mut all = conforms(alloc, way, renames, &old.schema, &new.schema)?;
+    let status = status_of(&all);
+    let notes = notes_of(alloc, way, renames, &old.schema, &new.schema)?;
+    all.extend_from_slice(&notes)?;
+    tell(alloc, json, renames, old, new, &all, writer, errors)?;
+    Ok(status)
 }
 
 fn way_by(backward: bool, forward: bool) -> Way

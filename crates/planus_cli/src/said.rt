@@ -114,8 +114,9 @@ const USAGE_OF_CONFORM: &str = "usage: planus conform [OPTION].. OLD NEW
 ";
 
 const DETAILS_OF_CONFORM: &str = "
-Says on standard error what breaks where the schema NEW replaces OLD, or nothing: each
-change by which code of one reads data of the other otherwise, and what to do instead.
+Says on standard error what breaks where the schema NEW replaces OLD: each change by
+which code of one reads data of the other otherwise, and what to do instead. A note
+says what changes your own code alone.
 
   --against FOLDER  SCHEMA is NEW, and OLD the file of its name in this folder
   --backward        only what breaks new code that reads old data
