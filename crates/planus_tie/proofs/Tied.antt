@@ -1,6 +1,7 @@
 -- Texts that pass their tests.
 use Rattle.std.proofs.Common.{◌≡◌, ℕ, Bool, IsTrue, List, sym, ap, subst, ◌∙◌}
-use Rattle.std.specs.Prelude.{Result, Ok, Err, IfOk, true, ◌&&◌}
+use Rattle.std.specs.Prelude.{Result, Ok, Err, IfOk, true, false, ◌&&◌, ⊤}
+use Rattle.std.specs.Bool.{MatchBool}
 use Rattle.std.specs.Prelude.{Option}
 use Rattle.planus_schema.specs.declared.schema.Body.{Body}
 use Rattle.planus_schema.specs.declared.schema.Body.TheVariants as body
@@ -10,7 +11,7 @@ use Rattle.planus_schema.specs.Plans.{IsPlan}
 use Rattle.planus_schema.specs.declared.plan.Plan.{Plan}
 use Rattle.planus_tie.specs.Bare.{bare}
 use Rattle.planus_schema.specs.declared.plan.Line.{Line}
-use Rattle.planus_tie.specs.Files.{text_at, view_path_of, IsViewTextTied, IsBodyViewTied}
+use Rattle.planus_tie.specs.Files.{text_at, view_path_of, has_view, IsViewTextTied, IsBodyViewTied}
 use Rattle.planus_tie.specs.declared.files.PrintedFile.{PrintedFile}
 use Rattle.planus_tie.specs.SchemaTies.{IsSchemaTied, is_schema_text}
 use Rattle.planus_tie.specs.Shapes.{AreLines}
@@ -45,14 +46,19 @@ schema_by n ranks text without given lines (Ok b) g a w h = λ t. record {
       ∙ ap (is_schema_text n ranks given) (sym w) ∙ sym h ∙ t;
 }
 
+chosen : (b : Bool) {P : Type 0} → P → MatchBool b P ⊤
+chosen true p = p
+chosen false p = tt
+
 weakened : {A E : Type 0} (r : Result A E) {P Q : A → Type 0} → ((v : A) → P v → Q v) → IfOk r P → IfOk r Q
 weakened (Ok v) f h = f v h
 weakened (Err e) f h = tt
 
 pub body_viewed : {E : Type 0} (n : Naming) (ranks : List ℕ) (totals : List Bool) (files : List PrintedFile) (i : ℕ) (b : Body) (path : List ℕ) (found : Option (List ℕ)) (r : Result Bool E) → path ≡ view_path_of n i → found ≡ text_at path files → IfOk r (λ v. IsTrue v → IsViewTextTied n ranks totals i b found) → IfOk r (λ v. IsTrue v → IsBodyViewTied n ranks totals files i b)
+unfolding IsBodyViewTied
 body_viewed n ranks totals files i b path found r p f h =
     let whole : found ≡ text_at (view_path_of n i) files = f ∙ ap (λ q. text_at q files) p in
-    weakened r (λ v tied is has. subst (λ o. IsViewTextTied n ranks totals i b o) whole (tied is)) h
+    weakened r (λ v tied is. chosen (has_view b) (subst (λ o. IsViewTextTied n ranks totals i b o) whole (tied is))) h
 
 -- after a test that is met comes another one
 pub then_tested : {E : Type 0} (r : Result Bool E) (first one other : Bool) → first ≡ one → IsTrue first → IfOk r (λ b. b ≡ other) → IfOk r (λ b. b ≡ (one && other))

@@ -75,9 +75,9 @@ abbrev pub has_view : Body → Bool
 has_view b = is_table b || is_union_body b
 
 -- the view of a table or of a union is there, and is the declaration's
-abbrev pub IsBodyViewTied : Naming → List ℕ → List Bool → List PrintedFile → ℕ → Body → Type 0
-IsBodyViewTied n ranks totals files i b = IsTrue (has_view b)
-    → IsViewTextTied n ranks totals i b (text_at (view_path_of n i) files)
+unfoldable pub IsBodyViewTied : Naming → List ℕ → List Bool → List PrintedFile → ℕ → Body → Type 0
+IsBodyViewTied n ranks totals files i b = MatchBool (has_view b)
+    (IsViewTextTied n ranks totals i b (text_at (view_path_of n i) files)) ⊤
 
 -- of each declaration from an index on
 abbrev pub AreViewsTied : Naming → List ℕ → List Bool → List PrintedFile → ℕ → List Declared

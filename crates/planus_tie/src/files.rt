@@ -162,6 +162,7 @@ fn has_view(body: &Body) -> bool
     is_table(body) || is_union_body(body)
 }
 
+#[tactic(auto, unfolding(crate::specs::Files::IsBodyViewTied))]
 fn is_body_view_tied(
     alloc: Global,
     naming: &Naming<'_>,
