@@ -70,10 +70,10 @@ fn has_unknown(bytes: &[u8], tag: i128) -> bool {
     )
 }
 
-fn has_unknown_at(bytes: &mut [u8; 120], place: usize, number: u8) -> bool
-    requires { place < 120 }
-{
-    bytes[place] = number;
+fn has_unknown_at(bytes: &mut [u8], place: usize, number: u8) -> bool {
+    if let Some(byte) = bytes.get_mut(place) {
+        *byte = number;
+    }
     has_unknown(bytes, number as i128)
 }
 
