@@ -303,6 +303,7 @@ pub data Asked : Type 0 where
   no_buffer : Asked
   empty_value : Command → Choice → Asked
   empty_file : Command → Asked
+  input_twice : Command → Asked
   no_number : Choice → List ℕ → Asked
   several_schemas : Command → Asked
   no_output : Asked
@@ -326,6 +327,7 @@ asked (code.NoSchema command) = no_schema command
 asked code.NoBuffer = no_buffer
 asked (code.EmptyValue command choice) = empty_value command choice
 asked (code.EmptyFile command) = empty_file command
+asked (code.InputTwice command) = input_twice command
 asked (code.NoNumber choice w) = no_number choice w.now
 asked (code.SeveralSchemas command) = several_schemas command
 asked code.NoOutput = no_output
@@ -403,12 +405,19 @@ run_request Dot ws = dot_request ws
 run_request Conform ws = conform_request ws
 run_request Completions ws = completions_request ws.files
 
+-- more words than one are standard input, one of which was found before or not
+abbrev pub has_input_twice : Bool → List (List ℕ) → Bool
+has_input_twice found [] = false
+has_input_twice found (w ∷ ws) = if bytes_eq w (codes "-")
+    then (if found then true else has_input_twice true ws) else has_input_twice found ws
+
 abbrev pub request_by : Command → WordsV → Asked
 request_by command ws = unknown_or ws.unknown
   where
     empty_or : Option Choice → Asked
     empty_or (Some choice) = empty_value command choice
     empty_or None = if list_any is_empty_word ws.files then empty_file command
+        else if has_input_twice false ws.files then input_twice command
         else if is_empty ws.files then no_schema command else run_request command ws
 
     value_or : Option Choice → Asked

@@ -16,7 +16,7 @@ use Rattle.planus_cli.specs.Shown.{shown}
 use Rattle.planus_cli.specs.Arguments.{Asked, help, help_of as help_asked, version, run}
 use Rattle.planus_cli.specs.Arguments.{no_command, unknown_command, unknown_option}
 use Rattle.planus_cli.specs.Arguments.{no_value, no_schema, no_buffer, no_number}
-use Rattle.planus_cli.specs.Arguments.{empty_value, empty_file}
+use Rattle.planus_cli.specs.Arguments.{empty_value, empty_file, input_twice}
 use Rattle.planus_cli.specs.Arguments.{several_schemas, no_output, write_and_check}
 use Rattle.planus_cli.specs.Arguments.{completions, no_shell, no_pair, backward_and_forward}
 use Rattle.planus_cli.specs.Arguments.{no_rename, before_equals}
@@ -130,6 +130,8 @@ said_of no_shell = on_errors (no_shell_text ++ usage_of (Some Completions))
 said_of no_buffer = on_errors (codes "planus: view has a schema and a buffer\n" ++ usage_of (Some View))
 said_of (empty_value command choice) = on_errors (empty_value_text choice ++ usage_of (Some command))
 said_of (empty_file command) = on_errors (codes "planus: the name of a file is empty\n"
+    ++ usage_of (Some command))
+said_of (input_twice command) = on_errors (codes "planus: standard input is read once, and - stands here twice\n"
     ++ usage_of (Some command))
 said_of (no_number choice w) = on_errors (codes "planus: `" ++ (shown w
     ++ (codes "`" ++ (no_number_text choice ++ (codes "\n" ++ usage_of (Some View))))))

@@ -144,6 +144,8 @@ const NO_SCHEMA: &str = "planus: no schema is named; - is standard input\n";
 
 const EMPTY_FILE: &str = "planus: the name of a file is empty\n";
 
+const INPUT_TWICE: &str = "planus: standard input is read once, and - stands here twice\n";
+
 const NO_BUFFER: &str = "planus: view has a schema and a buffer\n";
 
 const SEVERAL_SCHEMAS: &str = "planus: rattle has one schema\n";
@@ -448,6 +450,7 @@ pub fn said_of(alloc: Global, request: &Request<'_>) -> Result<Option<Said>, All
         Request::NoBuffer => wrong(alloc, NO_BUFFER, Some(Command::View)),
         Request::EmptyValue(command, choice) => wrong(alloc, empty_value(*choice), Some(*command)),
         Request::EmptyFile(command) => wrong(alloc, EMPTY_FILE, Some(*command)),
+        Request::InputTwice(command) => wrong(alloc, INPUT_TWICE, Some(*command)),
         Request::NoNumber(choice, word) => {
             about(
                 alloc,
