@@ -494,7 +494,7 @@ class Room:
         """The lines by a schema, in any order, without those of fields left out, and the status."""
         done = self.run(self.program, "view", file, "buffer.bin")
         out = done.stdout.decode(errors="backslashreplace")
-        lines = [named(line.replace("(deprecated)", ""), change) for line in out.splitlines()]
+        lines = [named(line.replace(" (deprecated)", ""), change) for line in out.splitlines()]
         lines += ["another identifier"] * (b"identifier" in done.stderr)
         return sorted(line for line in lines if not is_left_out(line, change)), done.returncode
 

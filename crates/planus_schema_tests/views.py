@@ -103,7 +103,7 @@ def faults(schema, value, bytes_given, lines):
     buffer, again = made(schema.replace(" (deprecated)", ""), value)
     if buffer != bytes_given:
         yield "another buffer"
-    said = shown(lines.replace("(deprecated)", ""))
+    said = shown(lines.replace(" (deprecated)", ""))
     there = dict(leaves(again, "root"))
     for path, held in there.items():
         if path not in said or not agrees(said[path], held):

@@ -8,9 +8,8 @@ use Rattle.std.specs.Str.{bytes_eq}
 use Rattle.std.specs.Io.KnownBytes.{Appends, Keeps}
 use Rattle.planus_dump.specs.declared.schemas.Schema.{Schema as Dumped}
 use Rattle.planus_inspect.specs.Shown.{Shows}
-use Rattle.std.specs.List.{list_any}
-use Rattle.planus_dump.specs.FaultLines.{is_fault_line}
-use Rattle.planus_dump.specs.Views.{Viewed}
+use Rattle.planus_dump.specs.Dumped.{events_of}
+use Rattle.planus_dump.specs.Views.{Viewed, IsTold}
 use Rattle.planus_dump.specs.declared.views.Seen.{Seen}
 use Rattle.planus_dump.specs.declared.views.End.{End}
 use Rattle.planus_dump.specs.declared.views.End.TheVariants.{TooManyLines, TooManyBytes}
@@ -283,9 +282,10 @@ Views true look bytes status before after unsaid said =
 -- whether the first line of a view of all bytes states no error
 pub record ReadsRoot (schema : Dumped) (bytes : List ℕ) (reads : Bool) : Type 0 where
   pub lines : List (List ℕ)
-  pub end : End
-  pub viewed : Viewed schema bytes 1 18446744073709551615 lines end
-  pub is : reads ≡ not (list_any is_fault_line lines)
+  pub seen : Seen
+  pub viewed : Viewed schema bytes 1 18446744073709551615 lines seen.end
+  pub told : IsTold (events_of schema bytes) lines 1 18446744073709551615 seen
+  pub is : reads ≡ not seen.has_fault
 
 -- whether the bytes begin with a size and a buffer of this size, of which the same holds
 abbrev pub ReadsFirst : Dumped → List ℕ → Bool → Type 0

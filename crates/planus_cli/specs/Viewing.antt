@@ -2,15 +2,13 @@
 use Rattle.std.specs.Prelude.{◌≡◌, ℕ, ◌&&◌, not, Bool, true, false, List, [], ◌++◌}
 use Rattle.std.specs.Prelude.{codes, Option, take, length, ◌<◌, ◌≤◌, ◌+◌, ◌⊎◌}
 use Rattle.std.specs.Int.{from_le_bytes, w32}
-use Rattle.std.specs.List.{list_any}
 use Rattle.std.specs.Io.KnownBytes.{Appends, Keeps}
 use Rattle.planus_dump.specs.Schemas.{is_good}
 use Rattle.planus_cli.specs.declared.streams.RunError.{RunError}
 use Rattle.planus_cli.specs.declared.streams.RunError.TheVariants.{OutOfMemory, Read, Write}
 use Rattle.planus_cli.specs.declared.streams.RunError.TheVariants.{BadSchema}
-use Rattle.planus_dump.specs.FaultLines.{is_fault_line}
 use Rattle.planus_dump.specs.Dumped.{events_of}
-use Rattle.planus_dump.specs.Views.{Viewed, LeavesRoom, lines_text}
+use Rattle.planus_dump.specs.Views.{Viewed, IsTold, lines_text}
 use Rattle.planus_dump.specs.Writing.{WritesBeginning}
 use Rattle.planus_dump.specs.declared.schemas.Schema.{Schema}
 use Rattle.planus_dump.specs.declared.view_error.ViewError.{ViewError}
@@ -46,14 +44,12 @@ is_cut TooDeep = false
 is_cut TooManyLines = true
 is_cut TooManyBytes = true
 
--- The first lines of the buffer were written, and why they end. `seen` says whether one states an
--- error, and how much is left of what is wanted.
+-- The first lines of the buffer were written, and why they end; what `seen` tells of them is so.
 pub record WritesView (schema : Schema) (bytes : List ℕ) (most size : ℕ) (seen : Seen)
     (before after : Option (List ℕ)) : Type 0 where
   pub lines : List (List ℕ)
   pub viewed : Viewed schema bytes most size lines seen.end
-  pub fault : seen.has_fault ≡ list_any is_fault_line lines
-  pub left : LeavesRoom (events_of schema bytes) lines most size seen.lines_left seen.bytes_left
+  pub told : IsTold (events_of schema bytes) lines most size seen
   pub written : Appends before after (view_text lines seen.end)
 
 -- a beginning of the first lines of the buffer was written, and nothing else

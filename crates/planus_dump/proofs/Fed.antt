@@ -4,10 +4,10 @@ use Rattle.std.specs.Prelude.{if◌then◌else◌, nat_lt}
 use Rattle.std.specs.Result.{IsErr}
 use Rattle.std.proofs.lemmas.List.{append_assoc, append-nil}
 use Rattle.std.proofs.lemmas.Bool.{eqb-true, eqb-false, ltb-true, ltb-false}
-use Rattle.planus_dump.specs.Events.{Event, line, deep, float}
+use Rattle.planus_dump.specs.Events.{Event, line, faulty, deep, float}
 use Rattle.planus_dump.specs.Views.{cost}
 use Rattle.planus_dump.specs.declared.line.Line.{Line}
-use Rattle.planus_dump.specs.declared.line.Line.TheVariants.{Text, Float}
+use Rattle.planus_dump.specs.declared.line.Line.TheVariants.{Text, Fault, Float}
 use Rattle.planus_dump.specs.declared.line_sink.LineSink.{LineSink}
 use Rattle.planus_dump.specs.declared.line_sink.Stop.{Stop}
 use Rattle.planus_dump.specs.declared.line_sink.Stop.TheVariants.{Going, TooDeep, TooMany, TooLong}
@@ -46,6 +46,7 @@ going-grows : (s : Shown) (e : Event) → Grows s.lines (going s e).lines
 unfolding same_lines
 going-grows s deep = same_lines s.lines
 going-grows s (line l) = added-grows s (line l)
+going-grows s (faulty l) = added-grows s (faulty l)
 going-grows s (float path number) = added-grows s (float path number)
 
 step-grows : (s : Shown) (t : Stop) (e : Event) → Grows s.lines (step_at s t e).lines
@@ -68,6 +69,7 @@ feed-grows s (e ∷ es) =
 line_added : (s : Shown) (e : Event) → e ≢ deep → going s e ≡ added s e
 line_added s deep h = absurd (h refl)
 line_added s (line l) h = refl
+line_added s (faulty l) h = refl
 line_added s (float path number) h = refl
 
 step_added : (s : Shown) (e : Event) → s.stop ≡ Going → e ≢ deep → step s e ≡ added s e
@@ -108,6 +110,7 @@ room_taken s e (Some room) is fits = by_test (nat_lt room (cost e)) refl
 
 pub line_event : (l : Line) → event_of l ≢ deep
 line_event (Text text) = λ e. cc
+line_event (Fault text) = λ e. cc
 line_event (Float path number) = λ e. cc
 
 module _ {L : Type 0} (takes breaks : Takes L) where

@@ -12,7 +12,7 @@ use Rattle.std.proofs.lemmas.List.{append_assoc, append-nil, drop_more, length-m
 use Rattle.std.proofs.lemmas.Bool.{eqb-true, eqb-false, ltb-true, ltb-false}
 use Rattle.planus_dump.specs.Lines.{item_path, field_path, list_line, union_line, value_line}
 use Rattle.planus_dump.specs.Answers.{Seen, SeenItems, SeenUnions, vector_at}
-use Rattle.planus_dump.specs.Events.{variant_of, member_events, variant_events, fault_event, Event, line, deep, float, field_label, events, TableEvents, shape_events, fields_events, kind_events, item_events, items_events, list_events, union_events, union_items_events, stride_of}
+use Rattle.planus_dump.specs.Events.{variant_of, member_events, variant_events, fault_event, Event, line, faulty, deep, float, field_label, events, TableEvents, shape_events, fields_events, kind_events, item_events, items_events, list_events, union_events, union_items_events, stride_of}
 use Rattle.planus_dump.specs.ReadingViews.{IsFound, found_events, IsUnionIn}
 use Rattle.planus_read.specs.declared.place.TaggedPlace.{TaggedPlace}
 use Rattle.planus_read.specs.Places.{place_bytes, place_offset, tagged_tag, tagged_place}
@@ -222,6 +222,9 @@ answered_line l es ls budget room is h rest = by_test (length ls == budget) refl
 line_is : (l : List ℕ) → line l ≢ deep
 line_is l e = cc
 
+faulty_is : (l : List ℕ) → faulty l ≢ deep
+faulty_is l e = cc
+
 float_is : (path : List ℕ) (number : Bits) → float path number ≢ deep
 float_is path number e = cc
 
@@ -231,6 +234,7 @@ answered [] ls budget room h = none_taken ls room [] budget h
 answered (deep ∷ es) ls budget room h =
     subst (After ls room (deep ∷ es) budget) (sym (feed-stopped (here ls budget room TooDeep) es deep_stops)) (es, none_taken ls room (deep ∷ es) budget h)
 answered (line l ∷ es) ls budget room h = answered_line (line l) es ls budget room (line_is l) h (λ more. answered es (ls ++ line l ∷ []) budget (left_in room (cost (line l))) more)
+answered (faulty l ∷ es) ls budget room h = answered_line (faulty l) es ls budget room (faulty_is l) h (λ more. answered es (ls ++ faulty l ∷ []) budget (left_in room (cost (faulty l))) more)
 answered (float path number ∷ es) ls budget room h =
     answered_line (float path number) es ls budget room (float_is path number) h (λ more. answered es (ls ++ float path number ∷ []) budget (left_in room (cost (float path number))) more)
 
@@ -256,11 +260,13 @@ some_text_prints number = by_test (nat_lt (infinite_magnitude number) (magnitude
 
 abbrev pub some_line : Event → List ℕ
 some_line (line l) = l
+some_line (faulty l) = l
 some_line deep = []
 some_line (float path number) = value_line path (some_text number)
 
 pub some_line_shows : (e : Event) → e ≢ deep → Shows e (some_line e)
 some_line_shows (line l) h = refl
+some_line_shows (faulty l) h = refl
 some_line_shows deep h = absurd (h refl)
 some_line_shows (float path number) h = (some_text number, refl, some_text_prints number)
 

@@ -15,7 +15,7 @@ use Rattle.planus_dump.specs.Lines.{quoted, bytes_text, truth_text}
 use Rattle.planus_dump.specs.Tests.{test, answered, number_test, text_tests, byte_list_tests, vector_tests, union_vector_tests, content_at}
 use Rattle.planus_dump.specs.Answers.{leaf_at, unsigned_at, signed_at, SeenItems, vector_at, SeenUnions, union_vector_at}
 use Rattle.planus_dump.specs.Events.{TableEvents, answer_event, leaf_events, item_events, place_events, stride_of}
-use Rattle.planus_dump.specs.FaultLines.{HasNoSpace, HaveNoFault}
+use Rattle.planus_dump.specs.Faults.{HaveNoFault}
 use Rattle.planus_dump.specs.Describes.{plain_size, plain_field_size}
 use Rattle.planus_dump.specs.declared.schemas.Kind.{Kind}
 use Rattle.planus_dump.specs.declared.schemas.Kind.TheVariants.{One, List as ListOf, Union, UnionVector, U8, I8, Bytes, Fixed, FixedList, Nested}
@@ -24,50 +24,49 @@ use Rattle.planus_dump.specs.declared.schemas.Item.TheVariants.{U16, U32, U64, I
 use Rattle.planus_dump.specs.declared.values.Leaf.TheVariants.{Bool as LeafBool, Text as LeafText, Bytes as LeafBytes}
 use Rattle.planus_dump.proofs.Matching.{Matches, all_pass, le_match}
 use Rattle.planus_dump.proofs.Answering.{head_matches, text_matches, union_vector_matches}
-use Rattle.planus_dump.proofs.FaultLines.{lines_told}
 
-pub value_event : (path : List ℕ) (r : Result (List ℕ) (List ℕ)) (text : List ℕ) → r ≡ Ok text → HasNoSpace path → HaveNoFault (answer_event path r ∷ [])
-value_event path r text e h = subst (λ (a : Result (List ℕ) (List ℕ)). HaveNoFault (answer_event path a ∷ [])) (sym e) ((lines_told path h).value text, tt)
+pub value_event : (path : List ℕ) (r : Result (List ℕ) (List ℕ)) (text : List ℕ) → r ≡ Ok text → HaveNoFault (answer_event path r ∷ [])
+value_event path r text e = subst (λ (a : Result (List ℕ) (List ℕ)). HaveNoFault (answer_event path a ∷ [])) (sym e) (refl, tt)
 
 number_passes : {A : Type 0} (S : List ℕ) (f : ℕ) (w : Width) (x : A) → f + byte_len w ≤ length S → answered (number_test S f w ∷ []) x ≡ Ok x
 number_passes S f w x h = rw (le-leb (f + byte_len w) (length S) h) refl
 
-unsigned_event : (w : Width) (S : List ℕ) (f : ℕ) (path : List ℕ) → f + byte_len w ≤ length S → HasNoSpace path → HaveNoFault (answer_event path (unsigned_at w S f) ∷ [])
-unsigned_event w S f path inside h = value_event path (unsigned_at w S f) (decimal (number S f w)) (number_passes S f w (decimal (number S f w)) inside) h
+unsigned_event : (w : Width) (S : List ℕ) (f : ℕ) (path : List ℕ) → f + byte_len w ≤ length S → HaveNoFault (answer_event path (unsigned_at w S f) ∷ [])
+unsigned_event w S f path inside = value_event path (unsigned_at w S f) (decimal (number S f w)) (number_passes S f w (decimal (number S f w)) inside)
 
-signed_event : (w : Width) (S : List ℕ) (f : ℕ) (path : List ℕ) → f + byte_len w ≤ length S → HasNoSpace path → HaveNoFault (answer_event path (signed_at w S f) ∷ [])
-signed_event w S f path inside h = value_event path (signed_at w S f) (signed_decimal (cast_signed w (number S f w))) (number_passes S f w (signed_decimal (cast_signed w (number S f w))) inside) h
+signed_event : (w : Width) (S : List ℕ) (f : ℕ) (path : List ℕ) → f + byte_len w ≤ length S → HaveNoFault (answer_event path (signed_at w S f) ∷ [])
+signed_event w S f path inside = value_event path (signed_at w S f) (signed_decimal (cast_signed w (number S f w))) (number_passes S f w (signed_decimal (cast_signed w (number S f w))) inside)
 
-truth_event : (S : List ℕ) (f : ℕ) (path : List ℕ) → f + 1 ≤ length S → HasNoSpace path → HaveNoFault (leaf_events LeafBool S f path)
-truth_event S f path inside h = value_event path (leaf_at LeafBool S f) (truth_text (not (number S f w8 == 0))) (number_passes S f w8 (truth_text (not (number S f w8 == 0))) inside) h
+truth_event : (S : List ℕ) (f : ℕ) (path : List ℕ) → f + 1 ≤ length S → HaveNoFault (leaf_events LeafBool S f path)
+truth_event S f path inside = value_event path (leaf_at LeafBool S f) (truth_text (not (number S f w8 == 0))) (number_passes S f w8 (truth_text (not (number S f w8 == 0))) inside)
 
 some_same : (a b : ℕ) → Some a ≡ Some b → a ≡ b
 some_same a b e = cc
 
-pub plain_item_event : (E : TableEvents) (item : Item) (size : ℕ) (S : List ℕ) (f : ℕ) (path : List ℕ) → plain_size item ≡ Some size → f + size ≤ length S → HasNoSpace path
+pub plain_item_event : (E : TableEvents) (item : Item) (size : ℕ) (S : List ℕ) (f : ℕ) (path : List ℕ) → plain_size item ≡ Some size → f + size ≤ length S
     → HaveNoFault (item_events E item S f path)
-plain_item_event E U16 size S f path e inside h = let same : 2 ≡ size = some_same 2 size e in unsigned_event w16 S f path (omega arith) h
-plain_item_event E U32 size S f path e inside h = let same : 4 ≡ size = some_same 4 size e in unsigned_event w32 S f path (omega arith) h
-plain_item_event E U64 size S f path e inside h = let same : 8 ≡ size = some_same 8 size e in unsigned_event w64 S f path (omega arith) h
-plain_item_event E I16 size S f path e inside h = let same : 2 ≡ size = some_same 2 size e in signed_event w16 S f path (omega arith) h
-plain_item_event E I32 size S f path e inside h = let same : 4 ≡ size = some_same 4 size e in signed_event w32 S f path (omega arith) h
-plain_item_event E I64 size S f path e inside h = let same : 8 ≡ size = some_same 8 size e in signed_event w64 S f path (omega arith) h
-plain_item_event E Bool size S f path e inside h = let same : 1 ≡ size = some_same 1 size e in truth_event S f path (omega arith) h
-plain_item_event E Text size S f path e inside h = cc
-plain_item_event E (Table index) size S f path e inside h = cc
+plain_item_event E U16 size S f path e inside = let same : 2 ≡ size = some_same 2 size e in unsigned_event w16 S f path (omega arith)
+plain_item_event E U32 size S f path e inside = let same : 4 ≡ size = some_same 4 size e in unsigned_event w32 S f path (omega arith)
+plain_item_event E U64 size S f path e inside = let same : 8 ≡ size = some_same 8 size e in unsigned_event w64 S f path (omega arith)
+plain_item_event E I16 size S f path e inside = let same : 2 ≡ size = some_same 2 size e in signed_event w16 S f path (omega arith)
+plain_item_event E I32 size S f path e inside = let same : 4 ≡ size = some_same 4 size e in signed_event w32 S f path (omega arith)
+plain_item_event E I64 size S f path e inside = let same : 8 ≡ size = some_same 8 size e in signed_event w64 S f path (omega arith)
+plain_item_event E Bool size S f path e inside = let same : 1 ≡ size = some_same 1 size e in truth_event S f path (omega arith)
+plain_item_event E Text size S f path e inside = cc
+plain_item_event E (Table index) size S f path e inside = cc
 
-pub plain_field_event : (E : TableEvents) (kind : Kind) (size : ℕ) (S : List ℕ) (f : ℕ) (path : List ℕ) → plain_field_size kind ≡ Some size → f + size ≤ length S → HasNoSpace path
+pub plain_field_event : (E : TableEvents) (kind : Kind) (size : ℕ) (S : List ℕ) (f : ℕ) (path : List ℕ) → plain_field_size kind ≡ Some size → f + size ≤ length S
     → HaveNoFault (place_events E kind S f path)
-plain_field_event E (One item) size S f path e inside h = plain_item_event E item size S f path e inside h
-plain_field_event E U8 size S f path e inside h = let same : 1 ≡ size = some_same 1 size e in unsigned_event w8 S f path (omega arith) h
-plain_field_event E I8 size S f path e inside h = let same : 1 ≡ size = some_same 1 size e in signed_event w8 S f path (omega arith) h
-plain_field_event E Bytes size S f path e inside h = cc
-plain_field_event E (ListOf item) size S f path e inside h = cc
-plain_field_event E (Union index) size S f path e inside h = cc
-plain_field_event E (UnionVector index) size S f path e inside h = cc
-plain_field_event E (Fixed value) size S f path e inside h = cc
-plain_field_event E (FixedList value) size S f path e inside h = cc
-plain_field_event E (Nested index) size S f path e inside h = cc
+plain_field_event E (One item) size S f path e inside = plain_item_event E item size S f path e inside
+plain_field_event E U8 size S f path e inside = let same : 1 ≡ size = some_same 1 size e in unsigned_event w8 S f path (omega arith)
+plain_field_event E I8 size S f path e inside = let same : 1 ≡ size = some_same 1 size e in signed_event w8 S f path (omega arith)
+plain_field_event E Bytes size S f path e inside = cc
+plain_field_event E (ListOf item) size S f path e inside = cc
+plain_field_event E (Union index) size S f path e inside = cc
+plain_field_event E (UnionVector index) size S f path e inside = cc
+plain_field_event E (Fixed value) size S f path e inside = cc
+plain_field_event E (FixedList value) size S f path e inside = cc
+plain_field_event E (Nested index) size S f path e inside = cc
 
 pub plain_stride : (item : Item) (size : ℕ) → plain_size item ≡ Some size → stride_of item ≡ size
 plain_stride U16 size e = some_same 2 size e
@@ -91,18 +90,18 @@ reference_stride Bool e = cc
 reference_stride Text e = refl
 reference_stride (Table index) e = refl
 
-pub text_event : (S : List ℕ) (f : ℕ) (content path : List ℕ) → TextThere S f content → HasNoSpace path → HaveNoFault (leaf_events LeafText S f path)
-text_event S f content path there h =
-    value_event path (leaf_at LeafText S f) (quoted (content_at S f)) (all_pass (text_clauses S f) (text_tests S f) (quoted (content_at S f)) (text_matches S f) (text_holds S f content there).0) h
+pub text_event : (S : List ℕ) (f : ℕ) (content path : List ℕ) → TextThere S f content → HaveNoFault (leaf_events LeafText S f path)
+text_event S f content path there =
+    value_event path (leaf_at LeafText S f) (quoted (content_at S f)) (all_pass (text_clauses S f) (text_tests S f) (quoted (content_at S f)) (text_matches S f) (text_holds S f content there).0)
 
 pub byte_list_matches : (S : List ℕ) (f : ℕ) → Matches (byte_list_clauses S f) (byte_list_tests S f)
 byte_list_matches S f =
     head_matches S f (clause (items_at S f + count_at S f ≤ length S) InvalidLength ∷ []) (test (nat_le (items_at S f + count_at S f) (length S)) InvalidLength ∷ [])
     (le_match (items_at S f + count_at S f) (length S) InvalidLength, tt)
 
-pub byte_list_event : (S : List ℕ) (f : ℕ) (content path : List ℕ) → ByteListThere S f content → HasNoSpace path → HaveNoFault (leaf_events LeafBytes S f path)
-byte_list_event S f content path there h =
-    value_event path (leaf_at LeafBytes S f) (bytes_text (content_at S f)) (all_pass (byte_list_clauses S f) (byte_list_tests S f) (bytes_text (content_at S f)) (byte_list_matches S f) (byte_list_holds S f content there).0) h
+pub byte_list_event : (S : List ℕ) (f : ℕ) (content path : List ℕ) → ByteListThere S f content → HaveNoFault (leaf_events LeafBytes S f path)
+byte_list_event S f content path there =
+    value_event path (leaf_at LeafBytes S f) (bytes_text (content_at S f)) (all_pass (byte_list_clauses S f) (byte_list_tests S f) (bytes_text (content_at S f)) (byte_list_matches S f) (byte_list_holds S f content there).0)
 
 pub vector_matches : (S : List ℕ) (f stride : ℕ) → Matches (vector_clauses S f stride) (vector_tests S f stride)
 vector_matches S f stride =

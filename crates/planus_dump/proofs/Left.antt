@@ -2,13 +2,16 @@
 use Rattle.std.proofs.Common.{◌≡◌, ℕ, ◌+◌, ◌-◌, ◌≤◌, List, [], ◌∷◌, ◌++◌, length, Bool, true, false, Option, Some, cond, refl, sym, ap, ◌∙◌, subst, arith}
 use Rattle.std.specs.Prelude.{nat_lt, ◌==◌}
 use Rattle.std.specs.Option.{unwrap_or}
+use Rattle.std.specs.List.{list_any}
 use Rattle.std.proofs.lemmas.List.{append-nil, append_assoc}
 use Rattle.std.proofs.lemmas.Bool.{ltb-false}
-use Rattle.planus_dump.specs.Events.{Event, line, deep, float}
+use Rattle.planus_dump.specs.Events.{Event, line, faulty, deep, float}
 use Rattle.planus_dump.specs.Dumped.{AreShown}
-use Rattle.planus_dump.specs.Views.{cost, costs, LeavesRoom}
+use Rattle.planus_dump.specs.Faults.{is_fault}
+use Rattle.planus_dump.specs.Views.{cost, costs, IsTold}
 use Rattle.planus_dump.specs.inner.Shown.{Shown, begin, feed, added, by_room}
 use Rattle.planus_dump.specs.declared.line_sink.Stop.{Stop}
+use Rattle.planus_dump.specs.declared.views.End.{End}
 use Rattle.planus_dump.specs.declared.line_sink.Stop.TheVariants.{Going, TooDeep, TooMany, TooLong}
 use Rattle.planus_dump.proofs.Feeds.{feed-stopped, shown_length}
 
@@ -75,15 +78,18 @@ fed_left [] ls budget size = none_left [] ls budget size Going
 fed_left (deep ∷ es) ls budget size = stopped es (deep ∷ es) ls budget size TooDeep (λ x. cc)
 fed_left (line l ∷ es) ls budget size =
     line_left (line l) es ls budget size (λ below. fed_left es (ls ++ line l ∷ []) budget (size - cost (line l)))
+fed_left (faulty l ∷ es) ls budget size =
+    line_left (faulty l) es ls budget size (λ below. fed_left es (ls ++ faulty l ∷ []) budget (size - cost (faulty l)))
 fed_left (float path number ∷ es) ls budget size =
     line_left (float path number) es ls budget size (λ below. fed_left es (ls ++ float path number ∷ []) budget (size - cost (float path number)))
 
-pub leaves_room : (es : List Event) (texts : List (List ℕ)) (most size left : ℕ) (room : Option ℕ)
+pub is_told : (es : List Event) (texts : List (List ℕ)) (most size left : ℕ) (room : Option ℕ) (end : End) (fault : Bool)
     → AreShown (feed (begin most (Some size)) es).lines texts
     → length (feed (begin most (Some size)) es).lines + left ≡ (feed (begin most (Some size)) es).budget
     → room ≡ (feed (begin most (Some size)) es).room
-    → LeavesRoom es texts most size left (unwrap_or room 0)
-leaves_room es texts most size left room shown count is =
+    → fault ≡ list_any is_fault (feed (begin most (Some size)) es).lines
+    → IsTold es texts most size (record { end = end; has_fault = fault; lines_left = left; bytes_left = unwrap_or room 0 })
+is_told es texts most size left room end fault shown count is found =
     let fed = fed_left es [] most size in
     let s = feed (begin most (Some size)) es in
     let many : length texts ≡ length s.lines = shown_length s.lines texts shown in
@@ -93,6 +99,7 @@ leaves_room es texts most size left room shown count is =
     record {
       rest = fed.rest;
       begin = record { front = fed.new; split = fed.split; shown = subst (λ ls. AreShown ls texts) fed.lines shown };
+      fault = found ∙ ap (λ ls. list_any is_fault ls) fed.lines;
       lines_left = omega (arith, many, count, budget);
       bytes_left = omega (arith, sum, same);
     }

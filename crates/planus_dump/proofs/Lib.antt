@@ -6,7 +6,7 @@ mod Writes
 mod Walked
 mod FixedFeeds
 mod FirstLine
-mod FaultLines
+mod GoodSchemas
 mod Written
 mod Leaves
 mod Names

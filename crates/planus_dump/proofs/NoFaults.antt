@@ -30,7 +30,7 @@ use Rattle.planus_dump.specs.Lines.{item_path, field_path}
 use Rattle.planus_dump.specs.Tests.{table_tests}
 use Rattle.planus_dump.specs.Answers.{lone_tag, Seen, SeenItems, SeenUnion, SeenUnions, table_at, union_at, unions_at, tagged_union, union_vector_by, union_vector_at, some_of}
 use Rattle.planus_dump.specs.Events.{Event, field_label, absent_events, no_union_events, wrong_tag, TableEvents, stride_of, variant_of, member_events, item_events, items_events, list_events, place_events, variant_events, union_events, union_field_events, union_items_events, unions_events, present, kind_events, fields_events, table_events, shape_events, events, leaf_events}
-use Rattle.planus_dump.specs.FaultLines.{HasNoSpace, HaveNoFault, IsNoFault}
+use Rattle.planus_dump.specs.Faults.{HaveNoFault, IsNoFault}
 use Rattle.planus_dump.specs.Describes.{plain_size, plain_field_size, IsText, IsByteList, held_at, IsItem, IsListOf, IsReferred, IsField, IsMember, IsVariant, IsTagged, IsUnion, IsVectorOfUnions, IsUnionVector, HasKind, IsTableOf, Describes}
 use Rattle.planus_dump.specs.declared.schemas.Schema.{Schema}
 use Rattle.planus_dump.specs.declared.schemas.TableSchema.{TableSchema}
@@ -45,7 +45,7 @@ use Rattle.planus_dump.specs.declared.schemas.Item.TheVariants.{Text, Table}
 use Rattle.planus_dump.specs.declared.values.Leaf.TheVariants.{Text as LeafText, Bytes as LeafBytes}
 use Rattle.planus_dump.proofs.Matching.{all_pass, le_false, lt_false, eq_false}
 use Rattle.planus_dump.proofs.Answering.{table_matches}
-use Rattle.planus_dump.proofs.FaultLines.{all_append, all_at, lines_told, item_path_no_space, field_path_no_space, HasNames, HasTags}
+use Rattle.planus_dump.proofs.GoodSchemas.{all_append, all_at, HasTags}
 use Rattle.planus_dump.proofs.Written.{list_width, IsNumber, field_number, SameSlot, same_slots, Held, value_held, lists_held, Referred, referred_at, Tagged, tagged_at}
 use Rattle.planus_dump.proofs.Leaves.{plain_item_event, plain_field_event, plain_stride, reference_stride, text_event, byte_list_event, VectorIs, answered_vector, bytes_vector, answered_unions, byte_at}
 
@@ -74,19 +74,19 @@ items_no_fault E item S path (suc n) i each =
     all_append IsNoFault (item_events E item S (i * stride_of item) (item_path path i)) (items_events E item S path n (i + 1))
     (each i (omega arith) (omega arith)) (items_no_fault E item S path n (i + 1) (λ j least below. each j (omega arith) (omega arith)))
 
-list_no_fault : (E : TableEvents) (item : Item) (S : List ℕ) (f : ℕ) (path : List ℕ) → VectorIs (stride_of item) S f → HasNoSpace path
+list_no_fault : (E : TableEvents) (item : Item) (S : List ℕ) (f : ℕ) (path : List ℕ) → VectorIs (stride_of item) S f
     → ((j : ℕ) → j < count_at S f → HaveNoFault (item_events E item (drop (items_at S f) S) (j * stride_of item) (item_path path j)))
     → HaveNoFault (place_events E (ListOf item) S f path)
-list_no_fault E item S f path v h each =
+list_no_fault E item S f path v each =
     subst (λ (a : Result SeenItems (List ℕ)). HaveNoFault (list_events E item path a)) (sym v.is)
-    ((lines_told path h).list (count_at S f), items_no_fault E item (drop (items_at S f) S) path (count_at S f) 0 (λ j least below. each j (omega arith)))
+    (refl, items_no_fault E item (drop (items_at S f) S) path (count_at S f) 0 (λ j least below. each j (omega arith)))
 
-plain_list_no_fault : (E : TableEvents) (item : Item) (size : ℕ) (S : List ℕ) (f : ℕ) (path : List ℕ) → plain_size item ≡ Some size → VectorIs size S f → HasNoSpace path
+plain_list_no_fault : (E : TableEvents) (item : Item) (size : ℕ) (S : List ℕ) (f : ℕ) (path : List ℕ) → plain_size item ≡ Some size → VectorIs size S f
     → HaveNoFault (place_events E (ListOf item) S f path)
-plain_list_no_fault E item size S f path is v h =
+plain_list_no_fault E item size S f path is v =
     let stride : stride_of item ≡ size = plain_stride item size is in
-    list_no_fault E item S f path (subst (λ n. VectorIs n S f) (sym stride) v) h
-    (λ j below. plain_item_event E item size (drop (items_at S f) S) (j * stride_of item) (item_path path j) is (inside_item j below stride) (item_path_no_space path j h))
+    list_no_fault E item S f path (subst (λ n. VectorIs n S f) (sym stride) v)
+    (λ j below. plain_item_event E item size (drop (items_at S f) S) (j * stride_of item) (item_path path j) is (inside_item j below stride))
   where
     inside_item : (j : ℕ) → j < count_at S f → stride_of item ≡ size → j * stride_of item + size ≤ length (drop (items_at S f) S)
     inside_item j below stride =
@@ -96,50 +96,50 @@ plain_list_no_fault E item size S f path is v h =
         subst (λ n. j * n + size ≤ length (drop (items_at S f) S)) (sym stride) (omega (arith, length-drop (items_at S f) S, suc-mul j size))
 
 module _ (steps : List Step) (given : Finish) (values : AllByRecursion (ValueHolds steps given) given.places) (E : TableEvents) (IsTable : ℕ → ℕ → Type 0)
-    (tables : (index n d start f : ℕ) (path : List ℕ) → IsTable index n → value_at given.places n ≡ Some d → Leads given.bytes (start + f) (position_of given.bytes d) → HasNoSpace path
+    (tables : (index n d start f : ℕ) (path : List ℕ) → IsTable index n → value_at given.places n ≡ Some d → Leads given.bytes (start + f) (position_of given.bytes d)
     → HaveNoFault (E index (drop start given.bytes) f path)) where
   text_by : (d start f : ℕ) (path : List ℕ) (step : Step) (v : Value) → IsText (Some step) → value_of given.places step ≡ Some v → ReadsBack given.bytes (at (position_of given.bytes d)) v
-      → Leads given.bytes (start + f) (position_of given.bytes d) → HasNoSpace path → HaveNoFault (leaf_events LeafText (drop start given.bytes) f path)
-  text_by d start f path (text content) v is e reads leads h =
+      → Leads given.bytes (start + f) (position_of given.bytes d) → HaveNoFault (leaf_events LeafText (drop start given.bytes) f path)
+  text_by d start f path (text content) v is e reads leads =
       let same : value.text content ≡ v = cc in
       let back : ReadsBack given.bytes (at (position_of given.bytes d)) (value.text content) = subst (ReadsBack given.bytes (at (position_of given.bytes d))) (sym same) reads in
-      text_event (drop start given.bytes) f content path (back start f leads).there h
-  text_by d start f path _ v is e reads leads h = absurd is
+      text_event (drop start given.bytes) f content path (back start f leads).there
+  text_by d start f path _ v is e reads leads = absurd is
 
-  text_no_fault : (n d start f : ℕ) (path : List ℕ) → IsText (slice_get steps n) → value_at given.places n ≡ Some d → Leads given.bytes (start + f) (position_of given.bytes d) → HasNoSpace path
+  text_no_fault : (n d start f : ℕ) (path : List ℕ) → IsText (slice_get steps n) → value_at given.places n ≡ Some d → Leads given.bytes (start + f) (position_of given.bytes d)
       → HaveNoFault (leaf_events LeafText (drop start given.bytes) f path)
-  text_no_fault n d start f path is e leads h =
+  text_no_fault n d start f path is e leads =
       let held : Held steps given.places given.bytes (at (position_of given.bytes d)) n = value_held steps given values n d e in
-      text_by d start f path held.step held.value (subst IsText held.there is) held.is_value held.reads_back leads h
+      text_by d start f path held.step held.value (subst IsText held.there is) held.is_value held.reads_back leads
 
-  item_no_fault : (item : Item) (n d start f : ℕ) (path : List ℕ) → IsItem steps IsTable item n → value_at given.places n ≡ Some d → Leads given.bytes (start + f) (position_of given.bytes d) → HasNoSpace path
+  item_no_fault : (item : Item) (n d start f : ℕ) (path : List ℕ) → IsItem steps IsTable item n → value_at given.places n ≡ Some d → Leads given.bytes (start + f) (position_of given.bytes d)
       → HaveNoFault (item_events E item (drop start given.bytes) f path)
-  item_no_fault Text n d start f path is e leads h = text_no_fault n d start f path is e leads h
-  item_no_fault (Table index) n d start f path is e leads h = tables index n d start f path is e leads h
-  item_no_fault _ n d start f path is e leads h = absurd is
+  item_no_fault Text n d start f path is e leads = text_no_fault n d start f path is e leads
+  item_no_fault (Table index) n d start f path is e leads = tables index n d start f path is e leads
+  item_no_fault _ n d start f path is e leads = absurd is
 
   byte_list_by : (d start f : ℕ) (path : List ℕ) (step : Step) (v : Value) → IsByteList (Some step) → value_of given.places step ≡ Some v → ReadsBack given.bytes (at (position_of given.bytes d)) v
-      → Leads given.bytes (start + f) (position_of given.bytes d) → HasNoSpace path → HaveNoFault (leaf_events LeafBytes (drop start given.bytes) f path)
-  byte_list_by d start f path (bytes content) v is e reads leads h =
+      → Leads given.bytes (start + f) (position_of given.bytes d) → HaveNoFault (leaf_events LeafBytes (drop start given.bytes) f path)
+  byte_list_by d start f path (bytes content) v is e reads leads =
       let same : value.byte_list content ≡ v = cc in
       let back : ReadsBack given.bytes (at (position_of given.bytes d)) (value.byte_list content) = subst (ReadsBack given.bytes (at (position_of given.bytes d))) (sym same) reads in
-      byte_list_event (drop start given.bytes) f content path (back start f leads).there h
-  byte_list_by d start f path _ v is e reads leads h = absurd is
+      byte_list_event (drop start given.bytes) f content path (back start f leads).there
+  byte_list_by d start f path _ v is e reads leads = absurd is
 
-  byte_list_no_fault : (n d start f : ℕ) (path : List ℕ) → IsByteList (slice_get steps n) → value_at given.places n ≡ Some d → Leads given.bytes (start + f) (position_of given.bytes d) → HasNoSpace path
+  byte_list_no_fault : (n d start f : ℕ) (path : List ℕ) → IsByteList (slice_get steps n) → value_at given.places n ≡ Some d → Leads given.bytes (start + f) (position_of given.bytes d)
       → HaveNoFault (leaf_events LeafBytes (drop start given.bytes) f path)
-  byte_list_no_fault n d start f path is e leads h =
+  byte_list_no_fault n d start f path is e leads =
       let held : Held steps given.places given.bytes (at (position_of given.bytes d)) n = value_held steps given values n d e in
-      byte_list_by d start f path held.step held.value (subst IsByteList held.there is) held.is_value held.reads_back leads h
+      byte_list_by d start f path held.step held.value (subst IsByteList held.there is) held.is_value held.reads_back leads
 
   items_here : (start k position items : ℕ) → start + position ≡ k + 4 → position ≡ items → drop items (drop start given.bytes) ≡ drop (k + 4) given.bytes
   items_here start k position items first is = drop-drop items start given.bytes ∙ ap (λ p. drop p given.bytes) (omega arith)
 
   numbers_by : (item : Item) (d start f : ℕ) (path : List ℕ) (size : ℕ) (o : Option Width) (items : List ℕ) (v : Value) → plain_size item ≡ Some size → ((w : Width) → o ≡ Some w → byte_len w ≡ size)
-      → numbers_value o items ≡ Some v → ReadsBack given.bytes (at (position_of given.bytes d)) v → Leads given.bytes (start + f) (position_of given.bytes d) → HasNoSpace path
+      → numbers_value o items ≡ Some v → ReadsBack given.bytes (at (position_of given.bytes d)) v → Leads given.bytes (start + f) (position_of given.bytes d)
       → HaveNoFault (place_events E (ListOf item) (drop start given.bytes) f path)
-  numbers_by item d start f path size None items v is sizes e reads leads h = cc
-  numbers_by item d start f path size (Some w) items v is sizes e reads leads h = by_fit (list_all (fits_width w) items) e
+  numbers_by item d start f path size None items v is sizes e reads leads = cc
+  numbers_by item d start f path size (Some w) items v is sizes e reads leads = by_fit (list_all (fits_width w) items) e
     where
       by_fit : (fits : Bool) → (if fits then Some (value.plain_list (byte_len w) (byte_len w) (map (to_le_bytes w) items)) else None) ≡ Some v
           → HaveNoFault (place_events E (ListOf item) (drop start given.bytes) f path)
@@ -149,88 +149,88 @@ module _ (steps : List Step) (given : Finish) (values : AllByRecursion (ValueHol
           = subst (ReadsBack given.bytes (at (position_of given.bytes d))) (sym same) reads in
           let list = back start f leads in
           let found = answered_vector (byte_len w) (drop start given.bytes) f _ list.vector in
-          plain_list_no_fault E item size (drop start given.bytes) f path is (subst (λ n. VectorIs n (drop start given.bytes) f) (sizes w refl) found.vector) h
+          plain_list_no_fault E item size (drop start given.bytes) f path is (subst (λ n. VectorIs n (drop start given.bytes) f) (sizes w refl) found.vector)
       by_fit false e = cc
 
   refs_by : (item : Item) (d start f : ℕ) (path : List ℕ) (referred distances : List ℕ) → plain_size item ≡ None → AllByRecursion (IsItem steps IsTable item) referred
       → all_of (value_at given.places) referred ≡ Some distances → ReadsBack given.bytes (at (position_of given.bytes d)) (value.reference_list distances)
-      → Leads given.bytes (start + f) (position_of given.bytes d) → HasNoSpace path → HaveNoFault (place_events E (ListOf item) (drop start given.bytes) f path)
-  refs_by item d start f path referred distances is all e back leads h =
+      → Leads given.bytes (start + f) (position_of given.bytes d) → HaveNoFault (place_events E (ListOf item) (drop start given.bytes) f path)
+  refs_by item d start f path referred distances is all e back leads =
       let k : ℕ = position_of given.bytes d in
       let S : List ℕ = drop start given.bytes in
       let list = back start f leads in
       let found = answered_vector 4 S f _ list.vector in
       let stride : stride_of item ≡ 4 = reference_stride item is in
       let here : drop (items_at S f) S ≡ drop (k + 4) given.bytes = items_here start k list.position (items_at S f) list.first found.position in
-      list_no_fault E item S f path (subst (λ n. VectorIs n S f) (sym stride) found.vector) h
+      list_no_fault E item S f path (subst (λ n. VectorIs n S f) (sym stride) found.vector)
       (λ j below.
       let one : Referred (IsItem steps IsTable item) given.places distances j = referred_at (IsItem steps IsTable item) given.places referred distances e all j (omega (arith, found.count)) in
       subst (λ bytes. HaveNoFault (item_events E item bytes (j * stride_of item) (item_path path j))) (sym here)
       (subst (λ n. HaveNoFault (item_events E item (drop (k + 4) given.bytes) (j * n) (item_path path j))) (sym stride)
-      (item_no_fault item one.step one.distance (k + 4) (j * 4) (item_path path j) one.holds one.is_value (list.each j one.distance one.there).leads (item_path_no_space path j h))))
+      (item_no_fault item one.step one.distance (k + 4) (j * 4) (item_path path j) one.holds one.is_value (list.each j one.distance one.there).leads)))
 
   list_by : (item : Item) (d start f : ℕ) (path : List ℕ) (step : Step) (v : Value) → IsListOf steps IsTable item (Some step) → value_of given.places step ≡ Some v
-      → ReadsBack given.bytes (at (position_of given.bytes d)) v → Leads given.bytes (start + f) (position_of given.bytes d) → HasNoSpace path
+      → ReadsBack given.bytes (at (position_of given.bytes d)) v → Leads given.bytes (start + f) (position_of given.bytes d)
       → HaveNoFault (place_events E (ListOf item) (drop start given.bytes) f path)
-  list_by item d start f path (numbers width items) v is e reads leads h = numbers_by item d start f path width (width_of width) items v is (list_width width) e reads leads h
-  list_by item d start f path (bytes content) v is e reads leads h =
+  list_by item d start f path (numbers width items) v is e reads leads = numbers_by item d start f path width (width_of width) items v is (list_width width) e reads leads
+  list_by item d start f path (bytes content) v is e reads leads =
       let same : value.byte_list content ≡ v = cc in
       let back : ReadsBack given.bytes (at (position_of given.bytes d)) (value.byte_list content) = subst (ReadsBack given.bytes (at (position_of given.bytes d))) (sym same) reads in
-      plain_list_no_fault E item 1 (drop start given.bytes) f path is (bytes_vector (drop start given.bytes) f content (back start f leads).there) h
-  list_by item d start f path (refs referred) v is e reads leads h =
+      plain_list_no_fault E item 1 (drop start given.bytes) f path is (bytes_vector (drop start given.bytes) f content (back start f leads).there)
+  list_by item d start f path (refs referred) v is e reads leads =
       let made = made_of value.reference_list (all_of (value_at given.places) referred) v e in
-      refs_by item d start f path referred made.0 is.0 is.1 made.1 (subst (ReadsBack given.bytes (at (position_of given.bytes d))) (sym made.2) reads) leads h
-  list_by item d start f path _ v is e reads leads h = absurd is
+      refs_by item d start f path referred made.0 is.0 is.1 made.1 (subst (ReadsBack given.bytes (at (position_of given.bytes d))) (sym made.2) reads) leads
+  list_by item d start f path _ v is e reads leads = absurd is
 
   referred_no_fault : (kind : Kind) (n d start f : ℕ) (path : List ℕ) → IsReferred steps IsTable kind n → value_at given.places n ≡ Some d → Leads given.bytes (start + f) (position_of given.bytes d)
-      → HasNoSpace path → HaveNoFault (place_events E kind (drop start given.bytes) f path)
-  referred_no_fault (One item) n d start f path is e leads h = item_no_fault item n d start f path is e leads h
-  referred_no_fault Bytes n d start f path is e leads h = byte_list_no_fault n d start f path is e leads h
-  referred_no_fault (ListOf item) n d start f path is e leads h =
+      → HaveNoFault (place_events E kind (drop start given.bytes) f path)
+  referred_no_fault (One item) n d start f path is e leads = item_no_fault item n d start f path is e leads
+  referred_no_fault Bytes n d start f path is e leads = byte_list_no_fault n d start f path is e leads
+  referred_no_fault (ListOf item) n d start f path is e leads =
       let held : Held steps given.places given.bytes (at (position_of given.bytes d)) n = value_held steps given values n d e in
-      list_by item d start f path held.step held.value (subst (IsListOf steps IsTable item) held.there is) held.is_value held.reads_back leads h
-  referred_no_fault _ n d start f path is e leads h = absurd is
+      list_by item d start f path held.step held.value (subst (IsListOf steps IsTable item) held.there is) held.is_value held.reads_back leads
+  referred_no_fault _ n d start f path is e leads = absurd is
 
   field_no_fault : (required : Bool) (kind : Kind) (content : FieldStep) (field : Field) (k q : ℕ) (path : List ℕ) → IsField steps IsTable required kind (Some content) → field_of given.places content ≡ Some field
-      → FieldStands given.bytes (k + q) field → HasNoSpace path → HaveNoFault (place_events E kind (drop k given.bytes) q path)
-  field_no_fault required kind (number_field size number) field k q path is e stands h =
+      → FieldStands given.bytes (k + q) field → HaveNoFault (place_events E kind (drop k given.bytes) q path)
+  field_no_fault required kind (number_field size number) field k q path is e stands =
       let one : IsNumber size number field = field_number given.places size number field e in
       let there : BytesStand given.bytes (k + q) one.item.bytes = subst (FieldStands given.bytes (k + q)) one.is stands in
       let within : length one.item.bytes ≤ length (drop q (drop k given.bytes)) = stood_inside (drop q (drop k given.bytes)) one.item.bytes (bytes_in_slice given.bytes k q one.item.bytes there) in
-      plain_field_event E kind size (drop k given.bytes) q path is (omega (arith, one.sized, one.some, length-drop q (drop k given.bytes))) h
-  field_no_fault required kind (ref_field n) field k q path is e stands h =
+      plain_field_event E kind size (drop k given.bytes) q path is (omega (arith, one.sized, one.some, length-drop q (drop k given.bytes)))
+  field_no_fault required kind (ref_field n) field k q path is e stands =
       let made = made_of value.reference (value_at given.places n) field e in
       let there : ReferenceStands given.bytes (k + q) made.0 = subst (FieldStands given.bytes (k + q)) (sym made.2) stands in
-      referred_no_fault kind n made.0 k q path is made.1 (references_lead given.bytes (k + q) made.0 there) h
-  field_no_fault required kind (tags_field n) field k q path is e stands h = absurd is
-  field_no_fault required kind (values_field n) field k q path is e stands h = absurd is
+      referred_no_fault kind n made.0 k q path is made.1 (references_lead given.bytes (k + q) made.0 there)
+  field_no_fault required kind (tags_field n) field k q path is e stands = absurd is
+  field_no_fault required kind (values_field n) field k q path is e stands = absurd is
 
   present_no_fault : (schema : Schema) (required : Bool) (kind : Kind) (o : Option FieldStep) (p : Option Field) (k q : ℕ) (path : List ℕ) → IsField steps IsTable required kind o → SameSlot given.places o p
-      → SlotReads given.bytes k q p → HasNoSpace path → HaveNoFault (present E schema required path q (place_events E kind (drop k given.bytes) q path))
-  present_no_fault schema required kind None p k q path is same reads h =
+      → SlotReads given.bytes k q p → HaveNoFault (present E schema required path q (place_events E kind (drop k given.bytes) q path))
+  present_no_fault schema required kind None p k q path is same reads =
       let zero_here : q ≡ 0 = subst (SlotReads given.bytes k q) same reads in
       let test : (q == 0) ≡ true = eq-eqb q 0 zero_here in rw test (absent_is required path is)
-  present_no_fault schema required kind (Some content) p k q path is (field, same, e) reads h =
+  present_no_fault schema required kind (Some content) p k q path is (field, same, e) reads =
       let here : (4 ≤ q) × FieldStands given.bytes (k + q) field = subst (SlotReads given.bytes k q) same reads in
       let least : 4 ≤ q = here.0 in
       let test : (q == 0) ≡ false = eq_false q 0 (λ z. absurd (omega arith)) in
-      rw test (field_no_fault required kind content field k q path is e here.1 h)
+      rw test (field_no_fault required kind content field k q path is e here.1)
 
   member_no_fault : (schema : Schema) (kind : VariantKind) (n d start f : ℕ) (path : List ℕ) → IsMember steps IsTable kind n → value_at given.places n ≡ Some d → Leads given.bytes (start + f) (position_of given.bytes d)
-      → HasNoSpace path → HaveNoFault (member_events E schema kind (drop start given.bytes) f path)
-  member_no_fault schema (member.Table index) n d start f path is e leads h = tables index n d start f path is e leads h
-  member_no_fault schema (member.Struct index) n d start f path is e leads h = absurd is
-  member_no_fault schema member.Text n d start f path is e leads h = text_no_fault n d start f path is e leads h
+      → HaveNoFault (member_events E schema kind (drop start given.bytes) f path)
+  member_no_fault schema (member.Table index) n d start f path is e leads = tables index n d start f path is e leads
+  member_no_fault schema (member.Struct index) n d start f path is e leads = absurd is
+  member_no_fault schema member.Text n d start f path is e leads = text_no_fault n d start f path is e leads
 
   variant_no_fault : (schema : Schema) (o : Option VariantSchema) (tag n d start f : ℕ) (path : List ℕ) → IsVariant steps IsTable o n → value_at given.places n ≡ Some d → Leads given.bytes (start + f) (position_of given.bytes d)
-      → HasNoSpace path → HaveNoFault (variant_events E schema tag (drop start given.bytes) f path o)
-  variant_no_fault schema (Some variant) tag n d start f path is e leads h = ((lines_told path h).union tag (string_bytes variant.name), member_no_fault schema variant.kind n d start f path is e leads h)
-  variant_no_fault schema None tag n d start f path is e leads h = absurd is
+      → HaveNoFault (variant_events E schema tag (drop start given.bytes) f path o)
+  variant_no_fault schema (Some variant) tag n d start f path is e leads = (refl, member_no_fault schema variant.kind n d start f path is e leads)
+  variant_no_fault schema None tag n d start f path is e leads = absurd is
 
   tagged_no_fault : (schema : Schema) (variants : Option (Vec VariantSchema Global)) (tag n d start f : ℕ) (path : List ℕ) → IsTagged steps IsTable variants tag n → value_at given.places n ≡ Some d
-      → Leads given.bytes (start + f) (position_of given.bytes d) → HasNoSpace path → HaveNoFault (union_events E schema variants tag (drop start given.bytes) f path)
-  tagged_no_fault schema (Some variants) tag n d start f path is e leads h = variant_no_fault schema (variant_of variants.items tag) tag n d start f path is e leads h
-  tagged_no_fault schema None tag n d start f path is e leads h = absurd is
+      → Leads given.bytes (start + f) (position_of given.bytes d) → HaveNoFault (union_events E schema variants tag (drop start given.bytes) f path)
+  tagged_no_fault schema (Some variants) tag n d start f path is e leads = variant_no_fault schema (variant_of variants.items tag) tag n d start f path is e leads
+  tagged_no_fault schema None tag n d start f path is e leads = absurd is
 
 record Sees (B : List ℕ) (k : ℕ) (entries : List (ℕ × Field)) (seen : Seen) : Type 0 where
   object : seen.object ≡ drop k B
@@ -386,15 +386,15 @@ least_is_some : (q : ℕ) → 4 ≤ q → q ≢ 0
 least_is_some q least z = absurd (omega arith)
 
 module _ (steps : List Step) (given : Finish) (values : AllByRecursion (ValueHolds steps given) given.places) (E : TableEvents) (IsTable : ℕ → ℕ → Type 0)
-    (tables : (index n d start f : ℕ) (path : List ℕ) → IsTable index n → value_at given.places n ≡ Some d → Leads given.bytes (start + f) (position_of given.bytes d) → HasNoSpace path
+    (tables : (index n d start f : ℕ) (path : List ℕ) → IsTable index n → value_at given.places n ≡ Some d → Leads given.bytes (start + f) (position_of given.bytes d)
     → HaveNoFault (E index (drop start given.bytes) f path))
-    (schema : Schema) (k : ℕ) (entries : List (ℕ × Field)) (seen : Seen) (sees : Sees given.bytes k entries seen) (path : List ℕ) (h : HasNoSpace path) (i : ℕ) (required : Bool)
+    (schema : Schema) (k : ℕ) (entries : List (ℕ × Field)) (seen : Seen) (sees : Sees given.bytes k entries seen) (path : List ℕ) (i : ℕ) (required : Bool)
     (tags_are : AllByRecursion HasTags schema.unions.items) where
   place_no_fault : (kind : Kind) (o : Option FieldStep) → IsField steps IsTable required kind o → SameSlot given.places o (field_at entries i)
       → HaveNoFault (present E schema required path (Slot seen.slots i) (place_events E kind seen.object (Slot seen.slots i) path))
   place_no_fault kind o is same =
       subst (λ bytes. HaveNoFault (present E schema required path (Slot seen.slots i) (place_events E kind bytes (Slot seen.slots i) path))) (sym sees.object)
-      (present_no_fault steps given values E IsTable tables schema required kind o (field_at entries i) k (Slot seen.slots i) path is same (sees.slots i) h)
+      (present_no_fault steps given values E IsTable tables schema required kind o (field_at entries i) k (Slot seen.slots i) path is same (sees.slots i))
 
   absent_no_fault : (kind : Kind) (o : Option FieldStep) (es : List Event) → plain_field_size kind ≡ None → ((n : ℕ) → IsReferred steps IsTable kind n → ⊥)
       → IsField steps IsTable required kind o → SameSlot given.places o (field_at entries i) → HaveNoFault (present E schema required path (Slot seen.slots i) es)
@@ -440,7 +440,7 @@ module _ (steps : List Step) (given : Finish) (values : AllByRecursion (ValueHol
           union_field_by E schema required index seen.object path (wrong_tag schema seen i) (union_at seen i) (Some (record { tag = tag; offset = Slot seen.slots (i + 1) })) some
           (subst (λ bytes. HaveNoFault (union_events E schema (slice_get schema.unions.items index) tag bytes (Slot seen.slots (i + 1)) path)) (sym sees.object)
           (tagged_no_fault steps given values E IsTable tables schema (slice_get schema.unions.items index) tag n d k (Slot seen.slots (i + 1)) path is e
-          (references_lead given.bytes (k + Slot seen.slots (i + 1)) d leads) h))
+          (references_lead given.bytes (k + Slot seen.slots (i + 1)) d leads)))
   union_no_fault index _ _ is same next = absurd is
 
   union_vector_items_no_fault : (index q p t d : ℕ) (step : Step) (v : Value) → IsVectorOfUnions steps IsTable (slice_get schema.unions.items index) (Some step) → value_of given.places step ≡ Some v
@@ -461,7 +461,7 @@ module _ (steps : List Step) (given : Finish) (values : AllByRecursion (ValueHol
       let references_here : drop (items_at S p) S ≡ drop (kv + 4) given.bytes = drop-drop (items_at S p) k given.bytes ∙ ap (λ n. drop n given.bytes) (omega (arith, list.first_reference, found.references)) in
       let answered : some_of (union_vector_at seen.object q p) ≡ Ok (Some vector) = ap (λ bytes. some_of (union_vector_at bytes q p)) sees.object ∙ ap some_of found.is in
       unions_by E schema required index path (some_of (union_vector_at seen.object q p)) (Some vector) answered (
-        (lines_told path h).unions (count_at S q),
+        refl,
         union_items_no_fault E schema index vector path (count_at S q) 0
             (λ j least below.
             let one : Tagged (IsTagged steps IsTable (slice_get schema.unions.items index)) given.places made.0 j
@@ -470,7 +470,7 @@ module _ (steps : List Step) (given : Finish) (values : AllByRecursion (ValueHol
             subst (λ n. HaveNoFault (union_events E schema (slice_get schema.unions.items index) n (drop (items_at S p) S) (j * 4) (item_path path j))) (sym tag)
             (subst (λ bytes. HaveNoFault (union_events E schema (slice_get schema.unions.items index) one.pair.0 bytes (j * 4) (item_path path j))) (sym references_here)
             (tagged_no_fault steps given values E IsTable tables schema (slice_get schema.unions.items index) one.pair.0 one.step one.pair.1 (kv + 4) (j * 4) (item_path path j) one.holds one.is_value
-            (list.each_reference j one.pair one.there).leads (item_path_no_space path j h)))),
+            (list.each_reference j one.pair one.there).leads))),
       )
   union_vector_items_no_fault index q p t d _ v is e reads tags references = absurd is
 
@@ -509,45 +509,45 @@ module _ (steps : List Step) (given : Finish) (values : AllByRecursion (ValueHol
   kind_no_fault fields same (Fixed value) is = absent_no_fault (Fixed value) (held_at fields i) _ refl (λ n refers. refers) is (same i)
   kind_no_fault fields same (FixedList value) is = absent_no_fault (FixedList value) (held_at fields i) _ refl (λ n refers. refers) is (same i)
 
-module _ (steps : List Step) (given : Finish) (values : AllByRecursion (ValueHolds steps given) given.places) (schema : Schema) (names : AllByRecursion HasNames schema.tables.items)
+module _ (steps : List Step) (given : Finish) (values : AllByRecursion (ValueHolds steps given) given.places) (schema : Schema)
     (tags_are : AllByRecursion HasTags schema.unions.items) where
   module _ (E : TableEvents) (IsTable : ℕ → ℕ → Type 0)
-      (tables : (index n d start f : ℕ) (path : List ℕ) → IsTable index n → value_at given.places n ≡ Some d → Leads given.bytes (start + f) (position_of given.bytes d) → HasNoSpace path
+      (tables : (index n d start f : ℕ) (path : List ℕ) → IsTable index n → value_at given.places n ≡ Some d → Leads given.bytes (start + f) (position_of given.bytes d)
       → HaveNoFault (E index (drop start given.bytes) f path)) where
-    fields_no_fault : (k : ℕ) (entries : List (ℕ × Field)) (seen : Seen) → Sees given.bytes k entries seen → (path : List ℕ) → HasNoSpace path → (fields : List (ℕ × FieldStep))
-        → ((j : ℕ) → SameSlot given.places (held_at fields j) (field_at entries j)) → (shape : List FieldSchema) → AllByRecursion (λ field. HasNoSpace (field_label field)) shape
+    fields_no_fault : (k : ℕ) (entries : List (ℕ × Field)) (seen : Seen) → Sees given.bytes k entries seen → (path : List ℕ) → (fields : List (ℕ × FieldStep))
+        → ((j : ℕ) → SameSlot given.places (held_at fields j) (field_at entries j)) → (shape : List FieldSchema)
         → AllByRecursion (λ field. HasKind steps IsTable schema fields field.slot field.required field.kind) shape → HaveNoFault (fields_events E schema seen path shape)
-    fields_no_fault k entries seen sees path h fields same [] named is = tt
-    fields_no_fault k entries seen sees path h fields same (field ∷ shape) named is =
+    fields_no_fault k entries seen sees path fields same [] is = tt
+    fields_no_fault k entries seen sees path fields same (field ∷ shape) is =
         all_append IsNoFault (kind_events E schema field.required field.kind field.slot seen (field_path path (field_label field))) (fields_events E schema seen path shape)
-        (kind_no_fault steps given values E IsTable tables schema k entries seen sees (field_path path (field_label field)) (field_path_no_space path (field_label field) h named.0)
+        (kind_no_fault steps given values E IsTable tables schema k entries seen sees (field_path path (field_label field))
         field.slot field.required tags_are fields same field.kind is.0)
-        (fields_no_fault k entries seen sees path h fields same shape named.1 is.1)
+        (fields_no_fault k entries seen sees path fields same shape is.1)
 
-    table_by : (shape : TableSchema) (d start f : ℕ) (path : List ℕ) (step : Step) (v : Value) → HasNames shape → IsTableOf steps IsTable schema (Some shape) (Some step)
-        → value_of given.places step ≡ Some v → Stands given.bytes (at (position_of given.bytes d)) v → Leads given.bytes (start + f) (position_of given.bytes d) → HasNoSpace path
+    table_by : (shape : TableSchema) (d start f : ℕ) (path : List ℕ) (step : Step) (v : Value) → IsTableOf steps IsTable schema (Some shape) (Some step)
+        → value_of given.places step ≡ Some v → Stands given.bytes (at (position_of given.bytes d)) v → Leads given.bytes (start + f) (position_of given.bytes d)
         → HaveNoFault (shape_events E schema (Some shape) (drop start given.bytes) f path)
-    table_by shape d start f path (table fields) v named is e stands leads h =
+    table_by shape d start f path (table fields) v is e stands leads =
         let made = made_of value.table (fields_of given.places [] greatest_field fields) v e in
         let here : TableStands given.bytes (position_of given.bytes d) made.0 = subst (Stands given.bytes (at (position_of given.bytes d))) (sym made.2) stands in
         let found : Found given.bytes (position_of given.bytes d) start f made.0 = table_found given.bytes (position_of given.bytes d) start f made.0 here leads in
         subst (λ (a : Result Seen (List ℕ)). HaveNoFault (table_events E schema shape path a)) (sym found.is) (
-          (lines_told path h).table (string_bytes shape.name),
-          fields_no_fault (position_of given.bytes d) made.0 found.seen found.sees path h fields (same_slots given.places [] greatest_field fields made.0 made.1) shape.fields.items named is,
+          refl,
+          fields_no_fault (position_of given.bytes d) made.0 found.seen found.sees path fields (same_slots given.places [] greatest_field fields made.0 made.1) shape.fields.items is,
         )
-    table_by shape d start f path _ v named is e stands leads h = absurd is
+    table_by shape d start f path _ v is e stands leads = absurd is
 
-    shape_by : (o : Option TableSchema) (n d start f : ℕ) (path : List ℕ) → ((shape : TableSchema) → o ≡ Some shape → HasNames shape) → IsTableOf steps IsTable schema o (slice_get steps n)
-        → value_at given.places n ≡ Some d → Leads given.bytes (start + f) (position_of given.bytes d) → HasNoSpace path → HaveNoFault (shape_events E schema o (drop start given.bytes) f path)
-    shape_by None n d start f path named is e leads h = tt
-    shape_by (Some shape) n d start f path named is e leads h =
+    shape_by : (o : Option TableSchema) (n d start f : ℕ) (path : List ℕ) → IsTableOf steps IsTable schema o (slice_get steps n)
+        → value_at given.places n ≡ Some d → Leads given.bytes (start + f) (position_of given.bytes d) → HaveNoFault (shape_events E schema o (drop start given.bytes) f path)
+    shape_by None n d start f path is e leads = tt
+    shape_by (Some shape) n d start f path is e leads =
         let held : Held steps given.places given.bytes (at (position_of given.bytes d)) n = value_held steps given values n d e in
-        table_by shape d start f path held.step held.value (named shape refl) (subst (IsTableOf steps IsTable schema (Some shape)) held.there is) held.is_value held.stands leads h
+        table_by shape d start f path held.step held.value (subst (IsTableOf steps IsTable schema (Some shape)) held.there is) held.is_value held.stands leads
 
   pub tables_no_fault : (left index n d start f : ℕ) (path : List ℕ) → Describes schema steps left index n → value_at given.places n ≡ Some d → Leads given.bytes (start + f) (position_of given.bytes d)
-      → HasNoSpace path → HaveNoFault (events schema left index (drop start given.bytes) f path)
+      → HaveNoFault (events schema left index (drop start given.bytes) f path)
   unfolding events Describes
-  tables_no_fault zero index n d start f path is e leads h = (tt, tt)
-  tables_no_fault (suc left) index n d start f path is e leads h =
+  tables_no_fault zero index n d start f path is e leads = (refl, tt)
+  tables_no_fault (suc left) index n d start f path is e leads =
       shape_by (events schema left) (Describes schema steps left) (tables_no_fault left) (slice_get schema.tables.items index) n d start f path
-      (λ shape there. all_at HasNames schema.tables.items index shape names there) is e leads h
+      is e leads

@@ -8,10 +8,10 @@ use Rattle.std.proofs.lemmas.Grind.{flat_map-append}
 use Rattle.std.specs.Result.{IsOk, OnErr}
 use Rattle.planus_dump.specs.Dumped.{AreShown, events_of}
 use Rattle.planus_dump.specs.Events.{Event}
-use Rattle.planus_dump.specs.FaultLines.{is_fault_line}
+use Rattle.planus_dump.specs.Faults.{is_fault}
 use Rattle.planus_dump.specs.Schemas.{is_good}
 use Rattle.std.specs.Option.{unwrap_or}
-use Rattle.planus_dump.specs.Views.{LeavesRoom, EndsBy, lines_text, WritesView, BeginsView, FailsView}
+use Rattle.planus_dump.specs.Views.{IsTold, EndsBy, lines_text, WritesView, BeginsView, FailsView}
 use Rattle.planus_dump.specs.Writing.{WritesBeginning}
 use Rattle.planus_dump.specs.declared.line_sink.LineSink.{LineSink}
 use Rattle.planus_dump.specs.declared.line_writer.LineWriter.{LineWriter}
@@ -26,7 +26,7 @@ use Rattle.planus_dump.specs.inner.Feeding.{Outcome, Shows, Fed}
 use Rattle.planus_dump.specs.inner.Writes.{WritesOn, BeginsOn, Writes, WritesPart}
 use Rattle.planus_dump.proofs.Ending.{ends_by, are_lines, lines_after}
 use Rattle.planus_dump.proofs.Feeds.{AreLines, Answered, walked, some_line, some_lines_shown}
-use Rattle.planus_dump.proofs.Left.{leaves_room}
+use Rattle.planus_dump.proofs.Left.{is_told}
 use Rattle.planus_dump.proofs.Walked.{shown_after}
 use Rattle.planus_dump.proofs.Writes.{shown-append, begins_more, on_begun}
 
@@ -45,8 +45,7 @@ module _ {W : Type 0} (contents : W → Option (List ℕ)) where
   pub record Wrote (start : LineWriter W) (es : List Event) (most size : ℕ) (out : LineSink (LineWriter W)) : Type 0 where
     pub lines : List (List ℕ)
     pub ends : EndsBy (end_of out.stop) es lines most size
-    pub left : LeavesRoom es lines most size out.left (unwrap_or out.room 0)
-    pub fault : out.lines.has_fault ≡ list_any is_fault_line lines
+    pub told : (end : End) → IsTold es lines most size (record { end = end; has_fault = out.lines.has_fault; lines_left = out.left; bytes_left = unwrap_or out.room 0 })
     pub written : WritesOn contents start (lines_text lines) out.lines
 
   pub record Began (start : LineWriter W) (es : List Event) (most size : ℕ) (out : LineSink (LineWriter W)) : Type 0 where
@@ -74,8 +73,7 @@ module _ {W : Type 0} (contents : W → Option (List ℕ)) where
       record {
         lines = did.lines;
         ends = subst (λ stop. EndsBy (end_of stop) es did.lines most size) (sym shows.stop) (ends_by es s.lines did.lines most size s.stop answered did.shown);
-        left = leaves_room es did.lines most size out.left out.room did.shown shows.left shows.room;
-        fault = did.fault ∙ ap (λ b. b || list_any is_fault_line did.lines) new.fault;
+        told = λ end. is_told es did.lines most size out.left out.room end out.lines.has_fault did.shown shows.left shows.room (did.fault ∙ ap (λ b. b || list_any is_fault s.lines) new.fault);
         written = did.written;
       }
 
@@ -122,8 +120,7 @@ module _ {W : Type 0} (contents : W → Option (List ℕ)) where
       record {
         lines = did.lines;
         viewed = record { good = good; ends = subst (λ end. EndsBy end (events_of schema bytes) did.lines most size) (sym ended) did.ends };
-        fault = did.fault;
-        left = did.left;
+        told = did.told end;
         written = subst (λ w. Appends (contents start.writer.now) (contents w) (lines_text did.lines)) (sym (there did.written.same))
             (subst (Appends (contents start.writer.now) (contents mid)) (sym (ap (λ l. l ++ lines_text did.lines) (sym new.block) ∙ split))
             (Appends-trans _ _ _ front out.lines.block.items added rest));

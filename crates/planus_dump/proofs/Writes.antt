@@ -9,7 +9,7 @@ use Rattle.std.proofs.lemmas.Grind.{flat_map-append}
 use Rattle.std.proofs.lemmas.List.Folds.{list_any-append}
 use Rattle.planus_dump.specs.Dumped.{Shows, AreShown}
 use Rattle.planus_dump.specs.Events.{Event, deep}
-use Rattle.planus_dump.specs.FaultLines.{is_fault_line}
+use Rattle.planus_dump.specs.Faults.{is_fault}
 use Rattle.planus_dump.specs.Views.{lines_text}
 use Rattle.planus_dump.specs.declared.line_writer.LineWriter.{LineWriter}
 use Rattle.planus_dump.specs.inner.Taking.{Puts}
@@ -76,13 +76,13 @@ module _ {W : Type 0} (contents : W → Option (List ℕ)) where
   pushes_broken o m a b (Err error) first is = begins_more o m a b first
 
   pub writes_one : (start old new : LineWriter W) (es : List Event) (e : Event) (text : List ℕ) → Writes contents start es old → Shows e text → WritesOn contents old (text ++ 10 ∷ []) new
-      → new.has_fault ≡ (old.has_fault || is_fault_line text) → Writes contents start (es ++ e ∷ []) new
+      → new.has_fault ≡ (old.has_fault || is_fault e) → Writes contents start (es ++ e ∷ []) new
   writes_one start old new es e text before shows on fault = record {
     lines = before.lines ++ text ∷ [];
     shown = shown-append es (e ∷ []) before.lines (text ∷ []) before.shown (shows, tt);
     written = subst (λ bytes. WritesOn contents start bytes new) (sym (one_more before.lines text)) (on_then start old new (lines_text before.lines) (text ++ 10 ∷ []) before.written on);
-    fault = fault ∙ ap (λ b. b || is_fault_line text) before.fault ∙ or-assoc start.has_fault (list_any is_fault_line before.lines) (is_fault_line text)
-        ∙ ap (λ b. start.has_fault || b) (ap (λ b. list_any is_fault_line before.lines || b) (sym (or-false (is_fault_line text))) ∙ sym (list_any-append is_fault_line before.lines (text ∷ [])));
+    fault = fault ∙ ap (λ b. b || is_fault e) before.fault ∙ or-assoc start.has_fault (list_any is_fault es) (is_fault e)
+        ∙ ap (λ b. start.has_fault || b) (ap (λ b. list_any is_fault es || b) (sym (or-false (is_fault e))) ∙ sym (list_any-append is_fault es (e ∷ [])));
   }
 
   pub part_one : (start old new : LineWriter W) (es : List Event) (e : Event) (text : List ℕ) → Writes contents start es old → Shows e text → BeginsOn contents old (text ++ 10 ∷ []) new
@@ -108,8 +108,8 @@ module _ {W : Type 0} (contents : W → Option (List ℕ)) where
   put_refused old e r h is = put_broken old old e (some_line e) r (some_line_shows e h) (begins_none old old (some_line e ++ 10 ∷ []) refl) is
 
   pub put_done : {U : Type 0} (E : Type 0) (old mid new : LineWriter W) (e : Event) (text : List ℕ) (u : U) → Shows e text → WritesOn contents old (text ++ 10 ∷ []) mid × (mid.has_fault ≡ old.has_fault)
-      → new ≡ record mid { has_fault = mid.has_fault || is_fault_line text } → Puts {E = E} (Writes contents) (WritesPart contents) old e (Ok u) new
+      → new ≡ record mid { has_fault = mid.has_fault || is_fault e } → Puts {E = E} (Writes contents) (WritesPart contents) old e (Ok u) new
   put_done E old mid new e text u shows on is = λ start es before.
       writes_one start old new es e text before shows
       (subst (λ w. WritesOn contents old (text ++ 10 ∷ []) w) (sym is) (record { same = on.0.same; leaves = on.0.leaves }))
-      (ap (λ (w : LineWriter W). w.has_fault) is ∙ ap (λ b. b || is_fault_line text) on.1)
+      (ap (λ (w : LineWriter W). w.has_fault) is ∙ ap (λ b. b || is_fault e) on.1)

@@ -3,7 +3,7 @@ use Rattle.std.specs.Prelude.{◌≡◌, ◌≢◌, ℕ, ◌<◌, ◌≤◌, Lis
 use Rattle.std.specs.Prelude.{Result, Ok, Err, Vec, String, true, false}
 use Rattle.std.specs.String.{string_bytes}
 use Rattle.std.specs.declared.alloc.Global.{Global}
-use Rattle.planus_dump.specs.Events.{Event, line, deep, float, events}
+use Rattle.planus_dump.specs.Events.{Event, line, faulty, deep, float, events}
 use Rattle.planus_dump.specs.Floats.{PrintsFloat}
 use Rattle.planus_dump.specs.Lines.{value_line}
 use Rattle.planus_dump.specs.Schemas.{is_good}
@@ -23,6 +23,7 @@ events_of schema bytes = events schema greatest_depth schema.root bytes 0 (codes
 -- an event's own line, or a path and the text of a float
 abbrev pub Shows : Event → List ℕ → Type 0
 Shows (line l) shown = shown ≡ l
+Shows (faulty l) shown = shown ≡ l
 Shows deep shown = ⊥
 Shows (float path number) shown =
     (text : List ℕ) × (shown ≡ value_line path text) × PrintsFloat number text

@@ -49,20 +49,22 @@ use Rattle.planus_dump.specs.declared.values.Leaf.TheVariants.{I32 as LeafI32, I
 use Rattle.planus_dump.specs.declared.values.Leaf.TheVariants.{Bool as LeafBool, Text as LeafText}
 use Rattle.planus_dump.specs.declared.values.Leaf.TheVariants.{Bytes as LeafBytes}
 
--- a line, the mark of a table or a struct that is too deep and isn't read, or a float at a path
+-- a line, one that states an error, the mark of a table or a struct that is too deep and isn't read,
+-- or a float at a path
 pub data Event : Type 0 where
   line : List ℕ → Event
+  faulty : List ℕ → Event
   deep : Event
   float : List ℕ → Bits → Event
 
 -- the name of a field in its path
 abbrev pub field_label : FieldSchema → List ℕ
 field_label field =
-    if field.deprecated then string_bytes field.name ++ codes "(deprecated)"
+    if field.deprecated then string_bytes field.name ++ codes " (deprecated)"
     else string_bytes field.name
 
 abbrev pub fault_event : List ℕ → List ℕ → Event
-fault_event path fault = line (fault_line path fault)
+fault_event path fault = faulty (fault_line path fault)
 
 -- the line for a field that is required and absent; none for another
 abbrev pub absent_events : Truth → List ℕ → List Event

@@ -8,7 +8,7 @@ pub mod Events
 pub mod ReadingViews
 pub mod Dumped
 pub mod Views
-pub mod FaultLines
+pub mod Faults
 pub mod Describes
 pub mod Laws
 pub mod Shapes

@@ -1,17 +1,15 @@
 -- The dump of what steps finish.
-use Rattle.std.specs.Prelude.{◌≡◌, ℕ, List, [], ◌∷◌, slice_get, false, Vec, String}
+use Rattle.std.specs.Prelude.{◌≡◌, ℕ, List, [], ◌∷◌, slice_get, Vec, String}
 use Rattle.std.specs.Prelude.{Option, Some, None, Result, Ok, Err}
-use Rattle.std.specs.List.{AllByRecursion}
-use Rattle.std.specs.String.{string_bytes}
 use Rattle.std.specs.declared.alloc.Global.{Global}
 use Rattle.planus_write.specs.Shared.{CacheSettings}
 use Rattle.planus.specs.Steps.{Step, root_first}
 use Rattle.planus.specs.Runs.{Finish}
 use Rattle.planus.specs.Replays.{Replays}
 use Rattle.planus.specs.FinishHolds.{FinishHolds, finishes_of}
-use Rattle.planus_dump.specs.FaultLines.{is_fault_line}
+use Rattle.planus_dump.specs.Faults.{HaveNoFault}
 use Rattle.planus_dump.specs.Describes.{Fits}
-use Rattle.planus_dump.specs.Dumped.{Dumped}
+use Rattle.planus_dump.specs.Dumped.{Dumped, events_of}
 use Rattle.planus_dump.specs.declared.schemas.Schema.{Schema}
 use Rattle.planus_dump.specs.declared.dumps.DumpError.{DumpError}
 use Rattle.planus_dump.specs.declared.runs.DumpRunError.{DumpRunError}
@@ -26,7 +24,7 @@ pub record DumpsFirst
   pub run : Replays settings steps (Ok (given ∷ others))
   pub dumped : Dumped schema given.bytes budget answer
 
--- the dump has no error line, if the schema fits the root's step
+-- no line of the dump states an error, if the schema fits the root's step
 pub record DumpsFit
     (settings : CacheSettings) (steps : List Step) (schema : Schema) (budget : ℕ)
     (lines : Vec (String Global) Global) : Type 0 where
@@ -35,7 +33,7 @@ pub record DumpsFit
   pub of_first : slice_get (finishes_of steps) 0 ≡ Some holds.number
   pub no_fault :
       holds.front ≡ root_first → Fits schema steps holds.root
-      → AllByRecursion (λ line. is_fault_line (string_bytes line) ≡ false) lines.items
+      → HaveNoFault (events_of schema first.given.bytes)
 
 -- the error of the run, none without a finish, or the first finish's result
 abbrev pub DumpsRun :

@@ -3,9 +3,9 @@ use Rattle.std.specs.Prelude.{◌≡◌, ◌≢◌, ℕ, ◌+◌, ◌<◌, ◌�
 use Rattle.std.specs.Prelude.{Option}
 use Rattle.std.specs.List.{flat_map, list_any}
 use Rattle.std.specs.Io.KnownBytes.{Appends, Keeps}
-use Rattle.planus_dump.specs.Events.{Event, line, deep, float}
+use Rattle.planus_dump.specs.Events.{Event, line, faulty, deep, float}
 use Rattle.planus_dump.specs.Dumped.{Begin, events_of}
-use Rattle.planus_dump.specs.FaultLines.{is_fault_line}
+use Rattle.planus_dump.specs.Faults.{is_fault}
 use Rattle.planus_dump.specs.Schemas.{is_good}
 use Rattle.planus_dump.specs.Writing.{WritesBeginning}
 use Rattle.planus_dump.specs.declared.schemas.Schema.{Schema}
@@ -18,6 +18,7 @@ use Rattle.planus_dump.specs.declared.view_error.ViewError.TheVariants as errors
 -- the bytes of a line; the text of a float counts 32
 abbrev pub cost : Event → ℕ
 cost (line l) = length l
+cost (faulty l) = length l
 cost deep = 0
 cost (float path number) = length path + 35
 
@@ -54,22 +55,22 @@ pub record Viewed (schema : Schema) (bytes : List ℕ) (most size : ℕ)
 abbrev pub lines_text : List (List ℕ) → List ℕ
 lines_text lines = flat_map (λ line. line ++ 10 ∷ []) lines
 
--- The lines are those of the first events, and leave so many lines and bytes of what is wanted.
-pub record LeavesRoom (es : List Event) (lines : List (List ℕ)) (most size more room : ℕ) : Type 0
+-- The lines are those of the first events. It is told whether one states an error, and how many lines
+-- and bytes are left of what is wanted.
+pub record IsTold (es : List Event) (lines : List (List ℕ)) (most size : ℕ) (seen : Seen) : Type 0
   where
     pub rest : List Event
     pub begin : Begin es lines rest
-    pub lines_left : length lines + more ≡ most
-    pub bytes_left : costs begin.front + room ≡ size
+    pub fault : seen.has_fault ≡ list_any is_fault begin.front
+    pub lines_left : length lines + seen.lines_left ≡ most
+    pub bytes_left : costs begin.front + seen.bytes_left ≡ size
 
--- The first lines of the buffer were written, and it is told whether one states an error, and how
--- much is left of what is wanted.
+-- The first lines of the buffer were written, and what `seen` tells of them is so.
 pub record WritesView (schema : Schema) (bytes : List ℕ) (most size : ℕ) (seen : Seen)
     (before after : Option (List ℕ)) : Type 0 where
   pub lines : List (List ℕ)
   pub viewed : Viewed schema bytes most size lines seen.end
-  pub fault : seen.has_fault ≡ list_any is_fault_line lines
-  pub left : LeavesRoom (events_of schema bytes) lines most size seen.lines_left seen.bytes_left
+  pub told : IsTold (events_of schema bytes) lines most size seen
   pub written : Appends before after (lines_text lines)
 
 -- a beginning of the first lines of the buffer was written, and nothing else

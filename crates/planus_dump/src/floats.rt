@@ -115,7 +115,7 @@ pub fn line_text(alloc: Global, line: Line) -> Result<String, AllocError>
     ensures { IfOk result (λ text. Shows (event_of line) (string_bytes text)) }
 {
     match line {
-        Line::Text(text) => Ok(text),
+        Line::Text(text) | Line::Fault(text) => Ok(text),
         Line::Float(path, bits) => {
             let text = float_text(alloc, bits)?;
             format!(in alloc; "{path} = {text}")

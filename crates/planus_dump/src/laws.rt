@@ -1,26 +1,16 @@
 //! Laws over dumps. Each function is a theorem.
 
 ghost use Rattle.std.specs.Prelude.{List, ℕ};
-ghost use Rattle.planus_dump.specs.FaultLines.{HasNoSpace};
 ghost use Rattle.planus_read.specs.declared.table_reader.Table as reader;
 ghost use Rattle.planus_dump.specs.AsRead.{ReadingsAreSaid, UnionsAreSaid, UnionVectorsAreSaid};
 ghost use Rattle.planus_dump.specs.AsRead.{FloatsAreSaid, EnumsAreSaid, StructsAreSaid};
 ghost use Rattle.planus_dump.specs.AsRead.{LedStructsAreSaid, BuffersAreSaid, FlagsAreSaid};
-ghost use Rattle.planus_dump.specs.Laws.{FaultLinesAreTold, PathsHaveNoSpace};
-ghost use Rattle.planus_dump.specs.Laws.{FinishesHaveNoFault, DumpsHaveNoFault};
+ghost use Rattle.planus_dump.specs.Laws.{FinishesHaveNoFault};
 
-/// The line of an error, and no other, has a `!` after its first space. No path of a good schema
-/// has a space.
-pub fn fault_lines_are_told()
-    ensures lines { (path : List ℕ) → HasNoSpace path → FaultLinesAreTold path }
-    ensures paths { PathsHaveNoSpace }
-{}
-
-/// What a run finished dumps without an error line, if the schema fits what its root's step wrote;
+/// What a run finished dumps without a line that states an error, if the schema fits what its root's step wrote;
 /// for a size-prefixed finish, the bytes after the size.
 pub fn finishes_have_no_fault()
-    ensures events { FinishesHaveNoFault }
-    ensures lines { DumpsHaveNoFault }
+    ensures { FinishesHaveNoFault }
 {}
 
 /// A dump prints what the readers of `planus_read` return: the value, or else the message of the

@@ -1,7 +1,7 @@
 //! The lines so far, as many as are wanted.
 ghost use Rattle.std.specs.Prelude.{◌≡◌, ◌≤◌, ◌++◌, ◌∷◌, [], OnOk, IfOk, length};
 ghost use Rattle.std.specs.String.{string_bytes};
-ghost use Rattle.planus_dump.specs.Events.{line, deep, float};
+ghost use Rattle.planus_dump.specs.Events.{line, faulty, deep, float};
 ghost use Rattle.planus_dump.specs.Lines.{value_text};
 ghost use Rattle.planus_dump.specs.Lines.{value_line, fault_line, table_line, list_line};
 ghost use Rattle.planus_dump.specs.Lines.{union_line, unions_line, struct_line, variant_text};
@@ -233,6 +233,29 @@ impl<L: Lines> LineSink<L> {
         self.put(text)
     }
 
+    fn put_faulty(&mut self, text: String) -> Result<(), SinkError>
+        ensures { Feeds L.takes L.breaks self.old (faulty (string_bytes text) ∷ [])
+            result self.new }
+    {
+        if !self.may_make(text.len()) {
+            return Ok(());
+        }
+        self.take(Line::Fault(text))
+    }
+
+    /// The text is made only if it is taken.
+    fn put_error(&mut self, path: &str, error: &str) -> Result<(), SinkError>
+        ensures { Feeds L.takes L.breaks self.old
+            (faulty (fault_line path.now error.now) ∷ []) result self.new }
+    {
+        let size = path.len().saturating_add(3).saturating_add(error.len());
+        if !self.may_make(size) {
+            return Ok(());
+        }
+        let text = joined(self.alloc, path, " ! ", error, size)?;
+        self.put_faulty(text)
+    }
+
     pub fn put_float(&mut self, path: &str, bits: Bits) -> Result<(), SinkError>
         ensures { Feeds L.takes L.breaks self.old (float path.now bits ∷ []) result self.new }
     {
@@ -315,27 +338,27 @@ impl<L: Lines> LineSink<L> {
     /// `value` is a number that no value of its enum has.
     pub fn put_unknown(&mut self, path: &str, value: Value<'_>) -> Result<(), SinkError>
         ensures { Feeds L.takes L.breaks self.old
-            (line (fault_line path.now (unknown_enum_text (value_text value.entry))) ∷ [])
+            (faulty (fault_line path.now (unknown_enum_text (value_text value.entry))) ∷ [])
             result self.new }
     {
-        let rest = unknown_text(self.alloc, value)?;
-        self.put_joined(path, " ! ", rest.as_str())
+        let error = unknown_text(self.alloc, value)?;
+        self.put_error(path, error.as_str())
     }
 
     /// `tag` is that of a union without a value.
     pub fn put_lone_tag(&mut self, path: &str, tag: u8) -> Result<(), SinkError>
         ensures { Feeds L.takes L.breaks self.old
-            (line (fault_line path.now (lone_tag_text tag)) ∷ []) result self.new }
+            (faulty (fault_line path.now (lone_tag_text tag)) ∷ []) result self.new }
     {
-        let rest = format!(in self.alloc; "Union without a value (tag = {tag})")?;
-        self.put_joined(path, " ! ", rest.as_str())
+        let error = format!(in self.alloc; "Union without a value (tag = {tag})")?;
+        self.put_error(path, error.as_str())
     }
 
     pub fn put_fault(&mut self, path: &str, kind: ErrorKind) -> Result<(), SinkError>
         ensures { Feeds L.takes L.breaks self.old
-            (line (fault_line path.now (fault_text kind)) ∷ []) result self.new }
+            (faulty (fault_line path.now (fault_text kind)) ∷ []) result self.new }
     {
-        let rest = message(self.alloc, kind)?;
-        self.put_joined(path, " ! ", rest.as_str())
+        let error = message(self.alloc, kind)?;
+        self.put_error(path, error.as_str())
     }
 }

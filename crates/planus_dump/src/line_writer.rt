@@ -1,6 +1,5 @@
 //! Lines that are written as they come.
 ghost use Rattle.std.specs.Prelude.{◌≡◌, ◌||◌, ◌++◌, ◌∷◌, [], false, OnOk};
-ghost use Rattle.planus_dump.specs.FaultLines as spec;
 ghost use Rattle.planus_dump.specs.inner.Writes.{Pushes, Writes, WritesPart};
 
 use crate::floats::line_text;
@@ -23,28 +22,6 @@ pub struct LineWriter<'w, W> {
     pub block: Vec<u8>,
     /// Whether a line states an error.
     pub has_fault: bool,
-}
-
-fn begins_with_mark(bytes: &[u8]) -> bool
-    ensures { result ≡ spec.begins_with 33 bytes.now }
-{
-    match bytes.split_first() {
-        Some((byte, _)) => *byte == b'!',
-        None => false,
-    }
-}
-
-fn is_fault_line(line: &[u8]) -> bool
-    ensures { result ≡ spec.is_fault_line line.now }
-{
-    let mut rest = line;
-    while let Some((byte, after)) = rest.split_first() {
-        if *byte == b' ' {
-            return begins_with_mark(after);
-        }
-        rest = after;
-    }
-    false
 }
 
 impl<'w, W: Write> LineWriter<'w, W> {
@@ -113,12 +90,10 @@ impl<'w, W: Write> LineWriter<'w, W> {
         self.push(b"\n")
     }
 
-    fn note(&mut self, line: &[u8])
-        ensures { self.new ≡ record self.old {
-          has_fault = self.old.has_fault || spec.is_fault_line line.now;
-        } }
+    fn note(&mut self, is_fault: bool)
+        ensures { self.new ≡ record self.old { has_fault = self.old.has_fault || is_fault } }
     {
-        if is_fault_line(line) {
+        if is_fault {
             self.has_fault = true;
         }
     }
@@ -130,9 +105,10 @@ impl<W: Write> Lines for LineWriter<'_, W> {
     ghost breaks = { WritesPart W.contents };
 
     fn put(&mut self, line: Line) -> Result<(), SinkError> {
+        let is_fault = line.is_fault();
         let text = line_text(self.alloc, line)?;
         self.push_line(text.as_bytes())?;
-        self.note(text.as_bytes());
+        self.note(is_fault);
         Ok(())
     }
 }

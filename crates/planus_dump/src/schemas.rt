@@ -36,7 +36,7 @@ pub struct FieldSchema {
     pub name: String,
     /// How the field is read.
     pub kind: Kind,
-    /// Whether `(deprecated)` is printed after the name.
+    /// Whether ` (deprecated)` is printed after the name.
     pub deprecated: bool,
     /// Whether a table without the field is wrong.
     pub required: bool,

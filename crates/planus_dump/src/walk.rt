@@ -93,7 +93,7 @@ fn field_path(alloc: Global, path: &str, field: &FieldSchema) -> Result<String, 
         ≡ lines_spec.field_path path.now (spec.field_label field.now)) }
 {
     if field.deprecated {
-        format!(in alloc; "{path}.{}(deprecated)", field.name)
+        format!(in alloc; "{path}.{} (deprecated)", field.name)
     } else {
         format!(in alloc; "{path}.{}", field.name)
     }

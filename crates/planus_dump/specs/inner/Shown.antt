@@ -2,15 +2,16 @@
 use Rattle.std.specs.Prelude.{ℕ, ◌-◌, nat_lt, Option, Some, None, List, [], ◌∷◌, ◌++◌, length}
 use Rattle.std.specs.Prelude.{if◌then◌else◌, ◌==◌}
 use Rattle.std.specs.String.{string_bytes}
-use Rattle.planus_dump.specs.Events.{Event, line, deep, float}
+use Rattle.planus_dump.specs.Events.{Event, line, faulty, deep, float}
 use Rattle.planus_dump.specs.declared.line.Line.{Line}
-use Rattle.planus_dump.specs.declared.line.Line.TheVariants.{Text, Float}
+use Rattle.planus_dump.specs.declared.line.Line.TheVariants.{Text, Fault, Float}
 use Rattle.planus_dump.specs.Views.{cost}
 use Rattle.planus_dump.specs.declared.line_sink.Stop.{Stop}
 use Rattle.planus_dump.specs.declared.line_sink.Stop.TheVariants.{Going, TooDeep, TooMany, TooLong}
 
 abbrev pub event_of : Line → Event
 event_of (Text text) = line (string_bytes text)
+event_of (Fault text) = faulty (string_bytes text)
 event_of (Float path number) = float (string_bytes path) number
 
 -- the lines so far, their greatest number, the bytes left, and whether the walk goes on
@@ -36,6 +37,7 @@ added s e =
 abbrev pub going : Shown → Event → Shown
 going s deep = record s { stop = TooDeep }
 going s (line l) = added s (line l)
+going s (faulty l) = added s (faulty l)
 going s (float path number) = added s (float path number)
 
 abbrev pub step_at : Shown → Stop → Event → Shown

@@ -3,7 +3,7 @@ use Rattle.std.specs.Prelude.{◌≡◌, ℕ, ◌||◌, List, ◌++◌, Option, 
 use Rattle.std.specs.List.{list_any}
 use Rattle.planus_dump.specs.Dumped.{AreShown}
 use Rattle.planus_dump.specs.Events.{Event}
-use Rattle.planus_dump.specs.FaultLines.{is_fault_line}
+use Rattle.planus_dump.specs.Faults.{is_fault}
 use Rattle.planus_dump.specs.Views.{lines_text}
 use Rattle.planus_dump.specs.Writing.{WritesBeginning, Leaves}
 use Rattle.planus_dump.specs.declared.line_writer.LineWriter.{LineWriter}
@@ -30,7 +30,7 @@ module _ {W : Type 0} (contents : W → Option (List ℕ)) where
     pub lines : List (List ℕ)
     pub shown : AreShown es lines
     pub written : WritesOn start (lines_text lines) now
-    pub fault : now.has_fault ≡ start.has_fault || list_any is_fault_line lines
+    pub fault : now.has_fault ≡ start.has_fault || list_any is_fault es
 
   -- a beginning of these lines was written
   pub record WritesPart (start : LineWriter W) (es : List Event) (now : LineWriter W) : Type 0 where

@@ -16,8 +16,7 @@ returns-clause-shown g c =
     record {
       lines = view.lines;
       viewed = view.viewed;
-      fault = view.fault;
-      left = view.left;
+      told = view.told;
       written = Appends-trans (contents c.args.writer.now) between after (lines_text view.lines) (end_text end) view.written
           (subst (Appends between after) (c.as_bytes.ensures.value ∙ c.end_text.ensures) c.in_ok-write_out.ensures.bytes);
     }

@@ -8,12 +8,13 @@ use Rattle.planus.specs.Runs.{Finish}
 use Rattle.planus.specs.Replays.{Replays, finish_given}
 use Rattle.planus.specs.FinishHolds.{FinishHolds, AreFinishesOf, finishes_of, root_at}
 use Rattle.planus.specs.declared.replaying.finishes.Finished.{Finished}
-use Rattle.planus_dump.specs.Dumped.{Dumped}
+use Rattle.planus_dump.specs.Dumped.{Dumped, events_of}
+use Rattle.planus_dump.specs.Faults.{HaveNoFault}
 use Rattle.planus_dump.specs.Laws.{slice_of}
 use Rattle.planus_dump.specs.Runs.{DumpsFirst, DumpsFit}
 use Rattle.planus_dump.specs.declared.schemas.Schema.{Schema}
 use Rattle.planus_dump.specs.declared.dumps.DumpError.{DumpError}
-use Rattle.planus_dump.proofs.CleanDumps.{dumps_have_no_fault}
+use Rattle.planus_dump.proofs.CleanDumps.{finishes_have_no_fault}
 use Rattle.planus_dump.proofs.runs.dump_run.Goals as goal
 
 with_first : {X : Type 0} (xs : List X) (x : X) → 1 ≤ length xs → x ≡ get_or xs 0 x → (rest : List X) × (xs ≡ x ∷ rest)
@@ -49,8 +50,8 @@ fit_dumped settings steps schema budget lines finished first (rest, e) run all d
       first = first_dumped settings steps schema budget (Ok lines) finished first (rest, e) run dumped;
       holds = is.0;
       of_first = is.1;
-      no_fault = λ front fits. dumps_have_no_fault settings steps (finish_given first) is.0 schema fits budget lines
-          (subst (λ bytes. Dumped schema bytes budget (Ok lines)) (sym (whole_slice settings steps (finish_given first) is.0 front)) dumped);
+      no_fault = λ front fits. subst (λ bytes. HaveNoFault (events_of schema bytes)) (whole_slice settings steps (finish_given first) is.0 front)
+          (finishes_have_no_fault settings steps (finish_given first) is.0 schema dumped.0 fits);
     }
 
 pub returns-in-Ok-dump : goal.returns-in-Ok-dump

@@ -1,6 +1,6 @@
 use Rattle.std.proofs.Common.{◌++◌, ◌||◌, ◌∷◌, [], ap, subst, ◌∙◌}
 use Rattle.std.specs.String.{string_bytes}
-use Rattle.planus_dump.specs.FaultLines.{is_fault_line}
+use Rattle.planus_dump.specs.Faults.{is_fault}
 use Rattle.planus_dump.specs.declared.sink_error.SinkError.{SinkError}
 use Rattle.planus_dump.specs.inner.Shown.{event_of}
 use Rattle.planus_dump.specs.inner.Writes.{BeginsOn, WritesOn}
@@ -20,4 +20,4 @@ pub returns : goal.returns
 returns g c =
     put_done g.W.Write.contents SinkError c.args.self.now c.push_line.new.self c.note.new.self (event_of c.args.line) (string_bytes c.in_ok-text.text) (tt {0}) c.in_ok-text.ensures
     ((subst (λ text. WritesOn g.W.Write.contents c.args.self.now (text ++ 10 ∷ []) c.push_line.new.self) c.as_bytes.ensures.value c.in_ok-push_line.ensures.0), c.in_ok-push_line.ensures.1)
-    (c.note.ensures ∙ ap (λ text. record c.push_line.new.self { has_fault = c.push_line.new.self.has_fault || is_fault_line text }) c.as_bytes-2.ensures.value)
+    (c.note.ensures ∙ ap (λ fault. record c.push_line.new.self { has_fault = c.push_line.new.self.has_fault || fault }) c.is_fault.ensures)
