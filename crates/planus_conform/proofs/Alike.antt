@@ -30,22 +30,20 @@ use Rattle.planus_schema.specs.declared.schema.UnionMember.{UnionMember}
 use Rattle.planus_schema.specs.Numbers.{scalar_size}
 use Rattle.planus_conform.specs.Floats.{DefaultV}
 use Rattle.planus_conform.specs.declared.breaks.Break.{Break}
-use Rattle.planus_conform.specs.declared.breaks.Change.{Change}
 use Rattle.planus_conform.specs.declared.breaks.Change.TheVariants as change
-use Rattle.planus_conform.specs.declared.breaks.Place.{Place}
 use Rattle.planus_conform.specs.declared.breaks.Place.TheVariants as place
 use Rattle.planus_conform.specs.declared.breaks.Way.{Way}
 use Rattle.planus_conform.specs.declared.breaks.Way.TheVariants as way
 use Rattle.planus_conform.specs.Found.{Call, field, part, item, buffer, Found, unknown, withdrawn, unopened, absent, missing, default, shown, bits, known, stranger, fault, table, structure, member, items, unions}
 use Rattle.planus_conform.specs.Values.{body_of, body_at, fields_in, struct_in, enum_in, union_in, said, said_bits, scalar_found, table_found, bytes_found, struct_found, width_of, is_value, is_known, number_found, enum_found, member_in, led_found, member_found, tagged_found, union_found, value_found, items_found, enum_size, struct_size, stride, sized_list, enum_list, struct_list, list_found}
 use Rattle.planus_conform.specs.Reads.{absent_found, is_nothing, given, default_found, default_of, field_in, present_found, placed_found, one_union_found, unions_found, union_field_found, found_by, field_found, found_if, inner_root, inner_found, buffer_found, buffer_if, part_in, parts_of, counted_found, part_found, item_found, union_item_found, table_called, struct_called, items_called, unions_called, called, root, root_found}
-use Rattle.planus_conform.specs.Matching.{match_at, is_index, Matches}
+use Rattle.planus_conform.specs.Matching.{match_at, Matches}
 use Rattle.planus_conform.specs.Alike.{Same, is_left_out, is_missing, is_withdrawn, is_unopened, is_number_read, is_newer, is_given_up, is_excused, is_excused_within, SameAnswers, ReadAlike, is_identified, PassAlike}
 use Rattle.planus_conform.specs.Types.{scalar_code, are_matched, same_base, same_count, same_part, same_truth, same_type}
 use Rattle.planus_conform.specs.Defaults.{same_number, same_given, same_default}
 use Rattle.planus_conform.specs.Breaks.{meets_old, meets_new, noted, change_if, is_moved, may_require, same_nested, kept_change, change_from, field_change, field_breaks, is_part_moved, part_change_to, part_change, part_breaks, struct_breaks, has_number, is_value_moved, value_change, value_breaks, added_values, enum_change, enum_breaks, is_member_moved, member_change_to, member_change, member_breaks, is_member, added_members, union_breaks, breaks_to, body_breaks, body_if, declared_breaks, breaks_from, root_change, identifier_change, breaks_by}
 use Rattle.planus_conform.specs.Conforms.{names_stay, ConformBy}
-use Rattle.planus_conform.proofs.Parts.{both_true, both_nothing, same_truths, same_counts, same_givens, same_scalars, same_bytes, same_numbers, no_change, no_enum_change, none_if, none_if_not, and_true, or_right, or_left, true_or_false}
+use Rattle.planus_conform.proofs.Parts.{both_true, both_nothing, noted_none, is_index_some, same_truths, same_counts, same_givens, same_scalars, same_bytes, same_numbers, no_change, no_enum_change, none_if, none_if_not, and_true, or_right, or_left, true_or_false}
 
 module _ (w : Way) (m : List (Option ℕ)) (old new : List Declared) where
   abbrev SimTable : ℕ → Seen → Found → Type 0
@@ -134,10 +132,6 @@ module _ (w : Way) (m : List (Option ℕ)) (old new : List Declared) where
   scalar_sim scalar.Float S f = bits_sim _
   scalar_sim scalar.Double S f = bits_sim _
 
-  is_index_some : (o : Option ℕ) (j : ℕ) → is_index o j ≡ true → o ≡ Some j
-  is_index_some None j e = absurd cc
-  is_index_some (Some i) j e = ap Some (eqb-true i j e)
-
   table_sim : (i j : ℕ) → Matches m i j → (r : Result Seen (List ℕ)) → Sim (table_found i r) (table_found j r)
   table_sim i j e (Ok x) = (refl, e)
   table_sim i j e (Err x) = refl
@@ -170,17 +164,17 @@ module _ (w : Way) (m : List (Option ℕ)) (old new : List Declared) where
   StructFit (Some s) (Some t) = (s.size ≡ t.size) × ((n : ℕ) → PartFit (part_in s.fields.items n) (part_in t.fields.items n))
 
   -- the same type, as far as the tag is met
-  abbrev MemberFit : Option UnionMember → Option UnionMember → Type 0
+  abbrev pub MemberFit : Option UnionMember → Option UnionMember → Type 0
   MemberFit None o = Unit {0}
   MemberFit (Some a) None = meets_old w ≡ false
   MemberFit (Some a) (Some b) = same_base m a.base b.base ≡ true
 
-  abbrev AddedFit : Option UnionMember → Option UnionMember → Type 0
+  abbrev pub AddedFit : Option UnionMember → Option UnionMember → Type 0
   AddedFit None (Some b) = meets_new w ≡ false
   AddedFit o p = Unit {0}
 
   -- unions with the same type for each tag, as far as tags are met
-  abbrev UnionFit : Option Union → Option Union → Type 0
+  abbrev pub UnionFit : Option Union → Option Union → Type 0
   UnionFit None o = Unit {0}
   UnionFit (Some u) None = ⊥
   UnionFit (Some u) (Some v) = (tag : ℕ) → MemberFit (member_in u.members.items tag) (member_in v.members.items tag) × AddedFit (member_in u.members.items tag) (member_in v.members.items tag)
@@ -679,10 +673,6 @@ module _ (w : Way) (m : List (Option ℕ)) (old new : List Declared) where
       by_deprecated (inr d) =
           by_moved d (is_moved gs f) (subst (λ b. (if b then None else if is_moved gs f then Some change.Moved else change_from w m f (field_in gs f.slot)) ≡ None) d e)
 
-  noted_none : (p : Place) (o : Option Change) → noted p o ≡ [] → o ≡ None
-  noted_none p None e = refl
-  noted_none p (Some c) e = absurd cc
-
   no_field_fit : (p : Option TableField) → FieldFit None p
   no_field_fit p seen = (inr tt, inr tt)
 
@@ -904,7 +894,7 @@ module _ (w : Way) (m : List (Option ℕ)) (old new : List Declared) where
       by_test none rest true t = subst (λ s. AddedFit (member_in xs s) (Some b)) (eqb-true b.tag n t) (added_fit (member_in xs b.tag) b none)
       by_test none rest false t = rest
 
-  unions_fit : (k : ℕ) (u v : Union) → union_breaks w m k u v ≡ [] → UnionFit (Some u) (Some v)
+  pub unions_fit : (k : ℕ) (u v : Union) → union_breaks w m k u v ≡ [] → UnionFit (Some u) (Some v)
   unions_fit k u v e tag =
       let parts = both_nothing (member_breaks (meets_old w) m k v.members.items u.members.items) (added_members (meets_new w) k u.members.items v.members.items) e in
       (members_fit k v.members.items u.members.items parts.0 tag, added_members_fit k u.members.items v.members.items parts.1 tag)
@@ -970,7 +960,7 @@ module _ (w : Way) (m : List (Option ℕ)) (old new : List Declared) where
       let n : 0 + i ≡ i = omega arith in
       subst (λ n. declared_breaks w m new n d ≡ []) n (declared_none 0 old i d e is)
 
-  matched : breaks_from w m new 0 old ≡ [] → (i j : ℕ) → Matches m i j → (d : Declared) → slice_get old i ≡ Some d → body_breaks w m i d.body (body_at new j) ≡ []
+  pub matched : breaks_from w m new 0 old ≡ [] → (i j : ℕ) → Matches m i j → (d : Declared) → slice_get old i ≡ Some d → body_breaks w m i d.body (body_at new j) ≡ []
   matched e i j is d at = subst (λ o. body_breaks w m i d.body (body_if new o) ≡ []) is (at_index e i d at)
 
   fits : breaks_from w m new 0 old ≡ [] → Fits
@@ -1142,6 +1132,6 @@ conforming w m old new e =
       there = is_there w m ds es none;
       stay = stay w m ds es none;
       alike = read_alike w m ds es none;
-      open_alike = root_alike w m ds es none old.statements.root new.statements.root (noted_none w m ds es place.Root (root_change m old.statements.root new.statements.root) rest.1);
-      identified = identified w old.statements.identifier new.statements.identifier (noted_none w m ds es place.Identifier (identifier_change w old.statements.identifier new.statements.identifier) first.1);
+      open_alike = root_alike w m ds es none old.statements.root new.statements.root (noted_none place.Root (root_change m old.statements.root new.statements.root) rest.1);
+      identified = identified w old.statements.identifier new.statements.identifier (noted_none place.Identifier (identifier_change w old.statements.identifier new.statements.identifier) first.1);
     }

@@ -7,3 +7,9 @@ pub mod OtherTypes
 pub mod EnumNumbers
 pub mod EnumValues
 pub mod FloatBits
+pub mod EventsByShapes
+pub mod Related
+pub mod ShownParts
+pub mod SharedParts
+pub mod ShownAlike
+pub mod ShownWithin

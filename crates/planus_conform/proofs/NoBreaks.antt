@@ -120,14 +120,14 @@ module _ {A : Type 0} (name : A → List ℕ) (test : A → A → Bool)
       or_false (test x f) (list_any (λ g. test g f) xs) (other x f (not_first x xs d.0 f i)) (none_moved xs d.1 f i)
 
 -- no later one has the same key
-abbrev Once : {A : Type 0} → (A → ℕ) → List A → Type 0
+abbrev pub Once : {A : Type 0} → (A → ℕ) → List A → Type 0
 Once key [] = Unit {0}
 Once key (x ∷ xs) = ((f : _) → IsIn f xs → (key x == key f) ≡ false) × Once key xs
 
 -- where keys are distinct, each is found by its own
 module _ {A : Type 0} (key : A → ℕ) (found : List A → ℕ → Option A)
     (step : (x : A) (xs : List A) (n : ℕ) → found (x ∷ xs) n ≡ (if key x == n then Some x else found xs n)) where
-  found_itself : (xs : List A) → Once key xs → (f : A) → IsIn f xs → found xs (key f) ≡ Some f
+  pub found_itself : (xs : List A) → Once key xs → (f : A) → IsIn f xs → found xs (key f) ≡ Some f
   found_itself [] o f i = absurd i
   found_itself (x ∷ xs) o f (inl e) =
       subst (λ z. found (x ∷ xs) (key z) ≡ Some z) (sym e)
@@ -177,7 +177,7 @@ slot_apart n (g ∷ fs) e f i = by_kind (is_union g.kind) (λ h j. slot_apart n 
     by_kind true h e = rest h (or_none (nat_eq n g.slot) _ (or_none (nat_eq n (g.slot - 1)) _ e).1) i
     by_kind false h e = rest h (or_none (nat_eq n g.slot) _ e) i
 
-slots_once : (fs : List TableField) → are_apart (slots_taken fs) ≡ true → Once (λ f. f.slot) fs
+pub slots_once : (fs : List TableField) → are_apart (slots_taken fs) ≡ true → Once (λ f. f.slot) fs
 slots_once [] e = tt
 slots_once (g ∷ fs) e = by_kind (is_union g.kind) (slots_once fs) e
   where
@@ -194,7 +194,7 @@ slots_once (g ∷ fs) e = by_kind (is_union g.kind) (slots_once fs) e
 
 -- ---- sizes and distances of structs
 
-abbrev SizedBelow : List Body → ℕ → Type 0
+abbrev pub SizedBelow : List Body → ℕ → Type 0
 SizedBelow bs n = (i : ℕ) (s : Struct) → i < n → slice_get bs i ≡ Some (body.Struct s) → 0 < s.size
 
 scalar_sized : (s : Scalar) → 0 < scalar_size s
@@ -257,7 +257,7 @@ abbrev declared_or : Declared → Option Declared → Declared
 declared_or c None = c
 declared_or c (Some d) = d
 
-sound_at : (all : List Body) (n : ℕ) (bs : List Body) → AreSound all n bs → (k : ℕ) (b : Body) → slice_get bs k ≡ Some b → IsBody b × RefersBody all (n + k) b
+pub sound_at : (all : List Body) (n : ℕ) (bs : List Body) → AreSound all n bs → (k : ℕ) (b : Body) → slice_get bs k ≡ Some b → IsBody b × RefersBody all (n + k) b
 sound_at all n [] s k b e = absurd cc
 sound_at all n (c ∷ bs) s zero b e =
     let same : c ≡ b = ap (λ o. body_or c o) e in
@@ -270,14 +270,14 @@ abbrev filled_in : Option Body → Bool
 filled_in None = true
 filled_in (Some b) = is_filled b
 
-filled_at : (ds : List Declared) → list_all (λ d. is_filled d.body) ds ≡ true → (k : ℕ) (b : Body) → slice_get (map body_in ds) k ≡ Some b → is_filled b ≡ true
+pub filled_at : (ds : List Declared) → list_all (λ d. is_filled d.body) ds ≡ true → (k : ℕ) (b : Body) → slice_get (map body_in ds) k ≡ Some b → is_filled b ≡ true
 filled_at [] f k b e = absurd cc
 filled_at (d ∷ ds) f zero b e =
     subst (λ o. filled_in o ≡ true) e (both_true (is_filled d.body) (list_all (λ d. is_filled d.body) ds) f).0
 filled_at (d ∷ ds) f (suc k) b e = filled_at ds (both_true (is_filled d.body) (list_all (λ d. is_filled d.body) ds) f).1 k b e
 
 module _ (bs : List Body) (sound : AreSound bs 0 bs) (filled : (i : ℕ) (b : Body) → slice_get bs i ≡ Some b → is_filled b ≡ true) where
-  sized_below : (n : ℕ) → SizedBelow bs n
+  pub sized_below : (n : ℕ) → SizedBelow bs n
   sized_below zero i s l e = absurd (omega (arith, l))
   sized_below (suc n) i s l e =
       let known = sound_at bs 0 bs sound i (body.Struct s) e in
@@ -292,7 +292,7 @@ later at end [] l f i = absurd i
 later at end (g ∷ fs) l f (inl e) = subst (λ z. at ≤ z.distance) (sym e) l.0.after
 later at end (g ∷ fs) l f (inr i) = omega (arith, l.0.after, later (g.distance + g.size) end fs l.1 f i)
 
-distances_once : (bs : List Body) (n at end : ℕ) (fs : List StructField) → SizedBelow bs n → AllByRecursion (RefersBefore bs n) fs → Laid at fs end → Once (λ f. f.distance) fs
+pub distances_once : (bs : List Body) (n at end : ℕ) (fs : List StructField) → SizedBelow bs n → AllByRecursion (RefersBefore bs n) fs → Laid at fs end → Once (λ f. f.distance) fs
 distances_once bs n at end [] h r l = tt
 distances_once bs n at end (g ∷ fs) h r l = (
   λ f i.
@@ -335,7 +335,7 @@ place_of (c ∷ ds) u (suc i) d e =
     ap (λ b. cond (not b) (1 + prefix_len (λ c. not (bytes_eq c.name.items d.name.items)) ds) 0) (apart_at c.name.items ds u.0 i d e)
     ∙ omega (arith, place_of ds u.1 i d e)
 
-named_itself : (ds : List Declared) → IsDistinct bytes_eq (map (λ d. d.name.items) ds) → (i : ℕ) (d : Declared) → slice_get ds i ≡ Some d → named ds d.name.items ≡ Some i
+pub named_itself : (ds : List Declared) → IsDistinct bytes_eq (map (λ d. d.name.items) ds) → (i : ℕ) (d : Declared) → slice_get ds i ≡ Some d → named ds d.name.items ≡ Some i
 named_itself ds u i d e =
     ap (λ k. cond (nat_lt k (length ds)) (Some k) None) (place_of ds u i d e)
     ∙ ap (λ b. cond b (Some i) None) (lt-ltb i (length ds) (slice_get_within ds i d e))

@@ -9,10 +9,12 @@ use Rattle.planus_schema.specs.declared.scalar.Scalar.{Scalar}
 use Rattle.planus_schema.specs.declared.scalar.Scalar.TheVariants as scalar
 use Rattle.planus_resolve.specs.Defaults.{ValueV, absent as nothing, integer, float, text, empty}
 use Rattle.planus_conform.specs.Floats.{DefaultV, written, float_of}
+use Rattle.planus_conform.specs.Matching.{is_index}
 use Rattle.planus_conform.specs.Types.{scalar_code, same_count, same_truth}
 use Rattle.planus_conform.specs.Defaults.{same_number, same_value, same_given}
-use Rattle.planus_conform.specs.Breaks.{change_if}
+use Rattle.planus_conform.specs.Breaks.{noted, change_if}
 use Rattle.planus_conform.specs.declared.breaks.Change.{Change}
+use Rattle.planus_conform.specs.declared.breaks.Place.{Place}
 
 pub drop_next : {A : Type 0} (xs : List A) (i : ℕ) (x : A) → i < length xs → x ≡ get_or xs i x → drop i xs ≡ x ∷ drop (i + 1) xs
 drop_next xs i x h e = rw add-one (drop-cons xs i x h ∙ ap (λ y. y ∷ drop (suc i) xs) (sym e))
@@ -110,6 +112,14 @@ pub no_enum_change : (x y : Change) (a b : Bool) → (if not a then Some x else 
 no_enum_change x y true true e = (refl, refl)
 no_enum_change x y true false e = absurd cc
 no_enum_change x y false b e = absurd cc
+
+pub noted_none : (p : Place) (o : Option Change) → noted p o ≡ [] → o ≡ None
+noted_none p None e = refl
+noted_none p (Some c) e = absurd cc
+
+pub is_index_some : (o : Option ℕ) (j : ℕ) → is_index o j ≡ true → o ≡ Some j
+is_index_some None j e = absurd cc
+is_index_some (Some i) j e = ap Some (eqb-true i j e)
 
 pub none_if : (b : Bool) (c : Change) → change_if b c ≡ None → b ≡ false
 none_if true c e = absurd cc

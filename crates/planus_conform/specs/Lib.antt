@@ -13,3 +13,4 @@ pub mod Witnesses
 pub mod EnumWitnesses
 pub mod AsRead
 pub mod NoBreaks
+pub mod ShownAlike

@@ -7,6 +7,7 @@ ghost use Rattle.planus_conform.specs.Witnesses.{ChangesShow, TypesShow};
 ghost use Rattle.planus_conform.specs.EnumWitnesses.{ValuesShow, RemovedShow, AddedShow};
 ghost use Rattle.planus_conform.specs.AsRead.{TextsAreFound, TablesAreFound};
 ghost use Rattle.planus_conform.specs.NoBreaks.{UnchangedBreaksNothing, AddedFieldsBreakNothing};
+ghost use Rattle.planus_conform.specs.ShownAlike.{SharedFieldsShowAlike, SharedLinesAreShown};
 
 use planus_dump::laws::readings_are_said;
 
@@ -56,4 +57,15 @@ pub fn unchanged_schemas_conform()
 /// declarations after the old ones.
 pub fn added_fields_conform()
     ensures { AddedFieldsBreakNothing }
+{}
+
+/// Where nothing breaks from one sound schema to another, and what both have has one name and one
+/// order, a dump shows the same of any bytes by both, without the fields that not both read.
+pub fn shared_fields_show_alike()
+    ensures { SharedFieldsShowAlike }
+{}
+
+/// A dump by all fields shows all that one without those shows, in the same order.
+pub fn shared_lines_are_shown()
+    ensures { SharedLinesAreShown }
 {}
