@@ -11,8 +11,8 @@ use Rattle.planus_inspect.specs.Shown.{Shows}
 use Rattle.planus_dump.specs.Dumped.{events_of}
 use Rattle.planus_dump.specs.Views.{Viewed, IsTold}
 use Rattle.planus_dump.specs.declared.views.Seen.{Seen}
-use Rattle.planus_dump.specs.declared.views.End.{End}
-use Rattle.planus_dump.specs.declared.views.End.TheVariants.{TooManyLines, TooManyBytes}
+use Rattle.planus_dump.specs.declared.end.End.{End}
+use Rattle.planus_dump.specs.declared.end.End.TheVariants.{TooManyLines, TooManyBytes}
 use Rattle.planus_cli.specs.declared.view.Lead.{Lead}
 use Rattle.planus_cli.specs.declared.view.One.{One}
 use Rattle.planus_cli.specs.declared.view.View.{View}

@@ -14,9 +14,9 @@ use Rattle.planus_dump.specs.declared.schemas.Schema.{Schema}
 use Rattle.planus_dump.specs.declared.view_error.ViewError.{ViewError}
 use Rattle.planus_dump.specs.declared.view_error.ViewError.TheVariants as errors
 use Rattle.planus_dump.specs.declared.views.Seen.{Seen}
-use Rattle.planus_dump.specs.declared.views.End.{End}
-use Rattle.planus_dump.specs.declared.views.End.TheVariants.{Whole, TooDeep, TooManyLines}
-use Rattle.planus_dump.specs.declared.views.End.TheVariants.{TooManyBytes}
+use Rattle.planus_dump.specs.declared.end.End.{End}
+use Rattle.planus_dump.specs.declared.end.End.TheVariants.{Whole, TooDeep, TooManyLines}
+use Rattle.planus_dump.specs.declared.end.End.TheVariants.{TooManyBytes}
 
 abbrev pub end_text : End → List ℕ
 end_text Whole = []

@@ -9,8 +9,8 @@ use Rattle.planus_dump.specs.Views.{cost}
 use Rattle.planus_dump.specs.declared.line.Line.{Line}
 use Rattle.planus_dump.specs.declared.line.Line.TheVariants.{Text, Fault, Float}
 use Rattle.planus_dump.specs.declared.line_sink.LineSink.{LineSink}
-use Rattle.planus_dump.specs.declared.line_sink.Stop.{Stop}
-use Rattle.planus_dump.specs.declared.line_sink.Stop.TheVariants.{Going, TooDeep, TooMany, TooLong}
+use Rattle.planus_dump.specs.declared.end.End.{End}
+use Rattle.planus_dump.specs.declared.end.End.TheVariants.{Whole, TooDeep, TooManyLines, TooManyBytes}
 use Rattle.planus_dump.specs.inner.Shown.{event_of, Shown, by_room, added, going, step_at, step, feed}
 use Rattle.planus_dump.specs.inner.Taking.{Takes, Puts}
 use Rattle.planus_dump.specs.inner.Feeding.{Fits, left_in, IsOpen, Outcome, Shows, Breaks, Fed}
@@ -30,7 +30,7 @@ unfolding same_lines
 room-grows s e None = (e ∷ [], refl)
 room-grows s e (Some room) = by_test (nat_lt room (cost e))
   where
-    by_test : (b : Bool) → Grows s.lines (if b then record s { stop = TooLong } else record s { lines = s.lines ++ e ∷ []; room = Some (room - cost e) }).lines
+    by_test : (b : Bool) → Grows s.lines (if b then record s { end = TooManyBytes } else record s { lines = s.lines ++ e ∷ []; room = Some (room - cost e) }).lines
     by_test true = same_lines s.lines
     by_test false = (e ∷ [], refl)
 
@@ -38,7 +38,7 @@ added-grows : (s : Shown) (e : Event) → Grows s.lines (added s e).lines
 unfolding same_lines room-grows
 added-grows s e = by_test (length s.lines == s.budget)
   where
-    by_test : (b : Bool) → Grows s.lines (if b then record s { stop = TooMany } else by_room s e s.room).lines
+    by_test : (b : Bool) → Grows s.lines (if b then record s { end = TooManyLines } else by_room s e s.room).lines
     by_test true = same_lines s.lines
     by_test false = room-grows s e s.room
 
@@ -49,18 +49,18 @@ going-grows s (line l) = added-grows s (line l)
 going-grows s (faulty l) = added-grows s (faulty l)
 going-grows s (float path number) = added-grows s (float path number)
 
-step-grows : (s : Shown) (t : Stop) (e : Event) → Grows s.lines (step_at s t e).lines
+step-grows : (s : Shown) (t : End) (e : Event) → Grows s.lines (step_at s t e).lines
 unfolding same_lines
-step-grows s Going e = going-grows s e
+step-grows s Whole e = going-grows s e
 step-grows s TooDeep e = same_lines s.lines
-step-grows s TooMany e = same_lines s.lines
-step-grows s TooLong e = same_lines s.lines
+step-grows s TooManyLines e = same_lines s.lines
+step-grows s TooManyBytes e = same_lines s.lines
 
 pub feed-grows : (s : Shown) (es : List Event) → Grows s.lines (feed s es).lines
 unfolding same_lines
 feed-grows s [] = same_lines s.lines
 feed-grows s (e ∷ es) =
-    let (first, is) = step-grows s s.stop e in
+    let (first, is) = step-grows s s.end e in
     let (more, all) = feed-grows (step s e) es in
     (first ++ more, all ∙ ap (λ ls. ls ++ more) is ∙ append_assoc s.lines first more)
 
@@ -72,30 +72,30 @@ line_added s (line l) h = refl
 line_added s (faulty l) h = refl
 line_added s (float path number) h = refl
 
-step_added : (s : Shown) (e : Event) → s.stop ≡ Going → e ≢ deep → step s e ≡ added s e
+step_added : (s : Shown) (e : Event) → s.end ≡ Whole → e ≢ deep → step s e ≡ added s e
 step_added s e is h = ap (λ t. step_at s t e) is ∙ line_added s e h
 
-step_deep : (s : Shown) → s.stop ≡ Going → step s deep ≡ record s { stop = TooDeep }
+step_deep : (s : Shown) → s.end ≡ Whole → step s deep ≡ record s { end = TooDeep }
 step_deep s is = ap (λ t. step_at s t deep) is
 
-step_many : (s : Shown) (e : Event) → s.stop ≡ Going → e ≢ deep → length s.lines ≡ s.budget → step s e ≡ record s { stop = TooMany }
+step_many : (s : Shown) (e : Event) → s.end ≡ Whole → e ≢ deep → length s.lines ≡ s.budget → step s e ≡ record s { end = TooManyLines }
 step_many s e is h full = step_added s e is h ∙ by_test (length s.lines == s.budget) refl
   where
-    by_test : (b : Bool) → (length s.lines == s.budget) ≡ b → (if b then record s { stop = TooMany } else by_room s e s.room) ≡ record s { stop = TooMany }
+    by_test : (b : Bool) → (length s.lines == s.budget) ≡ b → (if b then record s { end = TooManyLines } else by_room s e s.room) ≡ record s { end = TooManyLines }
     by_test true f = refl
     by_test false f = absurd (eqb-false (length s.lines) s.budget f full)
 
-step_fewer : (s : Shown) (e : Event) → s.stop ≡ Going → e ≢ deep → length s.lines ≢ s.budget → step s e ≡ by_room s e s.room
+step_fewer : (s : Shown) (e : Event) → s.end ≡ Whole → e ≢ deep → length s.lines ≢ s.budget → step s e ≡ by_room s e s.room
 step_fewer s e is h fewer = step_added s e is h ∙ by_test (length s.lines == s.budget) refl
   where
-    by_test : (b : Bool) → (length s.lines == s.budget) ≡ b → (if b then record s { stop = TooMany } else by_room s e s.room) ≡ by_room s e s.room
+    by_test : (b : Bool) → (length s.lines == s.budget) ≡ b → (if b then record s { end = TooManyLines } else by_room s e s.room) ≡ by_room s e s.room
     by_test true f = absurd (fewer (eqb-true (length s.lines) s.budget f))
     by_test false f = refl
 
-room_long : (s : Shown) (e : Event) (room : ℕ) → room < cost e → by_room s e (Some room) ≡ record s { stop = TooLong }
+room_long : (s : Shown) (e : Event) (room : ℕ) → room < cost e → by_room s e (Some room) ≡ record s { end = TooManyBytes }
 room_long s e room long = by_test (nat_lt room (cost e)) refl
   where
-    by_test : (b : Bool) → nat_lt room (cost e) ≡ b → (if b then record s { stop = TooLong } else record s { lines = s.lines ++ e ∷ []; room = Some (room - cost e) }) ≡ record s { stop = TooLong }
+    by_test : (b : Bool) → nat_lt room (cost e) ≡ b → (if b then record s { end = TooManyBytes } else record s { lines = s.lines ++ e ∷ []; room = Some (room - cost e) }) ≡ record s { end = TooManyBytes }
     by_test true f = refl
     by_test false f = let below : cost e ≤ room = ltb-false room (cost e) f in absurd (omega (arith, below, long))
 
@@ -104,7 +104,7 @@ room_taken s e None is fits = ap (λ (room : Option ℕ). record s { lines = s.l
 room_taken s e (Some room) is fits = by_test (nat_lt room (cost e)) refl
   where
     by_test : (b : Bool) → nat_lt room (cost e) ≡ b
-        → (if b then record s { stop = TooLong } else record s { lines = s.lines ++ e ∷ []; room = Some (room - cost e) }) ≡ record s { lines = s.lines ++ e ∷ []; room = Some (room - cost e) }
+        → (if b then record s { end = TooManyBytes } else record s { lines = s.lines ++ e ∷ []; room = Some (room - cost e) }) ≡ record s { lines = s.lines ++ e ∷ []; room = Some (room - cost e) }
     by_test true f = let above : room < cost e = ltb-true room (cost e) f in absurd (omega (arith, above, fits))
     by_test false f = refl
 
@@ -114,29 +114,29 @@ line_event (Fault text) = λ e. cc
 line_event (Float path number) = λ e. cc
 
 module _ {L : Type 0} (takes breaks : Takes L) where
-  pub fed_stopped : (o : LineSink L) (es : List Event) → o.stop ≢ Going → Fed takes breaks o es (Ok (tt {0})) o
+  pub fed_stopped : (o : LineSink L) (es : List Event) → o.end ≢ Whole → Fed takes breaks o es (Ok (tt {0})) o
   unfolding Fed
-  fed_stopped o es h start s shows = subst (Shows takes breaks start o) (sym (feed-stopped s es (λ e. h (shows.stop ∙ e)))) shows
+  fed_stopped o es h start s shows = subst (Shows takes breaks start o) (sym (feed-stopped s es (λ e. h (shows.end ∙ e)))) shows
 
-  pub fed_deep : (o : LineSink L) → o.stop ≡ Going → Fed takes breaks o (deep ∷ []) (Ok (tt {0})) (record o { stop = TooDeep })
+  pub fed_deep : (o : LineSink L) → o.end ≡ Whole → Fed takes breaks o (deep ∷ []) (Ok (tt {0})) (record o { end = TooDeep })
   unfolding Fed
-  fed_deep o is start s shows = subst (Shows takes breaks start (record o { stop = TooDeep })) (sym (step_deep s (sym shows.stop ∙ is)))
-      (record { lines = shows.lines; left = shows.left; room = shows.room; stop = refl })
+  fed_deep o is start s shows = subst (Shows takes breaks start (record o { end = TooDeep })) (sym (step_deep s (sym shows.end ∙ is)))
+      (record { lines = shows.lines; left = shows.left; room = shows.room; end = refl })
 
-  pub fed_many : (o : LineSink L) (e : Event) → o.stop ≡ Going → o.left ≡ 0 → e ≢ deep → Fed takes breaks o (e ∷ []) (Ok (tt {0})) (record o { stop = TooMany })
+  pub fed_many : (o : LineSink L) (e : Event) → o.end ≡ Whole → o.left ≡ 0 → e ≢ deep → Fed takes breaks o (e ∷ []) (Ok (tt {0})) (record o { end = TooManyLines })
   unfolding Fed
-  fed_many o e is none h start s shows = subst (Shows takes breaks start (record o { stop = TooMany })) (sym (step_many s e (sym shows.stop ∙ is) h (omega (arith, shows.left, none))))
-      (record { lines = shows.lines; left = shows.left; room = shows.room; stop = refl })
+  fed_many o e is none h start s shows = subst (Shows takes breaks start (record o { end = TooManyLines })) (sym (step_many s e (sym shows.end ∙ is) h (omega (arith, shows.left, none))))
+      (record { lines = shows.lines; left = shows.left; room = shows.room; end = refl })
 
-  pub fed_long : (o : LineSink L) (e : Event) (room size : ℕ) → o.stop ≡ Going → 0 < o.left → o.room ≡ Some room → room < size → e ≢ deep → size ≤ cost e
-      → Fed takes breaks o (e ∷ []) (Ok (tt {0})) (record o { stop = TooLong })
+  pub fed_long : (o : LineSink L) (e : Event) (room size : ℕ) → o.end ≡ Whole → 0 < o.left → o.room ≡ Some room → room < size → e ≢ deep → size ≤ cost e
+      → Fed takes breaks o (e ∷ []) (Ok (tt {0})) (record o { end = TooManyBytes })
   unfolding Fed
   fed_long o e room size is some at long h most start s shows =
       let fewer : length s.lines ≢ s.budget = λ full. omega (arith, shows.left, some, full) in
       let above : room < cost e = omega (arith, long, most) in
-      subst (Shows takes breaks start (record o { stop = TooLong }))
-      (sym (step_fewer s e (sym shows.stop ∙ is) h fewer ∙ ap (by_room s e) (sym shows.room ∙ at) ∙ room_long s e room above))
-      (record { lines = shows.lines; left = shows.left; room = shows.room; stop = refl })
+      subst (Shows takes breaks start (record o { end = TooManyBytes }))
+      (sym (step_fewer s e (sym shows.end ∙ is) h fewer ∙ ap (by_room s e) (sym shows.room ∙ at) ∙ room_long s e room above))
+      (record { lines = shows.lines; left = shows.left; room = shows.room; end = refl })
 
   pub fed_taken : (o : LineSink L) (e : Event) (r : Outcome) (new : L) → IsOpen o (cost e) → e ≢ deep → Puts takes breaks o.lines e r new
       → Fed takes breaks o (e ∷ []) r (record o { lines = new; left = o.left - 1; room = left_in o.room (cost e) })
@@ -144,19 +144,19 @@ module _ {L : Type 0} (takes breaks : Takes L) where
   fed_taken o e (Ok u) new isopen h puts = λ start s shows.
       let fewer : length s.lines ≢ s.budget = λ full. omega (arith, shows.left, isopen.some, full) in
       subst (Shows takes breaks start (record o { lines = new; left = o.left - 1; room = left_in o.room (cost e) }))
-      (sym (step_fewer s e (sym shows.stop ∙ isopen.going) h fewer ∙ room_taken s e s.room refl (subst (λ room. Fits room (cost e)) shows.room isopen.fits)))
+      (sym (step_fewer s e (sym shows.end ∙ isopen.going) h fewer ∙ room_taken s e s.room refl (subst (λ room. Fits room (cost e)) shows.room isopen.fits)))
       (record {
         lines = puts start s.lines shows.lines;
         left = omega (arith, shows.left, isopen.some, length-append s.lines (e ∷ []));
         room = ap (λ room. left_in room (cost e)) shows.room;
-        stop = shows.stop;
+        end = shows.end;
       })
   fed_taken o e (Err error) new isopen h puts = λ start s shows.
       let fewer : length s.lines ≢ s.budget = λ full. omega (arith, shows.left, isopen.some, full) in
       record {
         front = s.lines ++ e ∷ [];
         rest = [];
-        split = ap (λ (t : Shown). t.lines) (step_fewer s e (sym shows.stop ∙ isopen.going) h fewer ∙ room_taken s e s.room refl (subst (λ room. Fits room (cost e)) shows.room isopen.fits))
+        split = ap (λ (t : Shown). t.lines) (step_fewer s e (sym shows.end ∙ isopen.going) h fewer ∙ room_taken s e s.room refl (subst (λ room. Fits room (cost e)) shows.room isopen.fits))
             ∙ sym (append-nil (s.lines ++ e ∷ []));
         broken = inr (puts start s.lines shows.lines);
       }
@@ -222,7 +222,7 @@ module _ {L : Type 0} (takes breaks : Takes L) where
   goes_done o m all rest goes none =
       subst (λ es. Fed takes breaks o es (Ok (tt {0})) m) (sym (goes.split ∙ ap (λ es. goes.done ++ es) none ∙ append-nil goes.done)) goes.fed
 
-  pub goes_stopped : (o m : LineSink L) (all rest : List Event) → Goes o all rest m → m.stop ≢ Going → Fed takes breaks o all (Ok (tt {0})) m
+  pub goes_stopped : (o m : LineSink L) (all rest : List Event) → Goes o all rest m → m.end ≢ Whole → Fed takes breaks o all (Ok (tt {0})) m
   goes_stopped o m all rest goes h =
       subst (λ es. Fed takes breaks o es (Ok (tt {0})) m) (sym goes.split) (fed_then o m m goes.done rest (Ok (tt {0})) goes.fed (fed_stopped m rest h))
 

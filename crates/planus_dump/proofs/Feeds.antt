@@ -23,8 +23,8 @@ use Rattle.planus_dump.specs.Dumped.{Shows, AreShown, Begin}
 use Rattle.planus_dump.specs.Floats.{number_of, magnitude, infinite_magnitude, infinity_text, PrintsFloat}
 use Rattle.planus_dump.specs.Views.{cost, costs}
 use Rattle.planus_dump.specs.declared.line.Bits.{Bits}
-use Rattle.planus_dump.specs.declared.line_sink.Stop.{Stop}
-use Rattle.planus_dump.specs.declared.line_sink.Stop.TheVariants.{Going, TooDeep, TooMany, TooLong}
+use Rattle.planus_dump.specs.declared.end.End.{End}
+use Rattle.planus_dump.specs.declared.end.End.TheVariants.{Whole, TooDeep, TooManyLines, TooManyBytes}
 use Rattle.planus_dump.specs.declared.schemas.Schema.{Schema}
 use Rattle.planus_dump.specs.declared.schemas.FieldSchema.{FieldSchema}
 use Rattle.planus_dump.specs.declared.schemas.VariantSchema.{VariantSchema}
@@ -34,16 +34,16 @@ pub feed-append : (s : Shown) (xs ys : List Event) → feed s (xs ++ ys) ≡ fee
 feed-append s [] ys = refl
 feed-append s (x ∷ xs) ys = feed-append (step s x) xs ys
 
-stay : (s : Shown) (t : Stop) (e : Event) → t ≢ Going → step_at s t e ≡ s
-stay s Going e h = absurd (h refl)
+stay : (s : Shown) (t : End) (e : Event) → t ≢ Whole → step_at s t e ≡ s
+stay s Whole e h = absurd (h refl)
 stay s TooDeep e h = refl
-stay s TooMany e h = refl
-stay s TooLong e h = refl
+stay s TooManyLines e h = refl
+stay s TooManyBytes e h = refl
 
 -- A stopped walk takes no more events, so it may return at once.
-pub feed-stopped : (s : Shown) (es : List Event) → s.stop ≢ Going → feed s es ≡ s
+pub feed-stopped : (s : Shown) (es : List Event) → s.end ≢ Whole → feed s es ≡ s
 feed-stopped s [] h = refl
-feed-stopped s (e ∷ es) h = ap (λ t. feed t es) (stay s s.stop e h) ∙ feed-stopped s es h
+feed-stopped s (e ∷ es) h = ap (λ t. feed t es) (stay s s.end e h) ∙ feed-stopped s es h
 
 pub events-more : (schema : Schema) (left index : ℕ) (S : List ℕ) (f : ℕ) (path : List ℕ) → left ≢ 0
     → events schema left index S f path ≡ shape_events (events schema (left - 1)) schema (slice_get schema.tables.items index) S f path
@@ -136,20 +136,20 @@ pub record Taken (ls : List Event) (room : Option ℕ) (es rest lines : List Eve
   pub most : length lines ≤ budget
   pub fits : Fits room (costs new)
 
-abbrev pub Answered : List Event → Option ℕ → List Event → ℕ → List Event → Stop → Type 0
-Answered ls room es budget lines Going = Taken ls room es [] lines budget
+abbrev pub Answered : List Event → Option ℕ → List Event → ℕ → List Event → End → Type 0
+Answered ls room es budget lines Whole = Taken ls room es [] lines budget
 Answered ls room es budget lines TooDeep = (rest : List Event) × Taken ls room es (deep ∷ rest) lines budget
-Answered ls room es budget lines TooMany = (l : Event) × (rest : List Event) × (l ≢ deep) × Taken ls room es (l ∷ rest) lines budget × (length lines ≡ budget)
-Answered ls room es budget lines TooLong =
+Answered ls room es budget lines TooManyLines = (l : Event) × (rest : List Event) × (l ≢ deep) × Taken ls room es (l ∷ rest) lines budget × (length lines ≡ budget)
+Answered ls room es budget lines TooManyBytes =
     (l : Event) × (rest : List Event) × (l ≢ deep) × (taken : Taken ls room es (l ∷ rest) lines budget) × Exceeds room (costs taken.new + cost l)
 
-deep_stops : TooDeep ≢ Going
+deep_stops : TooDeep ≢ Whole
 deep_stops e = cc
 
-many_stops : TooMany ≢ Going
+many_stops : TooManyLines ≢ Whole
 many_stops e = cc
 
-long_stops : TooLong ≢ Going
+long_stops : TooManyBytes ≢ Whole
 long_stops e = cc
 
 more_fits : (room : Option ℕ) (c n : ℕ) → Fits room c → Fits (left_in room c) n → Fits room (c + n)
@@ -171,50 +171,50 @@ taken_more ls room l es rest lines budget is fits t = record {
   fits = more_fits room (cost l) (costs t.new) fits t.fits;
 }
 
-shift : (ls : List Event) (room : Option ℕ) (l : Event) (es : List Event) (budget : ℕ) (lines : List Event) (t : Stop) → l ≢ deep → Fits room (cost l)
+shift : (ls : List Event) (room : Option ℕ) (l : Event) (es : List Event) (budget : ℕ) (lines : List Event) (t : End) → l ≢ deep → Fits room (cost l)
     → Answered (ls ++ l ∷ []) (left_in room (cost l)) es budget lines t → Answered ls room (l ∷ es) budget lines t
 unfolding taken_more
-shift ls room l es budget lines Going is fits t = taken_more ls room l es [] lines budget is fits t
+shift ls room l es budget lines Whole is fits t = taken_more ls room l es [] lines budget is fits t
 shift ls room l es budget lines TooDeep is fits (rest, t) = (rest, taken_more ls room l es (deep ∷ rest) lines budget is fits t)
-shift ls room l es budget lines TooMany is fits (m, rest, other, t, n) = (m, rest, other, taken_more ls room l es (m ∷ rest) lines budget is fits t, n)
-shift ls room l es budget lines TooLong is fits (m, rest, other, t, n) =
+shift ls room l es budget lines TooManyLines is fits (m, rest, other, t, n) = (m, rest, other, taken_more ls room l es (m ∷ rest) lines budget is fits t, n)
+shift ls room l es budget lines TooManyBytes is fits (m, rest, other, t, n) =
     (m, rest, other, taken_more ls room l es (m ∷ rest) lines budget is fits t, more_exceeds room (cost l) (costs t.new) (cost m) fits n)
 
-abbrev here : List Event → ℕ → Option ℕ → Stop → Shown
-here ls budget room stop = record { lines = ls; budget = budget; room = room; stop = stop }
+abbrev here : List Event → ℕ → Option ℕ → End → Shown
+here ls budget room stop = record { lines = ls; budget = budget; room = room; end = stop }
 
 abbrev After : List Event → Option ℕ → List Event → ℕ → Shown → Type 0
-After ls room es budget r = Answered ls room es budget r.lines r.stop
+After ls room es budget r = Answered ls room es budget r.lines r.end
 
 none_taken : (ls : List Event) (room : Option ℕ) (es : List Event) (budget : ℕ) → length ls ≤ budget → Taken ls room es es ls budget
 none_taken ls None es budget h = record { new = []; split = refl; all = tt; is = sym (append-nil ls); most = h; fits = tt }
 none_taken ls (Some room) es budget h = record { new = []; split = refl; all = tt; is = sym (append-nil ls); most = h; fits = omega arith }
 
 within : (l : Event) (es ls : List Event) (budget : ℕ) (room : Option ℕ) → l ≢ deep → length (ls ++ l ∷ []) ≤ budget → length ls ≤ budget
-    → (After (ls ++ l ∷ []) (left_in room (cost l)) es budget (feed (here (ls ++ l ∷ []) budget (left_in room (cost l)) Going) es))
-    → After ls room (l ∷ es) budget (feed (by_room (here ls budget room Going) l room) es)
+    → (After (ls ++ l ∷ []) (left_in room (cost l)) es budget (feed (here (ls ++ l ∷ []) budget (left_in room (cost l)) Whole) es))
+    → After ls room (l ∷ es) budget (feed (by_room (here ls budget room Whole) l room) es)
 unfolding none_taken
-within l es ls budget None is more h rest = let r = feed (here (ls ++ l ∷ []) budget None Going) es in shift ls None l es budget r.lines r.stop is tt rest
+within l es ls budget None is more h rest = let r = feed (here (ls ++ l ∷ []) budget None Whole) es in shift ls None l es budget r.lines r.end is tt rest
 within l es ls budget (Some room) is more h rest = by_test (nat_lt room (cost l)) refl
   where
     by_test : (b : Bool) → nat_lt room (cost l) ≡ b → After ls (Some room) (l ∷ es) budget
-        (feed (if b then here ls budget (Some room) TooLong else here (ls ++ l ∷ []) budget (Some (room - cost l)) Going) es)
+        (feed (if b then here ls budget (Some room) TooManyBytes else here (ls ++ l ∷ []) budget (Some (room - cost l)) Whole) es)
     by_test true e =
         let above : room < cost l = ltb-true room (cost l) e in
         let t = none_taken ls (Some room) (l ∷ es) budget h in
-        subst (After ls (Some room) (l ∷ es) budget) (sym (feed-stopped (here ls budget (Some room) TooLong) es long_stops)) (l, es, is, t, omega (arith, above))
+        subst (After ls (Some room) (l ∷ es) budget) (sym (feed-stopped (here ls budget (Some room) TooManyBytes) es long_stops)) (l, es, is, t, omega (arith, above))
     by_test false e =
         let below : cost l ≤ room = ltb-false room (cost l) e in
-        let r = feed (here (ls ++ l ∷ []) budget (Some (room - cost l)) Going) es in shift ls (Some room) l es budget r.lines r.stop is below rest
+        let r = feed (here (ls ++ l ∷ []) budget (Some (room - cost l)) Whole) es in shift ls (Some room) l es budget r.lines r.end is below rest
 
 answered_line : (l : Event) (es ls : List Event) (budget : ℕ) (room : Option ℕ) → l ≢ deep → length ls ≤ budget
-    → (length (ls ++ l ∷ []) ≤ budget → After (ls ++ l ∷ []) (left_in room (cost l)) es budget (feed (here (ls ++ l ∷ []) budget (left_in room (cost l)) Going) es))
-    → After ls room (l ∷ es) budget (feed (added (here ls budget room Going) l) es)
+    → (length (ls ++ l ∷ []) ≤ budget → After (ls ++ l ∷ []) (left_in room (cost l)) es budget (feed (here (ls ++ l ∷ []) budget (left_in room (cost l)) Whole) es))
+    → After ls room (l ∷ es) budget (feed (added (here ls budget room Whole) l) es)
 answered_line l es ls budget room is h rest = by_test (length ls == budget) refl
   where
-    by_test : (b : Bool) → (length ls == budget) ≡ b → After ls room (l ∷ es) budget (feed (if b then here ls budget room TooMany else by_room (here ls budget room Going) l room) es)
+    by_test : (b : Bool) → (length ls == budget) ≡ b → After ls room (l ∷ es) budget (feed (if b then here ls budget room TooManyLines else by_room (here ls budget room Whole) l room) es)
     by_test true e =
-        subst (After ls room (l ∷ es) budget) (sym (feed-stopped (here ls budget room TooMany) es many_stops)) (l, es, is, none_taken ls room (l ∷ es) budget h, eqb-true (length ls) budget e)
+        subst (After ls room (l ∷ es) budget) (sym (feed-stopped (here ls budget room TooManyLines) es many_stops)) (l, es, is, none_taken ls room (l ∷ es) budget h, eqb-true (length ls) budget e)
     by_test false e =
         let ne : length ls ≢ budget = eqb-false (length ls) budget e in
         let more : length (ls ++ l ∷ []) ≤ budget = omega (arith, h, ne, length-append ls (l ∷ [])) in within l es ls budget room is more h (rest more)
@@ -229,7 +229,7 @@ float_is : (path : List ℕ) (number : Bits) → float path number ≢ deep
 float_is path number e = cc
 
 pub answered : (es ls : List Event) (budget : ℕ) (room : Option ℕ) → length ls ≤ budget
-    → Answered ls room es budget (feed (here ls budget room Going) es).lines (feed (here ls budget room Going) es).stop
+    → Answered ls room es budget (feed (here ls budget room Whole) es).lines (feed (here ls budget room Whole) es).end
 answered [] ls budget room h = none_taken ls room [] budget h
 answered (deep ∷ es) ls budget room h =
     subst (After ls room (deep ∷ es) budget) (sym (feed-stopped (here ls budget room TooDeep) es deep_stops)) (es, none_taken ls room (deep ∷ es) budget h)
@@ -238,7 +238,7 @@ answered (faulty l ∷ es) ls budget room h = answered_line (faulty l) es ls bud
 answered (float path number ∷ es) ls budget room h =
     answered_line (float path number) es ls budget room (float_is path number) h (λ more. answered es (ls ++ float path number ∷ []) budget (left_in room (cost (float path number))) more)
 
-pub walked : (es : List Event) (budget : ℕ) (room : Option ℕ) → Answered [] room es budget (feed (begin budget room) es).lines (feed (begin budget room) es).stop
+pub walked : (es : List Event) (budget : ℕ) (room : Option ℕ) → Answered [] room es budget (feed (begin budget room) es).lines (feed (begin budget room) es).end
 walked es budget room = answered es [] budget room (omega arith)
 
 abbrev some_text : Bits → List ℕ
@@ -290,7 +290,7 @@ shown_length [] (l ∷ lines) h = absurd h
 shown_length (e ∷ es) [] h = absurd h
 shown_length (e ∷ es) (l ∷ lines) h = ap suc (shown_length es lines h.1)
 
-pub all_lines : (es : List Event) (budget : ℕ) (lines : List Event) (texts : List (String Global)) → Answered [] None es budget lines Going → AreShown lines (map string_bytes texts)
+pub all_lines : (es : List Event) (budget : ℕ) (lines : List Event) (texts : List (String Global)) → Answered [] None es budget lines Whole → AreShown lines (map string_bytes texts)
     → Begin es (map string_bytes texts) [] × (length texts ≤ budget)
 all_lines es budget lines texts t shows =
     let same : length texts ≡ length lines = sym (length-map texts string_bytes) ∙ shown_length lines (map string_bytes texts) shows in
@@ -301,12 +301,12 @@ pub too_deep : (es : List Event) (budget : ℕ) (lines : List Event) → Answere
 too_deep es budget lines (rest, t) =
     (map some_line t.new, rest, begins es t.new (deep ∷ rest) t.split t.all, subst (λ n. n ≤ budget) (ap length t.is ∙ sym (length-map t.new some_line)) t.most)
 
-pub too_many : (es : List Event) (budget : ℕ) (lines : List Event) → Answered [] None es budget lines TooMany
+pub too_many : (es : List Event) (budget : ℕ) (lines : List Event) → Answered [] None es budget lines TooManyLines
     → (lines : List (List ℕ)) × (next : Event) × (rest : List Event) × Begin es lines (next ∷ rest) × (next ≢ deep) × (length lines ≡ budget)
 too_many es budget lines (l, rest, is, t, n) =
     (map some_line t.new, l, rest, begins es t.new (l ∷ rest) t.split t.all, is, length-map t.new some_line ∙ sym (ap length t.is) ∙ n)
 
-pub not_too_long : (es : List Event) (budget : ℕ) (lines : List Event) → Answered [] None es budget lines TooLong → ⊥
+pub not_too_long : (es : List Event) (budget : ℕ) (lines : List Event) → Answered [] None es budget lines TooManyBytes → ⊥
 not_too_long es budget lines (l, rest, is, t, n) = n
 
 pub union_unknown : (E : TableEvents) (schema : Schema) (o : Option (Vec VariantSchema Global)) (variants : Vec VariantSchema Global) (tag : ℕ) (S : List ℕ) (f : ℕ) (path : List ℕ) → o ≡ Some variants → variant_of variants.items tag ≡ None

@@ -10,13 +10,13 @@ use Rattle.planus_dump.specs.Dumped.{AreShown}
 use Rattle.planus_dump.specs.Faults.{is_fault}
 use Rattle.planus_dump.specs.Views.{cost, costs, IsTold}
 use Rattle.planus_dump.specs.inner.Shown.{Shown, begin, feed, added, by_room}
-use Rattle.planus_dump.specs.declared.line_sink.Stop.{Stop}
-use Rattle.planus_dump.specs.declared.views.End.{End}
-use Rattle.planus_dump.specs.declared.line_sink.Stop.TheVariants.{Going, TooDeep, TooMany, TooLong}
+use Rattle.planus_dump.specs.declared.end.End.{End}
+use Rattle.planus_dump.specs.declared.end.End.{End}
+use Rattle.planus_dump.specs.declared.end.End.TheVariants.{Whole, TooDeep, TooManyLines, TooManyBytes}
 use Rattle.planus_dump.proofs.Feeds.{feed-stopped, shown_length}
 
-abbrev at : List Event → ℕ → ℕ → Stop → Shown
-at ls budget size stop = record { lines = ls; budget = budget; room = Some size; stop = stop }
+abbrev at : List Event → ℕ → ℕ → End → Shown
+at ls budget size stop = record { lines = ls; budget = budget; room = Some size; end = stop }
 
 -- these events were taken, and so much is left of the size
 record Left (es ls : List Event) (budget size : ℕ) (s : Shown) : Type 0 where
@@ -29,7 +29,7 @@ record Left (es ls : List Event) (budget size : ℕ) (s : Shown) : Type 0 where
   room_is : s.room ≡ Some room
   all : costs new + room ≡ size
 
-none_left : (es ls : List Event) (budget size : ℕ) (stop : Stop) → Left es ls budget size (at ls budget size stop)
+none_left : (es ls : List Event) (budget size : ℕ) (stop : End) → Left es ls budget size (at ls budget size stop)
 none_left es ls budget size stop = record {
   new = [];
   rest = es;
@@ -41,7 +41,7 @@ none_left es ls budget size stop = record {
   all = omega arith;
 }
 
-stopped : (es all ls : List Event) (budget size : ℕ) (stop : Stop) → (stop ≡ Going → ⊥) → Left all ls budget size (feed (at ls budget size stop) es)
+stopped : (es all ls : List Event) (budget size : ℕ) (stop : End) → (stop ≡ Whole → ⊥) → Left all ls budget size (feed (at ls budget size stop) es)
 stopped es all ls budget size stop is =
     subst (Left all ls budget size) (sym (feed-stopped (at ls budget size stop) es is)) (none_left all ls budget size stop)
 
@@ -58,23 +58,23 @@ more e es ls budget size s below left = record {
 }
 
 line_left : (e : Event) (es ls : List Event) (budget size : ℕ)
-    → (cost e ≤ size → Left es (ls ++ e ∷ []) budget (size - cost e) (feed (at (ls ++ e ∷ []) budget (size - cost e) Going) es))
-    → Left (e ∷ es) ls budget size (feed (added (at ls budget size Going) e) es)
+    → (cost e ≤ size → Left es (ls ++ e ∷ []) budget (size - cost e) (feed (at (ls ++ e ∷ []) budget (size - cost e) Whole) es))
+    → Left (e ∷ es) ls budget size (feed (added (at ls budget size Whole) e) es)
 line_left e es ls budget size rest = by_count (length ls == budget)
   where
     by_size : (b : Bool) → nat_lt size (cost e) ≡ b
-        → Left (e ∷ es) ls budget size (feed (cond b (at ls budget size TooLong) (at (ls ++ e ∷ []) budget (size - cost e) Going)) es)
-    by_size true is = stopped es (e ∷ es) ls budget size TooLong (λ x. cc)
+        → Left (e ∷ es) ls budget size (feed (cond b (at ls budget size TooManyBytes) (at (ls ++ e ∷ []) budget (size - cost e) Whole)) es)
+    by_size true is = stopped es (e ∷ es) ls budget size TooManyBytes (λ x. cc)
     by_size false is =
         let below : cost e ≤ size = ltb-false size (cost e) is in
         more e es ls budget size _ below (rest below)
 
-    by_count : (b : Bool) → Left (e ∷ es) ls budget size (feed (cond b (at ls budget size TooMany) (by_room (at ls budget size Going) e (Some size))) es)
-    by_count true = stopped es (e ∷ es) ls budget size TooMany (λ x. cc)
+    by_count : (b : Bool) → Left (e ∷ es) ls budget size (feed (cond b (at ls budget size TooManyLines) (by_room (at ls budget size Whole) e (Some size))) es)
+    by_count true = stopped es (e ∷ es) ls budget size TooManyLines (λ x. cc)
     by_count false = by_size (nat_lt size (cost e)) refl
 
-fed_left : (es ls : List Event) (budget size : ℕ) → Left es ls budget size (feed (at ls budget size Going) es)
-fed_left [] ls budget size = none_left [] ls budget size Going
+fed_left : (es ls : List Event) (budget size : ℕ) → Left es ls budget size (feed (at ls budget size Whole) es)
+fed_left [] ls budget size = none_left [] ls budget size Whole
 fed_left (deep ∷ es) ls budget size = stopped es (deep ∷ es) ls budget size TooDeep (λ x. cc)
 fed_left (line l ∷ es) ls budget size =
     line_left (line l) es ls budget size (λ below. fed_left es (ls ++ line l ∷ []) budget (size - cost (line l)))

@@ -17,10 +17,9 @@ use Rattle.planus_dump.specs.declared.line_sink.LineSink.{LineSink}
 use Rattle.planus_dump.specs.declared.line_writer.LineWriter.{LineWriter}
 use Rattle.planus_dump.specs.declared.sink_error.SinkError.{SinkError}
 use Rattle.planus_dump.specs.declared.schemas.Schema.{Schema}
-use Rattle.planus_dump.specs.declared.views.End.{End}
+use Rattle.planus_dump.specs.declared.end.End.{End}
 use Rattle.planus_dump.specs.declared.view_error.ViewError.{ViewError}
 use Rattle.planus_dump.specs.declared.view_error.ViewError.TheVariants.{OutOfMemory, BadSchema, Write}
-use Rattle.planus_dump.specs.inner.Ends.{end_of}
 use Rattle.planus_dump.specs.inner.Shown.{begin, feed}
 use Rattle.planus_dump.specs.inner.Feeding.{Outcome, Shows, Fed}
 use Rattle.planus_dump.specs.inner.Writes.{WritesOn, BeginsOn, Writes, WritesPart}
@@ -44,7 +43,7 @@ module _ {W : Type 0} (contents : W → Option (List ℕ)) where
 
   pub record Wrote (start : LineWriter W) (es : List Event) (most size : ℕ) (out : LineSink (LineWriter W)) : Type 0 where
     pub lines : List (List ℕ)
-    pub ends : EndsBy (end_of out.stop) es lines most size
+    pub ends : EndsBy out.end es lines most size
     pub told : (end : End) → IsTold es lines most size (record { end = end; has_fault = out.lines.has_fault; lines_left = out.left; bytes_left = unwrap_or out.room 0 })
     pub written : WritesOn contents start (lines_text lines) out.lines
 
@@ -68,11 +67,11 @@ module _ {W : Type 0} (contents : W → Option (List ℕ)) where
   wrote start old out es most size new begun fed =
       let s = feed (begin most (Some size)) es in
       let shows = shown_after (Writes contents) (WritesPart contents) start old out most (Some size) es (starts start new) begun fed in
-      let answered : Answered [] (Some size) es most s.lines s.stop = walked es most (Some size) in
+      let answered : Answered [] (Some size) es most s.lines s.end = walked es most (Some size) in
       let did = shows.lines in
       record {
         lines = did.lines;
-        ends = subst (λ stop. EndsBy (end_of stop) es did.lines most size) (sym shows.stop) (ends_by es s.lines did.lines most size s.stop answered did.shown);
+        ends = subst (λ end. EndsBy end es did.lines most size) (sym shows.end) (ends_by es s.lines did.lines most size s.end answered did.shown);
         told = λ end. is_told es did.lines most size out.left out.room end out.lines.has_fault did.shown shows.left shows.room (did.fault ∙ ap (λ b. b || list_any is_fault s.lines) new.fault);
         written = did.written;
       }
@@ -82,14 +81,14 @@ module _ {W : Type 0} (contents : W → Option (List ℕ)) where
       → (out : LineSink (LineWriter W)) → out.lines ≡ now → Began start es most size out
   of_front start now es front rest most size split lines shown on out is =
       let s = feed (begin most (Some size)) es in
-      let answered : Answered [] (Some size) es most s.lines s.stop = walked es most (Some size) in
-      let all : AreLines (front ++ rest) = subst AreLines split (are_lines es s.lines (Some size) most s.stop answered) in
+      let answered : Answered [] (Some size) es most s.lines s.end = walked es most (Some size) in
+      let all : AreLines (front ++ rest) = subst AreLines split (are_lines es s.lines (Some size) most s.end answered) in
       let more = map some_line rest in
       let shows : AreShown (front ++ rest) (lines ++ more) = shown-append front rest lines more shown (some_lines_shown rest (lines_after front rest all)) in
       record {
         lines = lines ++ more;
-        end = end_of s.stop;
-        ends = ends_by es s.lines (lines ++ more) most size s.stop answered (subst (λ ls. AreShown ls (lines ++ more)) (sym split) shows);
+        end = s.end;
+        ends = ends_by es s.lines (lines ++ more) most size s.end answered (subst (λ ls. AreShown ls (lines ++ more)) (sym split) shows);
         begun = subst (λ w. BeginsOn contents start (lines_text (lines ++ more)) w) (sym is)
             (subst (λ bytes. BeginsOn contents start bytes now) (sym (flat_map-append (λ line. line ++ 10 ∷ []) lines more)) (begins_more contents start now (lines_text lines) (lines_text more) on));
       }
@@ -109,7 +108,7 @@ module _ {W : Type 0} (contents : W → Option (List ℕ)) where
   pub whole : (schema : Schema) (bytes : List ℕ) (most size : ℕ) (start : LineWriter W) (old out : LineSink (LineWriter W)) (r : Outcome) (mid last : W) (end : End)
       → is_good schema ≡ true → Starts start
       → (Writes contents start [] start → Shows (Writes contents) (WritesPart contents) start old (begin most (Some size)))
-      → Fed (Writes contents) (WritesPart contents) old (events_of schema bytes) r out → IsOk r → end ≡ end_of out.stop
+      → Fed (Writes contents) (WritesPart contents) old (events_of schema bytes) r out → IsOk r → end ≡ out.end
       → Appends (contents out.lines.writer.now) (contents mid) out.lines.block.items
       → (out.lines.writer.ghost_name ≡ start.writer.ghost_name → last ≡ mid)
       → WritesView schema bytes most size (record { end = end; has_fault = out.lines.has_fault; lines_left = out.left; bytes_left = unwrap_or out.room 0 }) (contents start.writer.now) (contents last)
@@ -130,7 +129,7 @@ module _ {W : Type 0} (contents : W → Option (List ℕ)) where
   pub whole_lent : (schema : Schema) (bytes : List ℕ) (most size : ℕ) (start : LineWriter W) (old out : LineSink (LineWriter W)) (r : Outcome) (mid lent : W)
       (end : End) → is_good schema ≡ true → Starts start
       → (Writes contents start [] start → Shows (Writes contents) (WritesPart contents) start old (begin most (Some size)))
-      → Fed (Writes contents) (WritesPart contents) old (events_of schema bytes) r out → IsOk r → end ≡ end_of out.stop
+      → Fed (Writes contents) (WritesPart contents) old (events_of schema bytes) r out → IsOk r → end ≡ out.end
       → Appends (contents out.lines.writer.now) (contents mid) out.lines.block.items → start.writer.now ≡ lent
       → (last : W) → (out.lines.writer.ghost_name ≡ start.writer.ghost_name → last ≡ mid)
       → WritesView schema bytes most size (record { end = end; has_fault = out.lines.has_fault; lines_left = out.left; bytes_left = unwrap_or out.room 0 }) (contents lent) (contents last)
@@ -150,7 +149,7 @@ module _ {W : Type 0} (contents : W → Option (List ℕ)) where
       let (one, split, added) = did.written.leaves in
       record {
         lines = did.lines;
-        end = end_of out.stop;
+        end = out.end;
         viewed = record { good = good; ends = did.ends };
         begun = subst (λ w. WritesBeginning (lines_text did.lines) (contents start.writer.now) (contents w)) (sym (there did.written.same)) (
           one ++ two,

@@ -18,10 +18,10 @@ shown_after takes breaks start old out budget room es none begun fed = fed start
 
 pub kept : (breaks : Takes (Vec Line)) (start : Vec Line) (old out : LineSink (Vec Line)) (budget : ℕ) (room : Option ℕ) (es : List Event) → start.items ≡ []
     → (KeepsLines start [] start → Shows KeepsLines breaks start old (begin budget room)) → Fed KeepsLines breaks old es (Ok (tt {0})) out
-    → Answered [] room es budget (map event_of out.lines.items) out.stop
+    → Answered [] room es budget (map event_of out.lines.items) out.end
 kept breaks start old out budget room es none begun fed =
     let nothing : KeepsLines start [] start = ap (λ xs. map event_of xs) none ∙ ap (λ xs. map event_of xs ++ []) (sym none) in
     let shows = shown_after KeepsLines breaks start old out budget room es nothing begun fed in
     let same : map event_of out.lines.items ≡ (feed (begin budget room) es).lines = shows.lines ∙ ap (λ xs. map event_of xs ++ (feed (begin budget room) es).lines) none in
-    subst (λ ls. Answered [] room es budget ls out.stop) (sym same)
-    (subst (Answered [] room es budget (feed (begin budget room) es).lines) (sym shows.stop) (walked es budget room))
+    subst (λ ls. Answered [] room es budget ls out.end) (sym same)
+    (subst (Answered [] room es budget (feed (begin budget room) es).lines) (sym shows.end) (walked es budget room))

@@ -9,8 +9,8 @@ use Rattle.planus_dump.specs.Faults.{is_fault}
 use Rattle.planus_dump.specs.Schemas.{is_good}
 use Rattle.planus_dump.specs.Writing.{WritesBeginning}
 use Rattle.planus_dump.specs.declared.schemas.Schema.{Schema}
-use Rattle.planus_dump.specs.declared.views.End.{End}
-use Rattle.planus_dump.specs.declared.views.End.TheVariants as ends
+use Rattle.planus_dump.specs.declared.end.End.{End}
+use Rattle.planus_dump.specs.declared.end.End.TheVariants as ends
 use Rattle.planus_dump.specs.declared.views.Seen.{Seen}
 use Rattle.planus_dump.specs.declared.view_error.ViewError.{ViewError}
 use Rattle.planus_dump.specs.declared.view_error.ViewError.TheVariants as errors

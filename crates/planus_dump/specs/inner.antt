@@ -2,5 +2,4 @@ pub mod Shown
 pub mod Taking
 pub mod Feeding
 pub mod Writes
-pub mod Ends
 pub mod Kept

@@ -2,8 +2,9 @@
 ghost use Rattle.planus_dump.specs.Dumped.{Dumped, events_of};
 ghost use Rattle.planus_dump.specs.inner.Feeding.{Feeds};
 
+use crate::end::End;
 use crate::floats::line_texts;
-use crate::line_sink::{LineSink, Stop};
+use crate::line_sink::LineSink;
 use crate::lines::Lines;
 use crate::schemas::Schema;
 use crate::sink_error::SinkError;
@@ -107,14 +108,14 @@ pub fn dump(
     }
     let mut out = LineSink::new(alloc, Vec::new(alloc), budget, None);
     walk_from_root(&mut out, schema, bytes)?;
-    match out.stop {
-        Stop::Going => {
+    match out.end {
+        End::Whole => {
             let lines = line_texts(alloc, out.lines)?;
             Ok(lines)
         }
-        Stop::TooDeep => Err(DumpError::TooDeep),
-        Stop::TooMany => Err(DumpError::TooManyLines),
+        End::TooDeep => Err(DumpError::TooDeep),
+        End::TooManyLines => Err(DumpError::TooManyLines),
         // Its lines may have any number of bytes.
-        Stop::TooLong => Err(DumpError::TooManyLines),
+        End::TooManyBytes => Err(DumpError::TooManyLines),
     }
 }

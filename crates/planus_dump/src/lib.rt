@@ -3,6 +3,7 @@
 #![tactic(auto)]
 
 mod dumps;
+mod end;
 mod enums;
 mod fixed;
 mod floats;
@@ -25,6 +26,7 @@ mod walk;
 mod writing;
 
 pub use dumps::{DumpError, dump};
+pub use end::End;
 pub use printed::push_hex;
 pub use runs::{DumpRunError, dump_run};
 pub use schemas::{
@@ -32,5 +34,5 @@ pub use schemas::{
     TableSchema, VariantKind, VariantSchema,
 };
 pub use view_error::ViewError;
-pub use views::{End, Seen, view};
+pub use views::{Seen, view};
 pub use writing::{WriteError, write_out};

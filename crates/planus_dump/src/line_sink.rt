@@ -13,6 +13,7 @@ ghost use Rattle.planus_dump.specs.inner.Feeding.{Shows, Feeds, Does, IsStopped,
 ghost use Rattle.planus_dump.specs.inner.Feeding.{Fits, left_in};
 ghost use Rattle.std.specs.Fmt.{decimal};
 
+use crate::end::End;
 use crate::line::{Bits, Line};
 use crate::lines::Lines;
 use crate::printed::{bytes_size, push_bytes, push_quoted, quoted_size};
@@ -20,14 +21,6 @@ use crate::sink_error::SinkError;
 use crate::values::Value;
 use planus::errors::ErrorKind;
 use std::alloc::{AllocError, Global};
-
-#[derive(Clone, Copy)]
-pub enum Stop {
-    Going,
-    TooDeep,
-    TooMany,
-    TooLong,
-}
 
 #[derive(Drop)]
 pub struct LineSink<L> {
@@ -37,7 +30,8 @@ pub struct LineSink<L> {
     pub left: usize,
     /// The number of their bytes, if there is a limit.
     pub room: Option<usize>,
-    pub stop: Stop,
+    /// Why no line comes any more, or `Whole`.
+    pub end: End,
 }
 
 fn push_value(alloc: Global, text: &mut String, value: Value<'_>) -> Result<(), AllocError>
@@ -168,14 +162,14 @@ impl<L: Lines> LineSink<L> {
             lines,
             left: budget,
             room,
-            stop: Stop::Going,
+            end: End::Whole,
         }
     }
 
     pub fn is_stopped(&self) -> bool
         ensures { IsStopped self.now result }
     {
-        !matches!(self.stop, Stop::Going)
+        !matches!(self.end, End::Whole)
     }
 
     /// Whether a line of at least so many bytes may be taken. If not, the walk goes on as if it had
@@ -187,12 +181,12 @@ impl<L: Lines> LineSink<L> {
             return false;
         }
         if self.left == 0 {
-            self.stop = Stop::TooMany;
+            self.end = End::TooManyLines;
             return false;
         }
         match self.room {
             Some(room) if room < size => {
-                self.stop = Stop::TooLong;
+                self.end = End::TooManyBytes;
                 false
             }
             _ => true,
@@ -276,8 +270,8 @@ impl<L: Lines> LineSink<L> {
     pub fn put_deep(&mut self)
         ensures { Does L.takes L.breaks self.old (deep ∷ []) self.new }
     {
-        if let Stop::Going = self.stop {
-            self.stop = Stop::TooDeep;
+        if let End::Whole = self.end {
+            self.end = End::TooDeep;
         }
     }
 

@@ -4,10 +4,10 @@ ghost use Rattle.std.specs.Result.{IsOk};
 ghost use Rattle.std.specs.Io.KnownBytes.{Appends};
 ghost use Rattle.planus_dump.specs.Views.{WritesView, FailsView};
 ghost use Rattle.planus_dump.specs.Writing.{WritesBeginning};
-ghost use Rattle.planus_dump.specs.inner.Ends as spec;
 
 use crate::dumps::walk_from_root;
-use crate::line_sink::{LineSink, Stop};
+use crate::end::End;
+use crate::line_sink::LineSink;
 use crate::line_writer::LineWriter;
 use crate::schemas::Schema;
 use crate::sink_error::SinkError;
@@ -16,19 +16,6 @@ use crate::view_error::ViewError;
 use crate::writing::write_whole;
 use std::alloc::Global;
 use std::io::Write;
-
-/// Why the lines of a view end.
-#[derive(Clone, Copy, Debug, PartialEq, Eq)]
-pub enum End {
-    /// All is shown.
-    Whole,
-    /// A table at depth 65, or a struct in 64 others, comes next.
-    TooDeep,
-    /// There are more lines.
-    TooManyLines,
-    /// The next line has too many bytes.
-    TooManyBytes,
-}
 
 /// What the lines of a view were.
 #[derive(Clone, Copy, Debug, PartialEq, Eq)]
@@ -41,17 +28,6 @@ pub struct Seen {
     pub lines_left: usize,
     /// How many of their bytes.
     pub bytes_left: usize,
-}
-
-fn end_of(stop: Stop) -> End
-    ensures { result ≡ spec.end_of stop }
-{
-    match stop {
-        Stop::Going => End::Whole,
-        Stop::TooDeep => End::TooDeep,
-        Stop::TooMany => End::TooManyLines,
-        Stop::TooLong => End::TooManyBytes,
-    }
 }
 
 /// Writes what the walk left, unless it failed.
@@ -101,7 +77,7 @@ pub fn view<W: Write>(
         lines,
         left,
         room,
-        stop,
+        end,
         ..
     } = out;
     let LineWriter {
@@ -112,7 +88,7 @@ pub fn view<W: Write>(
     } = lines;
     write_rest(walked, &block, writer)?;
     Ok(Seen {
-        end: end_of(stop),
+        end,
         has_fault,
         lines_left: left,
         bytes_left: room.unwrap_or(0),

@@ -6,7 +6,7 @@ use Rattle.planus_dump.specs.Views.{cost}
 use Rattle.planus_dump.specs.inner.Shown.{Shown, feed}
 use Rattle.planus_dump.specs.inner.Taking.{Takes}
 use Rattle.planus_dump.specs.declared.line_sink.LineSink.{LineSink}
-use Rattle.planus_dump.specs.declared.line_sink.Stop.TheVariants.{Going}
+use Rattle.planus_dump.specs.declared.end.End.TheVariants.{Whole}
 use Rattle.planus_dump.specs.declared.sink_error.SinkError.{SinkError}
 
 abbrev pub Fits : Option ℕ → ℕ → Type 0
@@ -19,13 +19,13 @@ left_in (Some room) n = Some (room - n)
 
 -- the walk goes on, and a line of this size may come
 pub record IsOpen {L : Type 0} (out : LineSink L) (size : ℕ) : Type 0 where
-  pub going : out.stop ≡ Going
+  pub going : out.end ≡ Whole
   pub some : 0 < out.left
   pub fits : Fits out.room size
 
 abbrev pub IsStopped : {L : Type 0} → LineSink L → Bool → Type 0
-IsStopped out true = out.stop ≢ Going
-IsStopped out false = out.stop ≡ Going
+IsStopped out true = out.end ≢ Whole
+IsStopped out false = out.end ≡ Whole
 
 abbrev pub Outcome : Type 0
 Outcome = Result (Unit {0}) SinkError
@@ -36,7 +36,7 @@ module _ {L : Type 0} (takes breaks : Takes L) where
     pub lines : takes start s.lines out.lines
     pub left : length s.lines + out.left ≡ s.budget
     pub room : out.room ≡ s.room
-    pub stop : out.stop ≡ s.stop
+    pub end : out.end ≡ s.end
 
   -- the first of these lines were taken, or the last of them is the one at which it failed
   pub record Breaks (start : L) (lines : List Event) (now : L) : Type 0 where

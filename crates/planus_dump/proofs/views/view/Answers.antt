@@ -12,9 +12,9 @@ returns-clause-shown g c =
     let contents = g.W.Write.contents in let schema = c.args.schema.now in let bytes = c.args.bytes.now in let most = c.args.most in let size = c.args.size in
     let start = c.new.result in let out = c.walk_from_root-walked.new.out in let mid = c.write_rest.new.writer in
     let good : is_good schema ≡ true = search rules in
-    let ends = whole_lent contents schema bytes most size start c.new-out.result out c.walk_from_root-walked.result mid c.args.writer.now c.end_of.result good
+    let ends = whole_lent contents schema bytes most size start c.new-out.result out c.walk_from_root-walked.result mid c.args.writer.now out.end good
     (record { block = c.new.ensures.block; fault = c.new.ensures.fault }) c.new-out.ensures (c.walk_from_root-walked.ensures (events_of schema bytes) refl)
-    c.in_ok-write_rest.ensures.whole c.end_of.ensures
+    c.in_ok-write_rest.ensures.whole refl
     (subst (Appends (contents out.lines.writer.now) (contents mid)) c.deref.ensures.value c.in_ok-write_rest.ensures.written) c.new.ensures.now in
     let same = c.new.ensures.same in
     search (rules, ends, sym, same, ◌∙◌)
