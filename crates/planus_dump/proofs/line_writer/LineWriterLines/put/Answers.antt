@@ -20,4 +20,4 @@ pub returns : goal.returns
 returns g c =
     put_done g.W.Write.contents SinkError c.args.self.now c.push_line.new.self c.note.new.self (event_of c.args.line) (string_bytes c.in_ok-text.text) (tt {0}) c.in_ok-text.ensures
     ((subst (λ text. WritesOn g.W.Write.contents c.args.self.now (text ++ 10 ∷ []) c.push_line.new.self) c.as_bytes.ensures.value c.in_ok-push_line.ensures.0), c.in_ok-push_line.ensures.1)
-    (c.note.ensures ∙ ap (λ fault. record c.push_line.new.self { has_fault = c.push_line.new.self.has_fault || fault }) c.is_fault.ensures)
+    (c.note.ensures ∙ ap (λ fault. record c.push_line.new.self { has_fault = c.push_line.new.self.has_fault || fault }) c.is_fault-is_fault.ensures)
