@@ -108,7 +108,7 @@ module _ (E : TableEvents) (schema : Schema) where
       one_variant_is tag S f path (variant_of xs.items tag) ∙ ap (variant_by tag S f path) (variant_is xs.items tag)
 
   abbrev pub label_by : FieldShape → List ℕ
-  label_by x = if x.deprecated then x.name ++ codes "(deprecated)" else x.name
+  label_by x = if x.deprecated then x.name ++ codes " (deprecated)" else x.name
 
   abbrev pub fields_by : Seen → List ℕ → List FieldShape → List Event
   fields_by table path [] = []

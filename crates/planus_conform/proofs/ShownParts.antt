@@ -354,7 +354,7 @@ module _ (m : List (Option ℕ)) where
           by_vector s false false e = one_same t.base u.base s r k table path
 
       abbrev labelled : List ℕ → Bool → List ℕ
-      labelled name deprecated = if deprecated then name ++ codes "(deprecated)" else name
+      labelled name deprecated = if deprecated then name ++ codes " (deprecated)" else name
 
       field_same : (x y : FieldShape) → FieldAlike m x y → (table : Seen) (path : List ℕ)
           → kind_events E a x.required x.kind x.slot table (field_path path (labelled x.name x.deprecated)) ≡ kind_events F b y.required y.kind y.slot table (field_path path (labelled y.name y.deprecated))

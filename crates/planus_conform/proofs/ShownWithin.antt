@@ -307,7 +307,7 @@ module _ (a b : Schema) (within : Within a b) where
 
     abbrev field_events : TableEvents → Schema → FieldShape → Seen → List ℕ → List Event
     field_events G s x table path =
-        kind_events G s x.required x.kind x.slot table (field_path path (if x.deprecated then x.name ++ codes "(deprecated)" else x.name))
+        kind_events G s x.required x.kind x.slot table (field_path path (if x.deprecated then x.name ++ codes " (deprecated)" else x.name))
 
     fields_among : (xs ys : List FieldShape) → AreAmong xs ys → (table : Seen) (path : List ℕ) → AreAmong (fields_by E a table path xs) (fields_by F b table path ys)
     fields_among [] ys h table path = tt
@@ -315,7 +315,7 @@ module _ (a b : Schema) (within : Within a b) where
     fields_among (x ∷ xs) (y ∷ ys) (inl h) table path =
         both (field_events E a x table path) (field_events F b y table path) (fields_by E a table path xs) (fields_by F b table path ys)
         (subst (λ z. AreAmong (field_events E a x table path) (field_events F b z table path)) h.0
-        (kind_among x.kind x.required x.slot table (field_path path (if x.deprecated then x.name ++ codes "(deprecated)" else x.name))))
+        (kind_among x.kind x.required x.slot table (field_path path (if x.deprecated then x.name ++ codes " (deprecated)" else x.name))))
         (fields_among xs ys h.1 table path)
     fields_among (x ∷ xs) (y ∷ ys) (inr h) table path =
         more (fields_by E a table path (x ∷ xs)) (fields_by F b table path ys) (field_events F b y table path) (fields_among (x ∷ xs) ys h table path)
