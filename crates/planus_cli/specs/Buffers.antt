@@ -283,8 +283,8 @@ Views true look bytes status before after unsaid said =
 pub record ReadsRoot (schema : Dumped) (bytes : List ℕ) (reads : Bool) : Type 0 where
   pub lines : List (List ℕ)
   pub seen : Seen
-  pub viewed : Viewed schema bytes 1 18446744073709551615 lines seen.end
   pub told : IsTold (events_of schema bytes) lines 1 18446744073709551615 seen
+  pub viewed : Viewed schema bytes 1 18446744073709551615 lines seen.end
   pub is : reads ≡ not seen.has_fault
 
 -- whether the bytes begin with a size and a buffer of this size, of which the same holds
