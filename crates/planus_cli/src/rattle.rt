@@ -13,7 +13,7 @@ use crate::libraries::is_library;
 use crate::said::{CLEAN, FAILED, FAULTY, fail};
 use crate::sources::schema_at;
 use crate::streams::{GREATEST_TEXT, RunError, say};
-use planus_codegen::{PrintedFile, Refusal, print_crate};
+use planus_codegen::{PrintError, PrintedFile, print_crate};
 use planus_resolve::Schema;
 use planus_schema::{have_key, is_reserved};
 use std::alloc::{AllocError, Global};
@@ -277,15 +277,15 @@ fn print_to<F: Files, X: Write>(
             }
             Ok(status)
         }
-        Err(Refusal::OutOfMemory) => Err(RunError::OutOfMemory),
-        Err(Refusal::Untied) => fail(
+        Err(PrintError::OutOfMemory) => Err(RunError::OutOfMemory),
+        Err(PrintError::Untied) => fail(
             alloc,
             errors,
             "",
             folder.path,
             ": its code isn't the schema's",
         ),
-        Err(Refusal::Unsupported { what, name }) => say_unsupported(alloc, what, &name, errors),
+        Err(PrintError::Unsupported { what, name }) => say_unsupported(alloc, what, &name, errors),
     }
 }
 

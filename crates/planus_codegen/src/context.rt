@@ -7,7 +7,7 @@ ghost use Rattle.planus_codegen.specs.Printed.{AreFit, IsNamingOf};
 use crate::at::At;
 use crate::leads::left_before;
 use crate::names::Names;
-use crate::refusal::Refusal;
+use crate::print_error::PrintError;
 use planus_schema::{Base, Body, Declared, Scalar, Schema, TableField};
 use planus_tie::Naming;
 pub(crate) use planus_tie::scalar_name;
@@ -156,7 +156,7 @@ impl<'a> Context<'a> {
         schema: &'a Schema,
         crate_name: &'a str,
         verified: bool,
-    ) -> Result<Context<'a>, Refusal>
+    ) -> Result<Context<'a>, PrintError>
         ensures declared { IfOk result (λ c. c.declared.now ≡ schema.now.declarations.items) }
         ensures names { IfOk result (λ c. AreFit schema.now.declarations.items c.names) }
     {

@@ -16,9 +16,9 @@ use crate::names::namespace_around;
 use crate::order::{Order, places_by_name};
 use crate::part_proofs::{Written, print_answer, print_fields_answer, print_parts_answer};
 use crate::parts::{has_answer, is_long, parts_of, whole};
+use crate::print_error::PrintError;
 use crate::printer::Printer;
 use crate::read_proofs::{has_many_clauses, print_fields_read, print_parts_read};
-use crate::refusal::Refusal;
 use crate::root::print_root;
 use crate::structs::{has_padding, print_padded, print_struct, print_struct_layout};
 use crate::supported::refuse_unsupported;
@@ -511,14 +511,14 @@ fn files_of(context: &Context<'_>) -> Result<Vec<PrintedFile>, AllocError> {
 /// its accessors, both have the look-up by the table's key, and there is the schema as a value.
 /// Each enum has its numbers, each union its tags, each struct its layout, each set of flags its bits.
 /// There are the functions of the root and the file identifier, where the schema has them.
-/// [`Refusal::Unsupported`] where something in it has no form in code, [`Refusal::Untied`] where
-/// the printed code isn't the schema's.
+/// [`PrintError::Unsupported`] where something in it has no form in code, [`PrintError::Untied`]
+/// where the printed code isn't the schema's.
 pub fn print_crate(
     alloc: Global,
     schema: &Schema,
     name: &str,
     verified: bool,
-) -> Result<Vec<PrintedFile>, Refusal>
+) -> Result<Vec<PrintedFile>, PrintError>
     ensures { IfOk result (λ files. IsPrinted verified schema.now files.items) }
 {
     refuse_unsupported(alloc, &schema.declarations)?;
@@ -531,7 +531,7 @@ pub fn print_crate(
         &files,
         verified,
     )? {
-        return Err(Refusal::Untied);
+        return Err(PrintError::Untied);
     }
     Ok(files)
 }

@@ -9,7 +9,7 @@ ghost use Rattle.planus_schema.specs.Names as names_spec;
 
 use crate::context::{count_in, member_in};
 use crate::known::{is_known_module, is_known_type};
-use crate::refusal::Refusal;
+use crate::print_error::PrintError;
 use planus_schema::{
     Body, Declared, add, allowed, are_apart, are_apart_from, are_names, are_scopes, capital,
     capitals, has_name as is_in, is_among, is_held, is_reserved, last_word, snake, value_spelled,
@@ -286,9 +286,9 @@ fn names_of(alloc: Global, declared: &[Declared]) -> Result<Names, AllocError>
 impl Names {
     /// Returns the names of what is declared.
     ///
-    /// [`Refusal::Unsupported`] where one is no identifier or two of a scope are alike, which no
+    /// [`PrintError::Unsupported`] where one is no identifier or two of a scope are alike, which no
     /// schema comes to.
-    pub fn of(alloc: Global, declared: &[Declared]) -> Result<Names, Refusal>
+    pub fn of(alloc: Global, declared: &[Declared]) -> Result<Names, PrintError>
         ensures counts { IfOk result (λ n. length n.types.items ≡ length declared.now) }
         ensures counts_of_modules { IfOk result (λ n. length n.modules.items
             ≡ length declared.now) }
@@ -318,7 +318,7 @@ impl Names {
         if whole && apart && are_scopes(&names.members) {
             return Ok(names);
         }
-        Err(Refusal::Unsupported {
+        Err(PrintError::Unsupported {
             what: "a name that no code can have",
             name: Vec::new(alloc),
         })

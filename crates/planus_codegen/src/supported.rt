@@ -2,7 +2,7 @@
 
 use crate::hex_floats::is_too_long;
 use crate::parts::has_too_many_parts;
-use crate::refusal::Refusal;
+use crate::print_error::PrintError;
 use planus_schema::{
     Body, Declared, Enum, Plan, Table, TableField, Union, Value, is_hexadecimal, without_sign,
 };
@@ -95,12 +95,12 @@ fn unsupported(body: &Body) -> Option<&'static str> {
     }
 }
 
-fn refuse(alloc: Global, what: &'static str, one: &Declared) -> Result<(), Refusal> {
+fn refuse(alloc: Global, what: &'static str, one: &Declared) -> Result<(), PrintError> {
     let name = Vec::from_slice(alloc, &one.name)?;
-    Err(Refusal::Unsupported { what, name })
+    Err(PrintError::Unsupported { what, name })
 }
 
-pub(crate) fn refuse_unsupported(alloc: Global, declared: &[Declared]) -> Result<(), Refusal> {
+pub(crate) fn refuse_unsupported(alloc: Global, declared: &[Declared]) -> Result<(), PrintError> {
     for (index, one) in declared.iter().enumerate() {
         if let Some(what) = unsupported(&one.body) {
             return refuse(alloc, what, one);

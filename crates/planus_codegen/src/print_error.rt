@@ -4,7 +4,7 @@ use std::alloc::AllocError;
 
 /// Why no code is printed.
 #[derive(Debug, Drop)]
-pub enum Refusal {
+pub enum PrintError {
     OutOfMemory,
     /// What isn't supported, and the full name of the declaration with it.
     Unsupported { what: &'static str, name: Vec<u8> },
@@ -12,12 +12,12 @@ pub enum Refusal {
     Untied,
 }
 
-impl From<AllocError> for Refusal {
-    ghost use Rattle.planus_codegen.specs.declared.refusal.Refusal.TheVariants.{OutOfMemory};
+impl From<AllocError> for PrintError {
+    ghost use Rattle.planus_codegen.specs.declared.print_error.PrintError.TheVariants.{OutOfMemory};
 
-    ghost from_gives = { λ _ refusal. refusal ≡ OutOfMemory };
+    ghost from_gives = { λ _ error. error ≡ OutOfMemory };
 
-    fn from(_error: AllocError) -> Refusal {
-        Refusal::OutOfMemory
+    fn from(_error: AllocError) -> PrintError {
+        PrintError::OutOfMemory
     }
 }
