@@ -7,8 +7,8 @@ use Rattle.planus_syntax.specs.declared.value.Declaration.{Declaration}
 use Rattle.planus_syntax.specs.Values.{SchemaV, declarations_of, schema_pieces}
 use Rattle.planus_syntax.proofs.Composed.{spelled_lexes}
 use Rattle.planus_resolve.specs.declared.fault.Fault.{Fault}
-use Rattle.planus_resolve.specs.declared.fault.Refusal.{Refusal}
-use Rattle.planus_resolve.specs.declared.fault.Refusal.TheVariants.{Faults}
+use Rattle.planus_resolve.specs.declared.fault.ResolveError.{ResolveError}
+use Rattle.planus_resolve.specs.declared.fault.ResolveError.TheVariants.{Faults}
 use Rattle.planus_resolve.specs.Faults.{AreWithin}
 use Rattle.planus_cli.specs.declared.check.File.{File}
 use Rattle.planus_cli.specs.Outcomes.{HasTokens, IsSpelled}
@@ -46,7 +46,7 @@ spelled_push (g ∷ fs) [] f d h s = absurd h
 spelled_push (g ∷ fs) (e ∷ ds) f d h s = (h.0, spelled_push fs ds f d h.1 s)
 
 -- what is within the declarations is within as many files
-pub within_files : (n m : ℕ) (e : Refusal) (faults : Vec Fault) (xs : List Fault) → m ≡ n → e ≡ Faults faults → xs ≡ faults.items
+pub within_files : (n m : ℕ) (e : ResolveError) (faults : Vec Fault) (xs : List Fault) → m ≡ n → e ≡ Faults faults → xs ≡ faults.items
     → AreWithin n e → All (λ f. f.file < m) xs
 within_files n m e faults xs same is value h =
     subst (λ k. All (λ f. f.file < k) xs) (sym same) (subst (All (λ f. f.file < n)) (sym value) (subst (AreWithin n) is h))

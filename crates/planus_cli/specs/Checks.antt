@@ -22,7 +22,7 @@ use Rattle.planus_resolve.specs.Sound.{IsSound}
 use Rattle.planus_resolve.specs.declared.fault.Fault.{Fault}
 use Rattle.planus_schema.specs.declared.schema.Schema.{Schema}
 use Rattle.planus_cli.specs.declared.check.File.{File}
-use Rattle.planus_cli.specs.Problems.{message_text}
+use Rattle.planus_cli.specs.FaultTexts.{message_text}
 use Rattle.planus_cli.specs.Reports.{report_text}
 
 -- Each file's text spells the declarations of the same index.
@@ -49,7 +49,7 @@ word_of bytes = take (position_or_len ends_word bytes) bytes
 abbrev pub IsReport : List HeadV → File → Fault → List ℕ → Type 0
 IsReport hs file fault report = (at : ℕ) × IsPlaceAt file.text.items fault.left at
     × (report ≡ report_text (string_bytes file.name) file.text.items at
-    (message_text hs fault.problem (word_of (unquoted (drop at file.text.items)))))
+    (message_text hs fault.kind (word_of (unquoted (drop at file.text.items)))))
 
 pub record IsReportIn (hs : List HeadV) (files : List File) (fault : Fault) (report : List ℕ)
     : Type 0 where

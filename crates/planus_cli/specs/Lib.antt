@@ -4,7 +4,7 @@ pub mod Said
 pub mod Shown
 pub mod Reports
 pub mod Outcomes
-pub mod Problems
+pub mod FaultTexts
 pub mod Checks
 pub mod Disks
 pub mod Files

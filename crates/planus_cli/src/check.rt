@@ -6,11 +6,11 @@ ghost use Rattle.planus_resolve.specs.Names.{head_of};
 ghost use Rattle.planus_cli.specs.Checks as spec;
 ghost use Rattle.planus_cli.specs.Outcomes.{HasTokens};
 
+use crate::fault_texts::message_text;
 use crate::placed::place_of;
-use crate::problem::message_text;
 use crate::report::report;
 use crate::streams::{RunError, write_out};
-use planus_resolve::{Fault, Head, Refusal, Schema, heads_of, resolve};
+use planus_resolve::{Fault, Head, ResolveError, Schema, heads_of, resolve};
 use planus_syntax::Declaration;
 use std::alloc::{AllocError, Global};
 use std::io::Write;
@@ -58,7 +58,7 @@ fn fault_report(
 {
     let at = place_of(alloc, &file.text, fault.left)?;
     let word = word_of(unquoted(&file.text[at..]));
-    let message = message_text(alloc, heads, fault.problem, word)?;
+    let message = message_text(alloc, heads, fault.kind, word)?;
     report(alloc, file.name.as_str(), &file.text, at, &message)
 }
 
@@ -115,8 +115,8 @@ pub fn resolve_or_report<X: Write>(
 {
     match resolve(alloc, declarations) {
         Ok(schema) => Ok(Some(schema)),
-        Err(Refusal::OutOfMemory) => Err(RunError::OutOfMemory),
-        Err(Refusal::Faults(faults)) => {
+        Err(ResolveError::OutOfMemory) => Err(RunError::OutOfMemory),
+        Err(ResolveError::Faults(faults)) => {
             let heads = heads_of(alloc, declarations)?;
             let out = reports(alloc, &heads, files, &faults)?;
             write_out(errors, &out)?;

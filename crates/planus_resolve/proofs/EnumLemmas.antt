@@ -10,9 +10,9 @@ use Rattle.planus_syntax.specs.declared.value.Enumeration.{Enumeration}
 use Rattle.planus_syntax.specs.declared.value.Variant.{Variant}
 use Rattle.planus_schema.specs.Distinct.{is_in, AreDistinct}
 use Rattle.std.specs.Str.{bytes_eq}
-use Rattle.planus_resolve.specs.declared.fault.Problem.TheVariants as problem
-use Rattle.planus_resolve.specs.declared.fault.Stop.{Stop}
-use Rattle.planus_resolve.specs.declared.fault.Stop.TheVariants as stop
+use Rattle.planus_resolve.specs.declared.fault.FaultKind.TheVariants as fault
+use Rattle.planus_resolve.specs.declared.fault.DeclarationError.{DeclarationError}
+use Rattle.planus_resolve.specs.declared.fault.DeclarationError.TheVariants as declaration_error
 use Rattle.planus_resolve.specs.Names.{has, listed, also_said}
 use Rattle.planus_resolve.specs.Wrong.{Broken, broken, when, first, Stops}
 use Rattle.planus_resolve.specs.WrongEnums.{wrong_value, wrong_values, wrong_names, wrong_enum}
@@ -60,14 +60,14 @@ numbers_end front all e = sym e ∙ ap Some (append-nil front)
 pub value_is : (flags : Bool) (previous : Option Number) (w : Option (List ℕ)) (n value : Number) → Some n ≡ number_said previous w → Some value ≡ settled_said flags n → value_said flags (number_said previous w) ≡ Some value
 value_is flags previous w n value e f = ap (value_said flags) (sym e) ∙ sym f
 
-pub value_stops : (s : Scalar) (flags : Bool) (previous : Option Number) (values : List Number) (vs : List Variant) (v : Variant) (rest : List Variant) (all : Option Broken) (o : Option Number) (e : Stop) → vs ≡ v ∷ rest → wrong_values s flags previous values vs ≡ all → value_said flags (number_said previous (digits_of v.value)) ≡ o → Stops (wrong_value s values v o) e → Stops all e
+pub value_stops : (s : Scalar) (flags : Bool) (previous : Option Number) (values : List Number) (vs : List Variant) (v : Variant) (rest : List Variant) (all : Option Broken) (o : Option Number) (e : DeclarationError) → vs ≡ v ∷ rest → wrong_values s flags previous values vs ≡ all → value_said flags (number_said previous (digits_of v.value)) ≡ o → Stops (wrong_value s values v o) e → Stops all e
 value_stops s flags previous values vs v rest all o e here same said h =
     subst (λ w. Stops w e) (ap (wrong_values s flags previous values) (sym here) ∙ same)
     (stops_first _ _ e (subst (λ p. Stops (wrong_value s values v p) e) (sym said) h))
 
-pub no_value_stops : (s : Scalar) (flags : Bool) (previous : Option Number) (values : List Number) (vs : List Variant) (v : Variant) (rest : List Variant) (all : Option Broken) → vs ≡ v ∷ rest → wrong_values s flags previous values vs ≡ all → value_said flags (number_said previous (digits_of v.value)) ≡ None → Stops all (stop.Wrong problem.ValueOutOfRange v.left)
+pub no_value_stops : (s : Scalar) (flags : Bool) (previous : Option Number) (values : List Number) (vs : List Variant) (v : Variant) (rest : List Variant) (all : Option Broken) → vs ≡ v ∷ rest → wrong_values s flags previous values vs ≡ all → value_said flags (number_said previous (digits_of v.value)) ≡ None → Stops all (declaration_error.Wrong fault.ValueOutOfRange v.left)
 no_value_stops s flags previous values vs v rest all here same said =
-    value_stops s flags previous values vs v rest all None (stop.Wrong problem.ValueOutOfRange v.left) here same said refl
+    value_stops s flags previous values vs v rest all None (declaration_error.Wrong fault.ValueOutOfRange v.left) here same said refl
 
 pub values_next : (s : Scalar) (flags : Bool) (previous : Option Number) (values : List Number) (vs : List Variant) (v : Variant) (rest : List Variant) (all : Option Broken) (n : Number) (value : Number) (values' : List Number) → vs ≡ v ∷ rest → wrong_values s flags previous values vs ≡ all → value_said flags (number_said previous (digits_of v.value)) ≡ Some value → wrong_value s values v (Some value) ≡ None → Some n ≡ number_said previous (digits_of v.value) → values' ≡ values ++ value ∷ [] → wrong_values s flags (Some n) values' rest ≡ all
 values_next s flags previous values vs v rest all n value values' here same said none is added =
@@ -76,18 +76,18 @@ values_next s flags previous values vs v rest all n value values' here same said
     ∙ sym (skip (wrong_value s values v (value_said flags (number_said previous (digits_of v.value)))) _ (ap (wrong_value s values v) said ∙ none))
     ∙ ap (wrong_values s flags previous values) (sym here) ∙ same
 
-pub value_name_stops : (names : List Name) (vs : List Variant) (v : Variant) (rest : List Variant) (all : Option Broken) → vs ≡ v ∷ rest → wrong_names names vs ≡ all → is_in names v.name.items ≡ true → Stops all (stop.Wrong problem.ValueNameTaken v.left)
+pub value_name_stops : (names : List Name) (vs : List Variant) (v : Variant) (rest : List Variant) (all : Option Broken) → vs ≡ v ∷ rest → wrong_names names vs ≡ all → is_in names v.name.items ≡ true → Stops all (declaration_error.Wrong fault.ValueNameTaken v.left)
 value_name_stops names vs v rest all here same used =
-    subst (λ o. Stops o (stop.Wrong problem.ValueNameTaken v.left)) (ap (wrong_names names) (sym here) ∙ same)
-    (stops_now _ problem.ValueNameTaken v.left _ used)
+    subst (λ o. Stops o (declaration_error.Wrong fault.ValueNameTaken v.left)) (ap (wrong_names names) (sym here) ∙ same)
+    (stops_now _ fault.ValueNameTaken v.left _ used)
 
 pub value_names_next : (names : List Name) (vs : List Variant) (v : Variant) (rest : List Variant) (all : Option Broken) (names' : List Name) → vs ≡ v ∷ rest → wrong_names names vs ≡ all → is_in names v.name.items ≡ false → names' ≡ names ++ v.name.items ∷ [] → wrong_names names' rest ≡ all
 value_names_next names vs v rest all names' here same new named =
     ap (λ ns. wrong_names ns rest) named
-    ∙ sym (skip (when (is_in names v.name.items) problem.ValueNameTaken v.left) _ (passes _ problem.ValueNameTaken v.left new))
+    ∙ sym (skip (when (is_in names v.name.items) fault.ValueNameTaken v.left) _ (passes _ fault.ValueNameTaken v.left new))
     ∙ ap (wrong_names names) (sym here) ∙ same
 
-pub untyped : (integer : Option Scalar) (e : Enumeration) → integer ≡ None → wrong_enum integer e ≡ broken problem.NoIntegerType e.base.left
+pub untyped : (integer : Option Scalar) (e : Enumeration) → integer ≡ None → wrong_enum integer e ≡ broken fault.NoIntegerType e.base.left
 untyped integer e h = rw h refl
 
 pub typed : (integer : Option Scalar) (e : Enumeration) (s : Scalar) → integer ≡ Some s → wrong_enum integer e ≡ first (wrong_names [] e.variants.items) (wrong_values s (has (codes "bit_flags") (map attribute_of e.attributes.items)) None [] e.variants.items)

@@ -12,9 +12,9 @@ use Rattle.planus_syntax.specs.Values.{Name, kind_of}
 use Rattle.planus_syntax.specs.declared.value.Field.{Field}
 use Rattle.planus_schema.specs.declared.measure.Measure.{Measure}
 use Rattle.planus_schema.specs.declared.schema.Base.{Base}
-use Rattle.planus_resolve.specs.declared.fault.Problem.TheVariants as problem
-use Rattle.planus_resolve.specs.declared.fault.Stop.{Stop}
-use Rattle.planus_resolve.specs.declared.fault.Stop.TheVariants as stop
+use Rattle.planus_resolve.specs.declared.fault.FaultKind.TheVariants as fault
+use Rattle.planus_resolve.specs.declared.fault.DeclarationError.{DeclarationError}
+use Rattle.planus_resolve.specs.declared.fault.DeclarationError.TheVariants as declaration_error
 use Rattle.planus_resolve.specs.Names.{HeadV, SpaceV, type_named}
 use Rattle.planus_resolve.specs.Structs.{count_said}
 use Rattle.planus_resolve.specs.Wrong.{Broken, broken, when, first, Stops}
@@ -48,18 +48,18 @@ drop_next xs i x h e = rw add-one (drop-cons xs i x h ∙ ap (λ y. y ∷ drop (
 pub map_rest : {A B : Type 0} (f : A → B) (xs : List A) (i : ℕ) (x : A) → i < length xs → x ≡ get_or xs i x → map f (drop i xs) ≡ f x ∷ map f (drop (i + 1) xs)
 map_rest f xs i x h e = ap (map f) (drop_next xs i x h e)
 
-pub struct_field_stops : (hs : List HeadV) (space : SpaceV) (ms : List (Option Measure)) (at : ℕ) (names : List Name) (fs : List Field) (d : Field) (ds : List Field) (all : Option Broken) (s : Stop) → fs ≡ d ∷ ds → wrong_struct_fields hs space ms at names fs ≡ all → Stops (wrong_struct_field hs space ms at d) s → Stops all s
+pub struct_field_stops : (hs : List HeadV) (space : SpaceV) (ms : List (Option Measure)) (at : ℕ) (names : List Name) (fs : List Field) (d : Field) (ds : List Field) (all : Option Broken) (s : DeclarationError) → fs ≡ d ∷ ds → wrong_struct_fields hs space ms at names fs ≡ all → Stops (wrong_struct_field hs space ms at d) s → Stops all s
 struct_field_stops hs space ms at names fs d ds all s here same h =
     subst (λ o. Stops o s) (ap (wrong_struct_fields hs space ms at names) (sym here) ∙ same) (stops_first _ _ s h)
 
-pub struct_name_stops : (hs : List HeadV) (space : SpaceV) (ms : List (Option Measure)) (at : ℕ) (names : List Name) (fs : List Field) (d : Field) (ds : List Field) (all : Option Broken) → fs ≡ d ∷ ds → wrong_struct_fields hs space ms at names fs ≡ all → wrong_struct_field hs space ms at d ≡ None → is_in names d.name.items ≡ true → Stops all (stop.Wrong problem.FieldNameTaken d.left)
+pub struct_name_stops : (hs : List HeadV) (space : SpaceV) (ms : List (Option Measure)) (at : ℕ) (names : List Name) (fs : List Field) (d : Field) (ds : List Field) (all : Option Broken) → fs ≡ d ∷ ds → wrong_struct_fields hs space ms at names fs ≡ all → wrong_struct_field hs space ms at d ≡ None → is_in names d.name.items ≡ true → Stops all (declaration_error.Wrong fault.FieldNameTaken d.left)
 struct_name_stops hs space ms at names fs d ds all here same field used =
-    subst (λ o. Stops o (stop.Wrong problem.FieldNameTaken d.left)) (ap (wrong_struct_fields hs space ms at names) (sym here) ∙ same)
-    (stops_next _ _ (stop.Wrong problem.FieldNameTaken d.left) field (stops_now _ problem.FieldNameTaken d.left _ used))
+    subst (λ o. Stops o (declaration_error.Wrong fault.FieldNameTaken d.left)) (ap (wrong_struct_fields hs space ms at names) (sym here) ∙ same)
+    (stops_next _ _ (declaration_error.Wrong fault.FieldNameTaken d.left) field (stops_now _ fault.FieldNameTaken d.left _ used))
 
 pub struct_fields_next : (hs : List HeadV) (space : SpaceV) (ms : List (Option Measure)) (at : ℕ) (names : List Name) (fs : List Field) (d : Field) (ds : List Field) (all : Option Broken) (at' : ℕ) (names' : List Name) → fs ≡ d ∷ ds → wrong_struct_fields hs space ms at names fs ≡ all → wrong_struct_field hs space ms at d ≡ None → is_in names d.name.items ≡ false → at' ≡ end_of at (field_measure hs space ms d) → names' ≡ names ++ d.name.items ∷ [] → wrong_struct_fields hs space ms at' names' ds ≡ all
 struct_fields_next hs space ms at names fs d ds all at' names' here same field new end named =
-    rw (end, named) (sym (skip (when (is_in names d.name.items) problem.FieldNameTaken d.left) _ (passes _ problem.FieldNameTaken d.left new))
+    rw (end, named) (sym (skip (when (is_in names d.name.items) fault.FieldNameTaken d.left) _ (passes _ fault.FieldNameTaken d.left new))
     ∙ sym (skip (wrong_struct_field hs space ms at d) _ field)
     ∙ ap (wrong_struct_fields hs space ms at names) (sym here) ∙ same)
 
@@ -73,13 +73,13 @@ count_known : (f : Field) (count : Option ℕ) → count_said (kind_of f.kind) �
 count_known f count e = ap count_or_none e
 
 pub field_known : (hs : List HeadV) (space : SpaceV) (ms : List (Option Measure)) (at : ℕ) (f : Field) (b : Base) (count : Option ℕ) → wrong_plain hs space f ≡ None → type_named hs space (kind_of f.kind) ≡ Some (record { vector = false; base = b }) → wrong_array f f.kind ≡ None → count_said (kind_of f.kind) ≡ Some count
-    → wrong_struct_field hs space ms at f ≡ first (wrong_measure b f.left (measure_among ms b)) (when (not (nat_le (end_of at (items_among ms count b)) 65535)) problem.StructTooLarge f.left)
+    → wrong_struct_field hs space ms at f ≡ first (wrong_measure b f.left (measure_among ms b)) (when (not (nat_le (end_of at (items_among ms count b)) 65535)) fault.StructTooLarge f.left)
 field_known hs space ms at f b count p t a c =
     skip (wrong_plain hs space f) _ p ∙ skip (wrong_array f f.kind) _ a
     ∙ ap (λ n. wrong_type ms n at f.left (type_named hs space (kind_of f.kind))) (count_known f count c)
     ∙ ap (wrong_type ms count at f.left) t
 
-pub array_stops : (hs : List HeadV) (space : SpaceV) (ms : List (Option Measure)) (at : ℕ) (f : Field) (s : Stop) → wrong_plain hs space f ≡ None → Stops (wrong_array f f.kind) s → Stops (wrong_struct_field hs space ms at f) s
+pub array_stops : (hs : List HeadV) (space : SpaceV) (ms : List (Option Measure)) (at : ℕ) (f : Field) (s : DeclarationError) → wrong_plain hs space f ≡ None → Stops (wrong_array f f.kind) s → Stops (wrong_struct_field hs space ms at f) s
 array_stops hs space ms at f s p h = stops_next _ _ s p (stops_first _ _ s h)
 
 pub items_known : (ms : List (Option Measure)) (count : Option ℕ) (b : Base) (m : Measure) → measure_among ms b ≡ Some m → items_among ms count b ≡ Some (measure_of_items count m)
@@ -90,17 +90,17 @@ measure_known hs space ms f b count m t c a =
     ap (λ n. measure_in_type ms n (type_named hs space (kind_of f.kind))) (count_known f count c)
     ∙ ap (measure_in_type ms count) t ∙ items_known ms count b m a
 
-pub ends_within : (at end left : ℕ) (o : Option Measure) (m : Measure) → o ≡ Some m → end ≡ end_of at (Some m) → end ≤ 65535 → when (not (nat_le (end_of at o) 65535)) problem.StructTooLarge left ≡ None
+pub ends_within : (at end left : ℕ) (o : Option Measure) (m : Measure) → o ≡ Some m → end ≡ end_of at (Some m) → end ≤ 65535 → when (not (nat_le (end_of at o) 65535)) fault.StructTooLarge left ≡ None
 ends_within at end left o m e is h =
-    ap (λ x. when (not (nat_le (end_of at x) 65535)) problem.StructTooLarge left) e
-    ∙ ap (λ n. when (not (nat_le n 65535)) problem.StructTooLarge left) (sym is)
-    ∙ ap (λ b. when (not b) problem.StructTooLarge left) (le-leb end 65535 h)
+    ap (λ x. when (not (nat_le (end_of at x) 65535)) fault.StructTooLarge left) e
+    ∙ ap (λ n. when (not (nat_le n 65535)) fault.StructTooLarge left) (sym is)
+    ∙ ap (λ b. when (not b) fault.StructTooLarge left) (le-leb end 65535 h)
 
-pub ends_after : (at end left : ℕ) (o : Option Measure) (m : Measure) → o ≡ Some m → end ≡ end_of at (Some m) → 65535 < end → when (not (nat_le (end_of at o) 65535)) problem.StructTooLarge left ≡ broken problem.StructTooLarge left
+pub ends_after : (at end left : ℕ) (o : Option Measure) (m : Measure) → o ≡ Some m → end ≡ end_of at (Some m) → 65535 < end → when (not (nat_le (end_of at o) 65535)) fault.StructTooLarge left ≡ broken fault.StructTooLarge left
 ends_after at end left o m e is h =
-    ap (λ x. when (not (nat_le (end_of at x) 65535)) problem.StructTooLarge left) e
-    ∙ ap (λ n. when (not (nat_le n 65535)) problem.StructTooLarge left) (sym is)
-    ∙ ap (λ b. when (not b) problem.StructTooLarge left) (lt-leb end 65535 h)
+    ap (λ x. when (not (nat_le (end_of at x) 65535)) fault.StructTooLarge left) e
+    ∙ ap (λ n. when (not (nat_le n 65535)) fault.StructTooLarge left) (sym is)
+    ∙ ap (λ b. when (not b) fault.StructTooLarge left) (lt-leb end 65535 h)
 
 pub empty_is : (fs : List Field) → is_empty fs ≡ (length fs == 0)
 empty_is [] = refl

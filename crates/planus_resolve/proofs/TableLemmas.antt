@@ -5,11 +5,11 @@ use Rattle.std.specs.List.{list_all}
 use Rattle.planus_syntax.specs.Values.{Name, field_of, kind_of, attribute_of, names_of}
 use Rattle.planus_syntax.specs.declared.value.Attribute.{Attribute}
 use Rattle.planus_syntax.specs.declared.value.Field.{Field}
-use Rattle.planus_resolve.specs.declared.fault.Problem.TheVariants as problem
+use Rattle.planus_resolve.specs.declared.fault.FaultKind.TheVariants as fault
 use Rattle.planus_resolve.specs.Names.{HeadV, SpaceV, has, type_named, attribute_named}
 use Rattle.planus_resolve.specs.Wrong.{Broken, when, first, Stops}
-use Rattle.planus_resolve.specs.declared.fault.Stop.{Stop}
-use Rattle.planus_resolve.specs.declared.fault.Stop.TheVariants as stop
+use Rattle.planus_resolve.specs.declared.fault.DeclarationError.{DeclarationError}
+use Rattle.planus_resolve.specs.declared.fault.DeclarationError.TheVariants as declaration_error
 use Rattle.planus_resolve.proofs.FaultLemmas.{skip, passes, stops_first, stops_next, stops_now}
 use Rattle.planus_resolve.specs.WrongTables.{wrong_field_type, wrong_slot, wrong_default, wrong_nested, wrong_law, wrong_typed, field_type, field_slot, slots_at, slots_from, wrong_field, wrong_fields, names_in, are_among}
 use Rattle.planus_schema.specs.Slots.{slots_of, slots_taken}
@@ -60,44 +60,44 @@ pub record Left (hs : List HeadV) (space : SpaceV) (ids : Bool) (next : ℕ) (ke
 -- the fault after this field, which takes these names
 abbrev pub after_field : List HeadV → SpaceV → Bool → ℕ → Bool → List Name → TableField → Field → List Field → Option Broken
 after_field hs space ids next key names f d ds =
-    first (when (are_among names (names_taken f)) problem.FieldNameTaken d.left)
-    (first (when (f.key && key) problem.SecondKey d.left)
+    first (when (are_among names (names_taken f)) fault.FieldNameTaken d.left)
+    (first (when (f.key && key) fault.SecondKey d.left)
     (wrong_fields hs space ids (next + width f.kind) (key || f.key) (names ++ names_taken f) ds))
 
 pub after_is : (hs : List HeadV) (space : SpaceV) (ids : Bool) (next : ℕ) (key : Bool) (names : List Name) (fs : List Field) (d : Field) (ds : List Field) (all : Option Broken) (f : TableField) → Left hs space ids next key names fs d ds all → f.kind ≡ field_type hs space d → f.key ≡ has (codes "key") (field_of d).attributes → names_taken f ≡ names_in (field_type hs space d) d → after_field hs space ids next key names f d ds ≡ all
 after_is hs space ids next key names fs d ds all f l k is n =
     let low : not (nat_le next 65535) ≡ false = ap not l.low in
-    ap (λ ns. first (when (are_among names ns) problem.FieldNameTaken d.left) (first (when (f.key && key) problem.SecondKey d.left) (wrong_fields hs space ids (next + width f.kind) (key || f.key) (names ++ ns) ds))) n
-    ∙ ap (λ q. first (when (are_among names (names_in (field_type hs space d) d)) problem.FieldNameTaken d.left) (first (when (q && key) problem.SecondKey d.left) (wrong_fields hs space ids (next + width f.kind) (key || q) (names ++ names_in (field_type hs space d) d) ds))) is
-    ∙ ap (λ u. first (when (are_among names (names_in (field_type hs space d) d)) problem.FieldNameTaken d.left) (first (when (has (codes "key") (field_of d).attributes && key) problem.SecondKey d.left) (wrong_fields hs space ids (next + width u) (key || has (codes "key") (field_of d).attributes) (names ++ names_in (field_type hs space d) d) ds))) k
-    ∙ sym (skip (wrong_field hs space ids next d) _ l.field) ∙ sym (skip (when (not (nat_le next 65535)) problem.TooManySlots d.left) _ (passes _ problem.TooManySlots d.left low))
+    ap (λ ns. first (when (are_among names ns) fault.FieldNameTaken d.left) (first (when (f.key && key) fault.SecondKey d.left) (wrong_fields hs space ids (next + width f.kind) (key || f.key) (names ++ ns) ds))) n
+    ∙ ap (λ q. first (when (are_among names (names_in (field_type hs space d) d)) fault.FieldNameTaken d.left) (first (when (q && key) fault.SecondKey d.left) (wrong_fields hs space ids (next + width f.kind) (key || q) (names ++ names_in (field_type hs space d) d) ds))) is
+    ∙ ap (λ u. first (when (are_among names (names_in (field_type hs space d) d)) fault.FieldNameTaken d.left) (first (when (has (codes "key") (field_of d).attributes && key) fault.SecondKey d.left) (wrong_fields hs space ids (next + width u) (key || has (codes "key") (field_of d).attributes) (names ++ names_in (field_type hs space d) d) ds))) k
+    ∙ sym (skip (wrong_field hs space ids next d) _ l.field) ∙ sym (skip (when (not (nat_le next 65535)) fault.TooManySlots d.left) _ (passes _ fault.TooManySlots d.left low))
     ∙ ap (wrong_fields hs space ids next key names) (sym l.here) ∙ l.same
 
-pub slot_stops : (hs : List HeadV) (space : SpaceV) (ids : Bool) (next : ℕ) (key : Bool) (names : List Name) (fs : List Field) (d : Field) (ds : List Field) (all : Option Broken) → fs ≡ d ∷ ds → nat_le next 65535 ≡ false → wrong_fields hs space ids next key names fs ≡ all → Stops all (stop.Wrong problem.TooManySlots d.left)
+pub slot_stops : (hs : List HeadV) (space : SpaceV) (ids : Bool) (next : ℕ) (key : Bool) (names : List Name) (fs : List Field) (d : Field) (ds : List Field) (all : Option Broken) → fs ≡ d ∷ ds → nat_le next 65535 ≡ false → wrong_fields hs space ids next key names fs ≡ all → Stops all (declaration_error.Wrong fault.TooManySlots d.left)
 slot_stops hs space ids next key names fs d ds all here high same =
-    subst (λ o. Stops o (stop.Wrong problem.TooManySlots d.left)) (ap (wrong_fields hs space ids next key names) (sym here) ∙ same)
-    (stops_now _ problem.TooManySlots d.left _ (ap not high))
+    subst (λ o. Stops o (declaration_error.Wrong fault.TooManySlots d.left)) (ap (wrong_fields hs space ids next key names) (sym here) ∙ same)
+    (stops_now _ fault.TooManySlots d.left _ (ap not high))
 
-pub field_stops : (hs : List HeadV) (space : SpaceV) (ids : Bool) (next : ℕ) (key : Bool) (names : List Name) (fs : List Field) (d : Field) (ds : List Field) (all : Option Broken) (s : Stop) → fs ≡ d ∷ ds → nat_le next 65535 ≡ true → wrong_fields hs space ids next key names fs ≡ all → Stops (wrong_field hs space ids next d) s → Stops all s
+pub field_stops : (hs : List HeadV) (space : SpaceV) (ids : Bool) (next : ℕ) (key : Bool) (names : List Name) (fs : List Field) (d : Field) (ds : List Field) (all : Option Broken) (s : DeclarationError) → fs ≡ d ∷ ds → nat_le next 65535 ≡ true → wrong_fields hs space ids next key names fs ≡ all → Stops (wrong_field hs space ids next d) s → Stops all s
 field_stops hs space ids next key names fs d ds all s here low same h =
     subst (λ o. Stops o s) (ap (wrong_fields hs space ids next key names) (sym here) ∙ same)
-    (stops_next _ _ s (passes _ problem.TooManySlots d.left (ap not low)) (stops_first _ _ s h))
+    (stops_next _ _ s (passes _ fault.TooManySlots d.left (ap not low)) (stops_first _ _ s h))
 
 one_by_one : (a b c : Option Broken) → first a (first b c) ≡ first (first a b) c
 one_by_one None b c = refl
 one_by_one (Some x) b c = refl
 
-pub names_stop : (hs : List HeadV) (space : SpaceV) (ids : Bool) (next : ℕ) (key : Bool) (names : List Name) (f : TableField) (d : Field) (ds : List Field) (all : Option Broken) (s : Stop) → after_field hs space ids next key names f d ds ≡ all → Stops (first (when (are_among names (names_taken f)) problem.FieldNameTaken d.left) (when (f.key && key) problem.SecondKey d.left)) s → Stops all s
+pub names_stop : (hs : List HeadV) (space : SpaceV) (ids : Bool) (next : ℕ) (key : Bool) (names : List Name) (f : TableField) (d : Field) (ds : List Field) (all : Option Broken) (s : DeclarationError) → after_field hs space ids next key names f d ds ≡ all → Stops (first (when (are_among names (names_taken f)) fault.FieldNameTaken d.left) (when (f.key && key) fault.SecondKey d.left)) s → Stops all s
 names_stop hs space ids next key names f d ds all s is h =
-    let a = when (are_among names (names_taken f)) problem.FieldNameTaken d.left in
-    let b = when (f.key && key) problem.SecondKey d.left in
+    let a = when (are_among names (names_taken f)) fault.FieldNameTaken d.left in
+    let b = when (f.key && key) fault.SecondKey d.left in
     let c = wrong_fields hs space ids (next + width f.kind) (key || f.key) (names ++ names_taken f) ds in
     subst (λ o. Stops o s) (sym (one_by_one a b c) ∙ is) (stops_first (first a b) c s h)
 
 pub nothing_wrong : (hs : List HeadV) (space : SpaceV) (ids : Bool) (next : ℕ) (key : Bool) (names : List Name) (d : Field) (ds : List Field) (all : Option Broken) (f : TableField) (names' : List Name) (key' : Bool) (next' : ℕ) → after_field hs space ids next key names f d ds ≡ all → are_among names (names_taken f) ≡ false → (f.key && key) ≡ false → names' ≡ names ++ names_taken f → key' ≡ (key || f.key) → next' ≡ next + width f.kind → wrong_fields hs space ids next' key' names' ds ≡ all
 nothing_wrong hs space ids next key names d ds all f names' key' next' h a b n k w =
-    rw (n, k, w) (sym (skip (when (f.key && key) problem.SecondKey d.left) _ (passes _ problem.SecondKey d.left b))
-    ∙ sym (skip (when (are_among names (names_taken f)) problem.FieldNameTaken d.left) _ (passes _ problem.FieldNameTaken d.left a)) ∙ h)
+    rw (n, k, w) (sym (skip (when (f.key && key) fault.SecondKey d.left) _ (passes _ fault.SecondKey d.left b))
+    ∙ sym (skip (when (are_among names (names_taken f)) fault.FieldNameTaken d.left) _ (passes _ fault.FieldNameTaken d.left a)) ∙ h)
 
 pub names_are : (f : TableField) (d : Field) (t : FieldType) → f.kind ≡ t → f.name.items ≡ d.name.items → names_taken f ≡ names_in t d
 names_are f d t k n = ap (λ u. names_for u f.name.items) k ∙ ap (names_for t) n

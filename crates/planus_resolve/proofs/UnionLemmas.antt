@@ -6,9 +6,9 @@ use Rattle.std.proofs.lemmas.List.Folds.{list_all-append}
 use Rattle.std.specs.Prelude.{Option, Some, None}
 use Rattle.planus_syntax.specs.Values.{Name, MemberV, digits_of, member_of}
 use Rattle.planus_syntax.specs.declared.value.Member.{Member}
-use Rattle.planus_resolve.specs.declared.fault.Problem.TheVariants as problem
-use Rattle.planus_resolve.specs.declared.fault.Stop.{Stop}
-use Rattle.planus_resolve.specs.declared.fault.Stop.TheVariants as stop
+use Rattle.planus_resolve.specs.declared.fault.FaultKind.TheVariants as fault
+use Rattle.planus_resolve.specs.declared.fault.DeclarationError.{DeclarationError}
+use Rattle.planus_resolve.specs.declared.fault.DeclarationError.TheVariants as declaration_error
 use Rattle.std.specs.Option.{option_map}
 use Rattle.std.proofs.lemmas.List.{append-nil}
 use Rattle.planus_resolve.specs.Names.{HeadV, SpaceV, listed, also_said}
@@ -49,33 +49,33 @@ one_name names name e = rw e (tt, tt)
 pub tags_any : (ms : List UnionMember) (t : ℕ) → list_any (λ x. nat_eq x t) (map tag_in ms) ≡ list_any (λ m. nat_eq m.tag t) ms
 tags_any ms t = list_any-map (λ x. nat_eq x t) tag_in ms
 
-pub member_stops : (hs : List HeadV) (space : SpaceV) (previous : Option ℕ) (tags : List ℕ) (names : List Name) (ms : List Member) (d : Member) (ds : List Member) (all : Option Broken) (s : Stop) → ms ≡ d ∷ ds → wrong_members hs space previous tags names ms ≡ all → Stops (wrong_member hs space previous tags d) s → Stops all s
+pub member_stops : (hs : List HeadV) (space : SpaceV) (previous : Option ℕ) (tags : List ℕ) (names : List Name) (ms : List Member) (d : Member) (ds : List Member) (all : Option Broken) (s : DeclarationError) → ms ≡ d ∷ ds → wrong_members hs space previous tags names ms ≡ all → Stops (wrong_member hs space previous tags d) s → Stops all s
 member_stops hs space previous tags names ms d ds all s here same h =
     subst (λ o. Stops o s) (ap (wrong_members hs space previous tags names) (sym here) ∙ same) (stops_first _ _ s h)
 
-pub member_name_stops : (hs : List HeadV) (space : SpaceV) (previous : Option ℕ) (tags : List ℕ) (names : List Name) (ms : List Member) (d : Member) (ds : List Member) (all : Option Broken) → ms ≡ d ∷ ds → wrong_members hs space previous tags names ms ≡ all → wrong_member hs space previous tags d ≡ None → is_in names (member_name d) ≡ true → Stops all (stop.Wrong problem.MemberNameTaken d.path.left)
+pub member_name_stops : (hs : List HeadV) (space : SpaceV) (previous : Option ℕ) (tags : List ℕ) (names : List Name) (ms : List Member) (d : Member) (ds : List Member) (all : Option Broken) → ms ≡ d ∷ ds → wrong_members hs space previous tags names ms ≡ all → wrong_member hs space previous tags d ≡ None → is_in names (member_name d) ≡ true → Stops all (declaration_error.Wrong fault.MemberNameTaken d.path.left)
 member_name_stops hs space previous tags names ms d ds all here same member used =
-    subst (λ o. Stops o (stop.Wrong problem.MemberNameTaken d.path.left)) (ap (wrong_members hs space previous tags names) (sym here) ∙ same)
-    (stops_next _ _ (stop.Wrong problem.MemberNameTaken d.path.left) member (stops_now _ problem.MemberNameTaken d.path.left _ used))
+    subst (λ o. Stops o (declaration_error.Wrong fault.MemberNameTaken d.path.left)) (ap (wrong_members hs space previous tags names) (sym here) ∙ same)
+    (stops_next _ _ (declaration_error.Wrong fault.MemberNameTaken d.path.left) member (stops_now _ fault.MemberNameTaken d.path.left _ used))
 
 pub members_next : (hs : List HeadV) (space : SpaceV) (previous : Option ℕ) (tags : List ℕ) (names : List Name) (ms : List Member) (d : Member) (ds : List Member) (all : Option Broken) (tag : ℕ) (tags' : List ℕ) (names' : List Name) → ms ≡ d ∷ ds → wrong_members hs space previous tags names ms ≡ all → wrong_member hs space previous tags d ≡ None → is_in names (member_name d) ≡ false → tag_said previous (digits_of d.value) ≡ Some tag → tags' ≡ tags ++ tag ∷ [] → names' ≡ names ++ member_name d ∷ [] → wrong_members hs space (Some tag) tags' names' ds ≡ all
 members_next hs space previous tags names ms d ds all tag tags' names' here same member new is tagged named =
     ap (λ ts. wrong_members hs space (Some tag) ts names' ds) (tagged ∙ ap (λ o. tags ++ listed o) (sym is))
     ∙ ap (λ ns. wrong_members hs space (Some tag) (tags ++ listed (tag_said previous (digits_of d.value))) ns ds) named
     ∙ ap (λ o. wrong_members hs space o (tags ++ listed (tag_said previous (digits_of d.value))) (names ++ member_name d ∷ []) ds) (sym is)
-    ∙ (sym (skip (when (is_in names (member_name d)) problem.MemberNameTaken d.path.left) _ (passes _ problem.MemberNameTaken d.path.left new))
+    ∙ (sym (skip (when (is_in names (member_name d)) fault.MemberNameTaken d.path.left) _ (passes _ fault.MemberNameTaken d.path.left new))
     ∙ sym (skip (wrong_member hs space previous tags d) _ member)
     ∙ ap (wrong_members hs space previous tags names) (sym here) ∙ same)
 
-pub tag_missing : (hs : List HeadV) (space : SpaceV) (previous : Option ℕ) (tags : List ℕ) (m : Member) → tag_said previous (digits_of m.value) ≡ None → wrong_member hs space previous tags m ≡ broken problem.TagOutOfRange m.path.left
+pub tag_missing : (hs : List HeadV) (space : SpaceV) (previous : Option ℕ) (tags : List ℕ) (m : Member) → tag_said previous (digits_of m.value) ≡ None → wrong_member hs space previous tags m ≡ broken fault.TagOutOfRange m.path.left
 tag_missing hs space previous tags m e = ap (λ o. first (wrong_tag tags m o) (wrong_target hs (wanted_of (member_of m)) space (target_path m))) e
 
-pub tag_used : (hs : List HeadV) (space : SpaceV) (previous : Option ℕ) (tags : List ℕ) (m : Member) (n : ℕ) → tag_said previous (digits_of m.value) ≡ Some n → list_any (λ t. nat_eq t n) tags ≡ true → wrong_member hs space previous tags m ≡ broken problem.TagTaken m.path.left
+pub tag_used : (hs : List HeadV) (space : SpaceV) (previous : Option ℕ) (tags : List ℕ) (m : Member) (n : ℕ) → tag_said previous (digits_of m.value) ≡ Some n → list_any (λ t. nat_eq t n) tags ≡ true → wrong_member hs space previous tags m ≡ broken fault.TagTaken m.path.left
 tag_used hs space previous tags m n e h =
     ap (λ o. first (wrong_tag tags m o) (wrong_target hs (wanted_of (member_of m)) space (target_path m))) e
-    ∙ ap (λ b. first (when b problem.TagTaken m.path.left) (wrong_target hs (wanted_of (member_of m)) space (target_path m))) h
+    ∙ ap (λ b. first (when b fault.TagTaken m.path.left) (wrong_target hs (wanted_of (member_of m)) space (target_path m))) h
 
 pub tag_free : (hs : List HeadV) (space : SpaceV) (previous : Option ℕ) (tags : List ℕ) (m : Member) (n : ℕ) → tag_said previous (digits_of m.value) ≡ Some n → list_any (λ t. nat_eq t n) tags ≡ false → wrong_member hs space previous tags m ≡ wrong_target hs (wanted_of (member_of m)) space (target_path m)
 tag_free hs space previous tags m n e h =
     ap (λ o. first (wrong_tag tags m o) (wrong_target hs (wanted_of (member_of m)) space (target_path m))) e
-    ∙ ap (λ b. first (when b problem.TagTaken m.path.left) (wrong_target hs (wanted_of (member_of m)) space (target_path m))) h
+    ∙ ap (λ b. first (when b fault.TagTaken m.path.left) (wrong_target hs (wanted_of (member_of m)) space (target_path m))) h

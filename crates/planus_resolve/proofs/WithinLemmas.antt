@@ -9,8 +9,8 @@ use Rattle.planus_syntax.specs.Values.{Name, PathV, DeclarationV, declaration_of
 use Rattle.planus_syntax.specs.declared.value.Declaration.{Declaration}
 use Rattle.planus_schema.specs.declared.measure.Measure.{Measure}
 use Rattle.planus_resolve.specs.declared.fault.Fault.{Fault}
-use Rattle.planus_resolve.specs.declared.fault.Refusal.{Refusal}
-use Rattle.planus_resolve.specs.declared.fault.Refusal.TheVariants as refusal
+use Rattle.planus_resolve.specs.declared.fault.ResolveError.{ResolveError}
+use Rattle.planus_resolve.specs.declared.fault.ResolveError.TheVariants as error
 use Rattle.planus_resolve.specs.Names.{HeadV, space_at, begun_after, begun_in, named_head, own_name, words_in, space_after, heads_of}
 use Rattle.planus_resolve.specs.Wrong.{Broken}
 use Rattle.planus_resolve.specs.WrongServices.{known_attributes}
@@ -75,6 +75,6 @@ found_within files =
     (All-append (Within n) (body_faults hs [] (placed_from 0 files)) (said ++ taken_otherwise hs files) (bodies n hs [] (placed_from 0 files) ps)
     (All-append (Within n) said (taken_otherwise hs files) (files_within n hs (known_attributes files) 0 0 files (omega arith)) (taken_within n hs files (omega arith)))))
 
-pub exact_within : (files : List (Vec Declaration)) (r : Refusal) → IsExact files r → AreWithin (length files) r
-exact_within files refusal.OutOfMemory e = tt
-exact_within files (refusal.Faults v) e = All-permutation (Within (length files)) (faults_found files) v.items e.same (found_within files)
+pub exact_within : (files : List (Vec Declaration)) (r : ResolveError) → IsExact files r → AreWithin (length files) r
+exact_within files error.OutOfMemory e = tt
+exact_within files (error.Faults v) e = All-permutation (Within (length files)) (faults_found files) v.items e.same (found_within files)

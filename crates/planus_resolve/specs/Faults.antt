@@ -17,11 +17,11 @@ use Rattle.planus_schema.specs.declared.measure.Measure.{Measure}
 use Rattle.planus_schema.specs.Numbers.{scalar_size}
 use Rattle.planus_resolve.specs.declared.expected.Expected.TheVariants as expected
 use Rattle.planus_resolve.specs.declared.fault.Fault.{Fault}
-use Rattle.planus_resolve.specs.declared.fault.Refusal.{Refusal}
-use Rattle.planus_resolve.specs.declared.fault.Refusal.TheVariants as refusal
-use Rattle.planus_resolve.specs.declared.fault.Stop.{Stop}
-use Rattle.planus_resolve.specs.declared.fault.Stop.TheVariants as stop
-use Rattle.planus_resolve.specs.declared.fault.Problem.TheVariants as problem
+use Rattle.planus_resolve.specs.declared.fault.ResolveError.{ResolveError}
+use Rattle.planus_resolve.specs.declared.fault.ResolveError.TheVariants as error
+use Rattle.planus_resolve.specs.declared.fault.DeclarationError.{DeclarationError}
+use Rattle.planus_resolve.specs.declared.fault.DeclarationError.TheVariants as declaration_error
+use Rattle.planus_resolve.specs.declared.fault.FaultKind.TheVariants as fault
 use Rattle.planus_resolve.specs.declared.head.Head.{Head}
 use Rattle.planus_resolve.specs.Names.{HeadV, SpaceV, own_name, words_in, space_after, heads_of}
 use Rattle.planus_resolve.specs.Names.{index_of, head_of, named_head, space_at, begun_after, begun_in}
@@ -39,11 +39,11 @@ use Rattle.planus_resolve.specs.Uses.{taken_otherwise}
 
 abbrev pub fault_in : ℕ → Option Broken → List Fault
 fault_in file None = []
-fault_in file (Some b) = record { problem = b.problem; file = file; left = b.left } ∷ []
+fault_in file (Some b) = record { kind = b.kind; file = file; left = b.left } ∷ []
 
-abbrev pub broken_in : Stop → Option Broken
-broken_in stop.OutOfMemory = None
-broken_in (stop.Wrong p left) = broken p left
+abbrev pub broken_in : DeclarationError → Option Broken
+broken_in declaration_error.OutOfMemory = None
+broken_in (declaration_error.Wrong p left) = broken p left
 
 -- the first twenty, or all if there are fewer
 unfoldable pub first_twenty : List Fault → List Fault
@@ -92,7 +92,7 @@ name_left d = d.left - 1
 
 abbrev pub name_fault : List HeadV → ℕ → Placed → List Fault
 name_fault hs n p = fault_in p.head.file
-    (when (not (is_index (index_of hs p.head.name) n)) problem.NameTaken (name_left p.tree))
+    (when (not (is_index (index_of hs p.head.name) n)) fault.NameTaken (name_left p.tree))
 
 abbrev pub name_faults : List HeadV → ℕ → List Placed → List Fault
 name_faults hs n [] = []
@@ -102,7 +102,7 @@ name_faults hs n (p ∷ ps) = name_fault hs n p ++ name_faults hs (n + 1) ps
 
 -- an item that declares no type
 abbrev pub no_type : ℕ → Option Broken
-no_type left = broken (problem.UnknownType expected.AnyType) left
+no_type left = broken (fault.UnknownType expected.AnyType) left
 
 -- the fault of a declaration; `left` is the place of its name
 abbrev pub wrong_body : List HeadV → SpaceV → List (Option Measure) → ℕ → Item → Option Broken
@@ -184,9 +184,9 @@ wrong_statement hs space left (item.Struct r) = None
 wrong_statement hs space left (item.Enum e) = None
 wrong_statement hs space left (item.Union u) = None
 wrong_statement hs space left (item.Service s) = None
-wrong_statement hs space left (item.RootType p) = wrong_table problem.RootIsNoTable hs as_root space p
+wrong_statement hs space left (item.RootType p) = wrong_table fault.RootIsNoTable hs as_root space p
 wrong_statement hs space left (item.FileIdentifier w) =
-    when (not (length (string_text w.items) == 4)) problem.WrongIdentifier left
+    when (not (length (string_text w.items) == 4)) fault.WrongIdentifier left
 wrong_statement hs space left (item.FileExtension w) = None
 
 -- the fault of its attributes and methods, and then of its statement
@@ -233,11 +233,11 @@ pub record AreInOrder (found told : List Fault) : Type 0 where
   pub stable : IsStableByKey place_of place_cmp found told
 
 -- exactly the faults of these files, or memory was refused
-abbrev pub IsExact : List (Vec Declaration) → Refusal → Type 0
-IsExact files refusal.OutOfMemory = Unit {0}
-IsExact files (refusal.Faults v) = AreInOrder (faults_found files) v.items
+abbrev pub IsExact : List (Vec Declaration) → ResolveError → Type 0
+IsExact files error.OutOfMemory = Unit {0}
+IsExact files (error.Faults v) = AreInOrder (faults_found files) v.items
 
 -- each fault is in one of the first n files
-abbrev pub AreWithin : ℕ → Refusal → Type 0
-AreWithin n refusal.OutOfMemory = Unit {0}
-AreWithin n (refusal.Faults v) = All (λ f. f.file < n) v.items
+abbrev pub AreWithin : ℕ → ResolveError → Type 0
+AreWithin n error.OutOfMemory = Unit {0}
+AreWithin n (error.Faults v) = All (λ f. f.file < n) v.items

@@ -12,8 +12,8 @@ use Rattle.planus_schema.specs.declared.schema.Body.TheVariants as body
 use Rattle.planus_schema.specs.declared.schema.Declared.{Declared}
 use Rattle.planus_schema.specs.declared.schema.Statements.{Statements}
 use Rattle.planus_resolve.specs.declared.fault.Fault.{Fault}
-use Rattle.planus_resolve.specs.declared.fault.Refusal.{Refusal}
-use Rattle.planus_resolve.specs.declared.fault.Refusal.TheVariants as refusal
+use Rattle.planus_resolve.specs.declared.fault.ResolveError.{ResolveError}
+use Rattle.planus_resolve.specs.declared.fault.ResolveError.TheVariants as error
 use Rattle.planus_schema.specs.declared.schema.Schema.{Schema}
 use Rattle.planus_resolve.specs.Names.{HeadV, SpaceV, heads_of, words_in, space_after, base_as}
 use Rattle.planus_resolve.specs.Names.{space_at, begun_after, begun_in}
@@ -24,12 +24,12 @@ use Rattle.planus_resolve.specs.Enums.{IsEnum, SaysEnum, integer_at}
 use Rattle.planus_schema.specs.Layouts.{IsStruct, body_in}
 use Rattle.planus_resolve.specs.Structs.{SaysStruct}
 use Rattle.planus_resolve.specs.Unions.{IsUnion, SaysUnion}
-use Rattle.planus_resolve.specs.Tables.{IsTable, SaysTable}
+use Rattle.planus_resolve.specs.Tables.{IsTableBody, SaysTable}
 
 -- ---- declarations
 
 abbrev pub IsBody : Body → Type 0
-IsBody (body.Table t) = IsTable t
+IsBody (body.Table t) = IsTableBody t
 IsBody (body.Struct s) = IsStruct s
 IsBody (body.Enum e) = IsEnum e
 IsBody (body.Union u) = IsUnion u
@@ -141,6 +141,6 @@ pub record AreFaults (faults : List Fault) : Type 0 where
   pub some : 0 < length faults
   pub most : length faults ≤ 20
 
-abbrev pub IsRefusal : Refusal → Type 0
-IsRefusal refusal.OutOfMemory = Unit {0}
-IsRefusal (refusal.Faults v) = AreFaults v.items
+abbrev pub HoldsFaults : ResolveError → Type 0
+HoldsFaults error.OutOfMemory = Unit {0}
+HoldsFaults (error.Faults v) = AreFaults v.items

@@ -72,7 +72,7 @@ abbrev pub is_lawful : TableField → Bool
 is_lawful f = not (f.required && is_number f.kind) && (not f.key || may_be_key f.kind)
     && (not (is_set f.nested) || is_bytes f.kind)
 
-pub record IsTable (t : Table) : Type 0 where
+pub record IsTableBody (t : Table) : Type 0 where
   pub slots : AreSlots (slots_taken t.fields.items)
   pub names : AreDistinct (all_names t.fields.items)
   pub lawful : list_all is_lawful t.fields.items ≡ true

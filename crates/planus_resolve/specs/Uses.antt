@@ -5,7 +5,7 @@
 -- whatever namespace, and words with dots for the one of exactly this full name. Until then each use
 -- of the same words is the same name, wherever it stands. These definitions follow it declaration by
 -- declaration. Each use that such a reading takes for another declaration than `found` is a fault,
--- among those that a refusal tells (`faults_found`). That flatc itself reads so is only tested.
+-- among those that an error tells (`faults_found`). That flatc itself reads so is only tested.
 use Rattle.std.specs.Prelude.{ℕ, ◌+◌, ◌==◌, ◌&&◌, Bool, nat_eq, nat_lt, codes}
 use Rattle.std.specs.Prelude.{List, [], ◌∷◌, ◌++◌, length, position, if◌then◌else◌}
 use Rattle.std.specs.Prelude.{slice_set, Option, Some, None, replicate}
@@ -32,7 +32,7 @@ use Rattle.planus_resolve.specs.declared.uses.Event.TheVariants as event
 use Rattle.planus_resolve.specs.declared.uses.Spot.{Spot}
 use Rattle.planus_resolve.specs.declared.uses.Use.{Use}
 use Rattle.planus_resolve.specs.declared.fault.Fault.{Fault}
-use Rattle.planus_resolve.specs.declared.fault.Problem.TheVariants as problem
+use Rattle.planus_resolve.specs.declared.fault.FaultKind.TheVariants as fault
 use Rattle.planus_resolve.specs.Names.{UsedAs}
 use Rattle.planus_resolve.specs.Names.{as_type, as_record, as_root, used_as}
 use Rattle.planus_resolve.specs.Names.{HeadV, own_name, words_in, words_of, space_after, space_at}
@@ -226,7 +226,7 @@ abbrev pub use_fault : UseV → Told → List Fault
 use_fault u told.Nothing = []
 use_fault u (told.Wait i) = []
 use_fault u (told.Clash i j) = record {
-  problem = problem.TwoMeanings i j;
+  kind = fault.TwoMeanings i j;
   file = u.spot.file;
   left = u.left;
 } ∷ []
@@ -241,7 +241,7 @@ after_use hs s u (told.Clash i j) = s
 abbrev pub bound_fault : ℕ → Option Awaited → List Fault
 bound_fault n None = []
 bound_fault n (Some a) = if nat_eq a.meaning n then [] else record {
-  problem = problem.TwoMeanings a.meaning n;
+  kind = fault.TwoMeanings a.meaning n;
   file = a.file;
   left = a.left;
 } ∷ []

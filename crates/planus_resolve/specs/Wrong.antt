@@ -9,24 +9,24 @@ use Rattle.planus_syntax.specs.declared.value.Kind.{Kind}
 use Rattle.planus_syntax.specs.declared.value.Kind.TheVariants as kind
 use Rattle.planus_resolve.specs.declared.expected.Expected.{Expected}
 use Rattle.planus_resolve.specs.declared.expected.Expected.TheVariants as expected
-use Rattle.planus_resolve.specs.declared.fault.Problem.{Problem}
-use Rattle.planus_resolve.specs.declared.fault.Problem.TheVariants as problem
+use Rattle.planus_resolve.specs.declared.fault.FaultKind.{FaultKind}
+use Rattle.planus_resolve.specs.declared.fault.FaultKind.TheVariants as fault
 use Rattle.planus_resolve.specs.Names.{UsedAs}
 use Rattle.planus_resolve.specs.Names.{as_type}
-use Rattle.planus_resolve.specs.declared.fault.Stop.{Stop}
-use Rattle.planus_resolve.specs.declared.fault.Stop.TheVariants as stop
+use Rattle.planus_resolve.specs.declared.fault.DeclarationError.{DeclarationError}
+use Rattle.planus_resolve.specs.declared.fault.DeclarationError.TheVariants as declaration_error
 use Rattle.planus_resolve.specs.Names.{HeadV, SpaceV, base_as, table_in, is_set}
 use Rattle.planus_resolve.specs.Fitting.{is_fit}
 
 -- `left`: the number of tokens from the word at fault to the end of its text
 pub record Broken : Type 0 where
-  pub problem : Problem
+  pub kind : FaultKind
   pub left : ℕ
 
-abbrev pub broken : Problem → ℕ → Option Broken
-broken p left = Some (record { problem = p; left = left })
+abbrev pub broken : FaultKind → ℕ → Option Broken
+broken p left = Some (record { kind = p; left = left })
 
-abbrev pub when : Bool → Problem → ℕ → Option Broken
+abbrev pub when : Bool → FaultKind → ℕ → Option Broken
 when b p left = if b then broken p left else None
 
 abbrev pub first : Option Broken → Option Broken → Option Broken
@@ -34,12 +34,12 @@ first None o = o
 first (Some b) o = Some b
 
 -- memory was refused, or this is the fault
-abbrev pub Stops : Option Broken → Stop → Type 0
-Stops o stop.OutOfMemory = Unit {0}
-Stops o (stop.Wrong p left) = o ≡ broken p left
+abbrev pub Stops : Option Broken → DeclarationError → Type 0
+Stops o declaration_error.OutOfMemory = Unit {0}
+Stops o (declaration_error.Wrong p left) = o ≡ broken p left
 
 -- returned if there is no fault, and else the fault, unless memory is refused
-abbrev pub Tells : {A : Type 0} → Option Broken → Result A Stop → Type 0
+abbrev pub Tells : {A : Type 0} → Option Broken → Result A DeclarationError → Type 0
 Tells o (Ok x) = o ≡ None
 Tells o (Err e) = Stops o e
 
@@ -48,7 +48,7 @@ Tells o (Err e) = Stops o e
 -- a name that means no type, where one of these is expected
 abbrev pub wrong_base : Expected → List HeadV → UsedAs → SpaceV → Path → Option Broken
 wrong_base e hs w space p =
-    when (not (is_set (base_as hs w space (path_of p)))) (problem.UnknownType e) p.left
+    when (not (is_set (base_as hs w space (path_of p)))) (fault.UnknownType e) p.left
 
 abbrev pub path_in_kind : Kind → Path
 path_in_kind (kind.Single p) = p
@@ -59,11 +59,11 @@ abbrev pub wrong_kind : Expected → List HeadV → SpaceV → Kind → Option B
 wrong_kind e hs space k = wrong_base e hs as_type space (path_in_kind k)
 
 -- a name that has to be a table's
-abbrev pub wrong_table : Problem → List HeadV → UsedAs → SpaceV → Path → Option Broken
-wrong_table problem hs w space p = first (wrong_base expected.Table hs w space p)
-    (when (not (is_set (table_in (base_as hs w space (path_of p))))) problem p.left)
+abbrev pub wrong_table : FaultKind → List HeadV → UsedAs → SpaceV → Path → Option Broken
+wrong_table kind hs w space p = first (wrong_base expected.Table hs w space p)
+    (when (not (is_set (table_in (base_as hs w space (path_of p))))) kind p.left)
 
 -- a name that has to be that of a type that may stand there
-abbrev pub wrong_fit : Problem → Expected → List HeadV → UsedAs → SpaceV → Path → Option Broken
-wrong_fit problem e hs w space p = first (wrong_base e hs w space p)
-    (when (not (is_fit e (base_as hs w space (path_of p)))) problem p.left)
+abbrev pub wrong_fit : FaultKind → Expected → List HeadV → UsedAs → SpaceV → Path → Option Broken
+wrong_fit kind e hs w space p = first (wrong_base e hs w space p)
+    (when (not (is_fit e (base_as hs w space (path_of p)))) kind p.left)

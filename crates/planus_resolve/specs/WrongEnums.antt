@@ -10,26 +10,26 @@ use Rattle.planus_schema.specs.declared.number.Number.{Number}
 use Rattle.planus_schema.specs.declared.scalar.Scalar.{Scalar}
 use Rattle.planus_schema.specs.Numbers.{fits}
 use Rattle.planus_schema.specs.Distinct.{is_in}
-use Rattle.planus_resolve.specs.declared.fault.Problem.TheVariants as problem
+use Rattle.planus_resolve.specs.declared.fault.FaultKind.TheVariants as fault
 use Rattle.planus_resolve.specs.Names.{is_set, has, listed}
 use Rattle.planus_resolve.specs.Enums.{number_said, value_said, same_number}
 use Rattle.planus_resolve.specs.Wrong.{Broken, broken, when, first}
 
 -- a base by this name, of this integer type
 abbrev pub wrong_integer : Option Scalar → Path → Option Broken
-wrong_integer integer p = when (not (is_set integer)) problem.NoIntegerType p.left
+wrong_integer integer p = when (not (is_set integer)) fault.NoIntegerType p.left
 
 -- the variants after those of these names
 abbrev pub wrong_names : List Name → List Variant → Option Broken
 wrong_names names [] = None
-wrong_names names (v ∷ vs) = first (when (is_in names v.name.items) problem.ValueNameTaken v.left)
+wrong_names names (v ∷ vs) = first (when (is_in names v.name.items) fault.ValueNameTaken v.left)
     (wrong_names (names ++ v.name.items ∷ []) vs)
 
 -- a variant with this value, `None` where it is not below 2^64, after these values
 abbrev pub wrong_value : Scalar → List Number → Variant → Option Number → Option Broken
-wrong_value s values v None = broken problem.ValueOutOfRange v.left
-wrong_value s values v (Some n) = first (when (not (fits s n)) problem.ValueOutOfRange v.left)
-    (when (list_any (λ m. same_number m n) values) problem.ValueTaken v.left)
+wrong_value s values v None = broken fault.ValueOutOfRange v.left
+wrong_value s values v (Some n) = first (when (not (fits s n)) fault.ValueOutOfRange v.left)
+    (when (list_any (λ m. same_number m n) values) fault.ValueTaken v.left)
 
 abbrev pub wrong_values : Scalar → Bool → Option Number → List Number → List Variant → Option Broken
 wrong_values s flags previous values [] = None

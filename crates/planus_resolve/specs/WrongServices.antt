@@ -10,7 +10,7 @@ use Rattle.planus_syntax.specs.declared.value.Item.TheVariants as item
 use Rattle.planus_syntax.specs.declared.value.Method.{Method}
 use Rattle.planus_syntax.specs.declared.value.Record.{Record}
 use Rattle.planus_schema.specs.Distinct.{is_in}
-use Rattle.planus_resolve.specs.declared.fault.Problem.TheVariants as problem
+use Rattle.planus_resolve.specs.declared.fault.FaultKind.TheVariants as fault
 use Rattle.planus_resolve.specs.Names.{as_type}
 use Rattle.planus_resolve.specs.Names.{HeadV, SpaceV, cut_words}
 use Rattle.planus_resolve.specs.Wrong.{Broken, when, first, wrong_table}
@@ -54,7 +54,7 @@ known_attributes files = built_in ++ customs_of files
 abbrev pub wrong_attributes : List Name → List Attribute → Option Broken
 wrong_attributes known [] = None
 wrong_attributes known (a ∷ more) =
-    first (when (not (is_in known (label_name (label_of a.label)))) problem.UnknownAttribute
+    first (when (not (is_in known (label_name (label_of a.label)))) fault.UnknownAttribute
     a.label.left)
     (wrong_attributes known more)
 
@@ -72,9 +72,9 @@ wrong_in_record known r = first (wrong_attributes known r.attributes.items)
 -- after methods of these names
 abbrev pub wrong_method : List HeadV → SpaceV → List Name → List Name → Method → Option Broken
 wrong_method hs space known names m =
-    first (when (is_in names m.name.items) problem.MethodNameTaken m.left)
-    (first (wrong_table problem.MethodIsNoTable hs as_type space m.request)
-    (first (wrong_table problem.MethodIsNoTable hs as_type space m.response)
+    first (when (is_in names m.name.items) fault.MethodNameTaken m.left)
+    (first (wrong_table fault.MethodIsNoTable hs as_type space m.request)
+    (first (wrong_table fault.MethodIsNoTable hs as_type space m.response)
     (wrong_attributes known m.attributes.items)))
 
 abbrev pub wrong_methods : List HeadV → SpaceV → List Name → List Name → List Method

@@ -19,7 +19,7 @@ use Rattle.planus_schema.specs.Numbers.{scalar_size, integer_said}
 use Rattle.planus_schema.specs.Distinct.{is_in}
 use Rattle.planus_schema.specs.Layouts.{next_multiple, is_alignment, measure_of_body}
 use Rattle.planus_resolve.specs.declared.expected.Expected.TheVariants as expected
-use Rattle.planus_resolve.specs.declared.fault.Problem.TheVariants as problem
+use Rattle.planus_resolve.specs.declared.fault.FaultKind.TheVariants as fault
 use Rattle.planus_resolve.specs.Names.{HeadV, SpaceV, type_named, has, setting, attribute_named}
 use Rattle.planus_resolve.specs.Names.{is_set}
 use Rattle.planus_resolve.specs.Structs.{number_in, alignment_said, is_zero_default}
@@ -61,8 +61,8 @@ has_room m = nat_lt 0 m.alignment && nat_le m.alignment 32 && nat_le m.size 6553
 -- a type without a size, or too large
 abbrev pub wrong_measure : Base → ℕ → Option Measure → Option Broken
 wrong_measure b left None =
-    broken (if is_declared_later b then problem.DeclaredLater else problem.NoStructField) left
-wrong_measure b left (Some m) = when (not (has_room m)) problem.StructTooLarge left
+    broken (if is_declared_later b then fault.DeclaredLater else fault.NoStructField) left
+wrong_measure b left (Some m) = when (not (has_room m)) fault.StructTooLarge left
 
 -- where a field of this size and alignment ends
 abbrev pub end_of : ℕ → Option Measure → ℕ
@@ -72,8 +72,8 @@ end_of at (Some m) = next_multiple m.alignment at + m.size
 -- no vector, and without a default or with zero
 abbrev pub wrong_single : List HeadV → Field → Option FieldType → Option Broken
 wrong_single hs f None = None
-wrong_single hs f (Some t) = first (when t.vector problem.NoStructField f.left)
-    (when (not (is_zero_default hs t (option_map literal_of f.default))) problem.DefaultInStruct
+wrong_single hs f (Some t) = first (when t.vector fault.NoStructField f.left)
+    (when (not (is_zero_default hs t (option_map literal_of f.default))) fault.DefaultInStruct
     f.left)
 
 -- its attributes, its type and its default; the struct is the last declaration that begins before it
@@ -81,7 +81,7 @@ abbrev pub wrong_plain : List HeadV → SpaceV → Field → Option Broken
 wrong_plain hs space f =
     let set = map attribute_of f.attributes.items in
     first (when (has (codes "required") set || has (codes "deprecated") set)
-    problem.AttributeInStruct f.left)
+    fault.AttributeInStruct f.left)
     (first (wrong_kind (expected.InStruct (space.begun - 1)) hs space f.kind)
     (wrong_single hs f (type_named hs space (kind_of f.kind))))
 
@@ -90,10 +90,10 @@ abbrev pub wrong_array : Field → Kind → Option Broken
 wrong_array f (kind.Single p) = None
 wrong_array f (kind.Vector p) = None
 wrong_array f (kind.Array p w) =
-    first (when (not (is_set (count_in (natural_of (integer_said w.items))))) problem.ArrayCount
+    first (when (not (is_set (count_in (natural_of (integer_said w.items))))) fault.ArrayCount
     f.left)
-    (first (when (is_set f.default) problem.DefaultInStruct f.left)
-    (when (has (codes "key") (map attribute_of f.attributes.items)) problem.WrongKey f.left))
+    (first (when (is_set f.default) fault.DefaultInStruct f.left)
+    (when (has (codes "key") (map attribute_of f.attributes.items)) fault.WrongKey f.left))
 
 -- the number of an array's items, if it is known
 abbrev pub count_or_none : Option (Option ℕ) → Option ℕ
@@ -115,7 +115,7 @@ abbrev pub wrong_type : List (Option Measure) → Option ℕ → ℕ → ℕ →
     → Option Broken
 wrong_type ms count at left None = None
 wrong_type ms count at left (Some t) = first (wrong_measure t.base left (measure_among ms t.base))
-    (when (not (nat_le (end_of at (items_among ms count t.base)) 65535)) problem.StructTooLarge
+    (when (not (nat_le (end_of at (items_among ms count t.base)) 65535)) fault.StructTooLarge
     left)
 
 -- a field after byte `at`
@@ -140,7 +140,7 @@ abbrev pub wrong_struct_fields : List HeadV → SpaceV → List (Option Measure)
 wrong_struct_fields hs space ms at names [] = None
 wrong_struct_fields hs space ms at names (f ∷ fs) =
     first (wrong_struct_field hs space ms at f)
-    (first (when (is_in names f.name.items) problem.FieldNameTaken f.left)
+    (first (when (is_in names f.name.items) fault.FieldNameTaken f.left)
     (wrong_struct_fields hs space ms (end_of at (field_measure hs space ms f))
     (names ++ f.name.items ∷ []) fs))
 
@@ -164,14 +164,14 @@ abbrev pub is_aligned : ℕ → ℕ → Bool
 is_aligned greatest n = is_alignment n && nat_le greatest n
 
 abbrev pub wrong_forced : ℕ → ℕ → Option ℕ → Option Broken
-wrong_forced greatest left None = broken problem.WrongAlignment left
+wrong_forced greatest left None = broken fault.WrongAlignment left
 wrong_forced greatest left (Some n) =
-    when (not (is_aligned greatest n)) problem.WrongAlignment left
+    when (not (is_aligned greatest n)) fault.WrongAlignment left
 
 -- at `force_align`, if it is given
 abbrev pub wrong_alignment : ℕ → ℕ → Option Attribute → Option Broken
 wrong_alignment greatest left None =
-    when (not (is_aligned greatest greatest)) problem.WrongAlignment left
+    when (not (is_aligned greatest greatest)) fault.WrongAlignment left
 wrong_alignment greatest left (Some a) = wrong_forced greatest a.label.left
     (at_most 32 (number_in (attribute_of a).value))
 
@@ -183,7 +183,7 @@ is_empty (f ∷ fs) = false
 abbrev pub wrong_struct : List HeadV → SpaceV → List (Option Measure) → Record → ℕ
     → Option Broken
 wrong_struct hs space ms r left =
-    first (when (is_empty r.fields.items) problem.EmptyStruct left)
+    first (when (is_empty r.fields.items) fault.EmptyStruct left)
     (first (wrong_struct_fields hs space ms 0 [] r.fields.items)
     (wrong_alignment (greatest_after hs space ms 1 r.fields.items) left
     (attribute_named (codes "force_align") r.attributes.items)))

@@ -13,7 +13,7 @@ use Rattle.planus_schema.specs.declared.scalar.Scalar.TheVariants as scalar
 use Rattle.planus_schema.specs.Slots.{is_union, width, are_whole, slot_said}
 use Rattle.planus_schema.specs.Distinct.{is_in}
 use Rattle.planus_resolve.specs.declared.expected.Expected.TheVariants as expected
-use Rattle.planus_resolve.specs.declared.fault.Problem.TheVariants as problem
+use Rattle.planus_resolve.specs.declared.fault.FaultKind.TheVariants as fault
 use Rattle.planus_resolve.specs.Names.{HeadV, SpaceV, type_named, is_array, has, is_set}
 use Rattle.planus_resolve.specs.Names.{attribute_named, table_in}
 use Rattle.planus_resolve.specs.Tables.{has_ids, id_said, nested_name, table_found, is_required}
@@ -36,33 +36,33 @@ has_id f = has (codes "id") (map attribute_of f.attributes.items)
 -- a field after the slots below `next`, in a table with `ids` or without
 abbrev pub wrong_slot : FieldType → Bool → ℕ → Field → Option Broken
 wrong_slot t ids next f = when (not (is_set (slot_said (id_said (field_of f)) t ids next)))
-    (if has_id f then problem.WrongId else problem.IdMissing) f.left
+    (if has_id f then fault.WrongId else fault.IdMissing) f.left
 
 -- all slots of a table
 abbrev pub wrong_slots : ℕ → List ℕ → Option Broken
 wrong_slots left slots =
-    first (when (not (nat_le (length slots) 32765)) problem.TooManySlots left)
-    (when (not (are_whole slots)) problem.IdsWithGap left)
+    first (when (not (nat_le (length slots) 32765)) fault.TooManySlots left)
+    (when (not (are_whole slots)) fault.IdsWithGap left)
 
 -- ---- fields
 
 -- no value of the type, or none where zero is no value of the enum
 abbrev pub wrong_default : List HeadV → FieldType → ℕ → Option Literal → Option Broken
 wrong_default hs t left l = when (not (is_set (default_said hs t (option_map literal_of l))))
-    (if is_set l then problem.WrongDefault else problem.UnknownValue) left
+    (if is_set l then fault.WrongDefault else fault.UnknownValue) left
 
 abbrev pub wrong_nested : List HeadV → SpaceV → Option Attribute → Option Broken
 wrong_nested hs space None = None
 wrong_nested hs space (Some a) =
     when (not (is_set (table_in (table_found hs space (nested_name (attribute_of a).value)))))
-    problem.NestedIsNoTable a.label.left
+    fault.NestedIsNoTable a.label.left
 
 -- which fields may be `required`, a `key` and a nested buffer
 abbrev pub wrong_law : Bool → Bool → Bool → FieldType → ℕ → Option Broken
 wrong_law required key nested t left =
-    first (when (required && is_number t) problem.RequiredScalar left)
-    (first (when (key && not (may_be_key t)) problem.WrongKey left)
-    (when (nested && not (is_bytes t)) problem.WrongNested left))
+    first (when (required && is_number t) fault.RequiredScalar left)
+    (first (when (key && not (may_be_key t)) fault.WrongKey left)
+    (when (nested && not (is_bytes t)) fault.WrongNested left))
 
 -- a field of a known type
 abbrev pub wrong_typed : List HeadV → SpaceV → Bool → ℕ → Field → Option FieldType
@@ -77,7 +77,7 @@ wrong_typed hs space ids next f (Some t) =
 -- an array, or a name that means no type
 abbrev pub wrong_field_type : List HeadV → SpaceV → Field → Option Broken
 wrong_field_type hs space f =
-    first (when (is_array (kind_of f.kind)) problem.ArrayInTable f.left)
+    first (when (is_array (kind_of f.kind)) fault.ArrayInTable f.left)
     (wrong_kind expected.AnyType hs space f.kind)
 
 -- its type, slot and default, the nested buffer, and what it may be
@@ -107,10 +107,10 @@ wrong_fields hs space ids next key names [] = None
 wrong_fields hs space ids next key names (f ∷ fs) =
     let t = field_type hs space f in
     let this = has (codes "key") (field_of f).attributes in
-    first (when (not (nat_le next 65535)) problem.TooManySlots f.left)
+    first (when (not (nat_le next 65535)) fault.TooManySlots f.left)
     (first (wrong_field hs space ids next f)
-    (first (when (are_among names (names_in t f)) problem.FieldNameTaken f.left)
-    (first (when (this && key) problem.SecondKey f.left)
+    (first (when (are_among names (names_in t f)) fault.FieldNameTaken f.left)
+    (first (when (this && key) fault.SecondKey f.left)
     (wrong_fields hs space ids (next + width t) (key || this) (names ++ names_in t f) fs))))
 
 -- ---- the whole

@@ -7,7 +7,7 @@ use Rattle.planus_syntax.specs.declared.value.Path.{Path}
 use Rattle.planus_syntax.specs.declared.value.Member.{Member}
 use Rattle.planus_syntax.specs.declared.value.UnionBody.{UnionBody}
 use Rattle.planus_schema.specs.Distinct.{is_in}
-use Rattle.planus_resolve.specs.declared.fault.Problem.TheVariants as problem
+use Rattle.planus_resolve.specs.declared.fault.FaultKind.TheVariants as fault
 use Rattle.planus_resolve.specs.Names.{HeadV, SpaceV, words_of, dotted, attribute_named, listed}
 use Rattle.planus_resolve.specs.Names.{UsedAs}
 use Rattle.planus_resolve.specs.Unions.{tag_said, wanted_of, expected_as}
@@ -25,12 +25,12 @@ member_name m = dotted (words_of (path_of m.path))
 
 -- a tag, `None` where it is not from 1 to 255, after these tags
 abbrev pub wrong_tag : List ℕ → Member → Option ℕ → Option Broken
-wrong_tag tags m None = broken problem.TagOutOfRange m.path.left
-wrong_tag tags m (Some n) = when (list_any (λ t. nat_eq t n) tags) problem.TagTaken m.path.left
+wrong_tag tags m None = broken fault.TagOutOfRange m.path.left
+wrong_tag tags m (Some n) = when (list_any (λ t. nat_eq t n) tags) fault.TagTaken m.path.left
 
 -- a name that is not that of a member's type
 abbrev pub wrong_target : List HeadV → UsedAs → SpaceV → Path → Option Broken
-wrong_target hs w space p = wrong_fit problem.NoUnionMember (expected_as w) hs w space p
+wrong_target hs w space p = wrong_fit fault.NoUnionMember (expected_as w) hs w space p
 
 -- a member after the tag `previous`, and after these tags
 abbrev pub wrong_member : List HeadV → SpaceV → Option ℕ → List ℕ → Member → Option Broken
@@ -45,12 +45,12 @@ wrong_members hs space previous tags names [] = None
 wrong_members hs space previous tags names (m ∷ ms) =
     let tag = tag_said previous (digits_of m.value) in
     first (wrong_member hs space previous tags m)
-    (first (when (is_in names (member_name m)) problem.MemberNameTaken m.path.left)
+    (first (when (is_in names (member_name m)) fault.MemberNameTaken m.path.left)
     (wrong_members hs space tag (tags ++ listed tag) (names ++ member_name m ∷ []) ms))
 
 abbrev pub wrong_flags : Option Attribute → Option Broken
 wrong_flags None = None
-wrong_flags (Some a) = broken problem.FlagsInUnion a.label.left
+wrong_flags (Some a) = broken fault.FlagsInUnion a.label.left
 
 abbrev pub wrong_union : List HeadV → SpaceV → UnionBody → Option Broken
 wrong_union hs space u =

@@ -8,7 +8,7 @@ ghost use Rattle.planus_resolve.specs.Wrong.{Tells};
 ghost use Rattle.planus_resolve.specs.WrongServices as spec;
 
 use crate::attribute_names::AttributeNames;
-use crate::fault::{Problem, Stop, or_return, wrong};
+use crate::fault::{DeclarationError, FaultKind, or_return, wrong};
 use crate::kind::table_at;
 use crate::lookup::Wanted;
 use crate::names::take_key;
@@ -65,20 +65,24 @@ fn check_attributes(
     alloc: Global,
     known: &AttributeNames,
     attributes: &[Attribute],
-) -> Result<(), Stop>
+) -> Result<(), DeclarationError>
     ensures { Tells (spec.wrong_attributes known.now attributes.now) result }
 {
     'attributes: for attribute in attributes {
         let label = &attribute.label;
-        let name = or_return!(label_name(alloc, label), Stop::OutOfMemory);
+        let name = or_return!(label_name(alloc, label), DeclarationError::OutOfMemory);
         if !known.has(&name) {
-            return Err(wrong(Problem::UnknownAttribute, label.left));
+            return Err(wrong(FaultKind::UnknownAttribute, label.left));
         }
     }
     Ok(())
 }
 
-fn check_fields(alloc: Global, known: &AttributeNames, fields: &[Field]) -> Result<(), Stop>
+fn check_fields(
+    alloc: Global,
+    known: &AttributeNames,
+    fields: &[Field],
+) -> Result<(), DeclarationError>
     ensures { Tells (spec.wrong_in_fields known.now fields.now) result }
 {
     'fields: for field in fields {
@@ -92,24 +96,28 @@ fn check_method<'n>(
     known: &AttributeNames,
     names: &mut BTreeMap<&'n [u8], usize>,
     method: &'n Method,
-) -> Result<(), Stop>
+) -> Result<(), DeclarationError>
     ensures taken { (list : List Name) → IsTaken names.old list
         → OnOk result (IsTaken names.new (list ++ method.now.name.items ∷ [])) }
     ensures wrong { (list : List Name) → IsTaken names.old list
         → Tells (spec.wrong_method (scope_heads scope.now) (scope_space scope.now)
         known.now list method.now) result }
 {
-    let new = or_return!(take_key(names, &method.name), Stop::OutOfMemory);
+    let new = or_return!(take_key(names, &method.name), DeclarationError::OutOfMemory);
     if !new {
-        return Err(wrong(Problem::MethodNameTaken, method.left));
+        return Err(wrong(FaultKind::MethodNameTaken, method.left));
     }
-    let problem = Problem::MethodIsNoTable;
-    or_return!(table_at(scope, Wanted::AnyType, &method.request, problem));
-    or_return!(table_at(scope, Wanted::AnyType, &method.response, problem));
+    let kind = FaultKind::MethodIsNoTable;
+    or_return!(table_at(scope, Wanted::AnyType, &method.request, kind));
+    or_return!(table_at(scope, Wanted::AnyType, &method.response, kind));
     check_attributes(scope.alloc, known, &method.attributes)
 }
 
-fn check_methods(scope: &Scope, known: &AttributeNames, methods: &[Method]) -> Result<(), Stop>
+fn check_methods(
+    scope: &Scope,
+    known: &AttributeNames,
+    methods: &[Method],
+) -> Result<(), DeclarationError>
     ensures { Tells (spec.wrong_methods (scope_heads scope.now) (scope_space scope.now)
         known.now [] methods.now) result }
 {
@@ -120,7 +128,11 @@ fn check_methods(scope: &Scope, known: &AttributeNames, methods: &[Method]) -> R
     Ok(())
 }
 
-pub(crate) fn check_item(scope: &Scope, known: &AttributeNames, item: &Item) -> Result<(), Stop>
+pub(crate) fn check_item(
+    scope: &Scope,
+    known: &AttributeNames,
+    item: &Item,
+) -> Result<(), DeclarationError>
     ensures { Tells (spec.wrong_item (scope_heads scope.now) (scope_space scope.now)
         known.now item.now) result }
 {

@@ -15,7 +15,7 @@ ghost use Rattle.planus_syntax.specs.Values.{names_of};
 
 use crate::attributes::has;
 use crate::enums::{number_of, same_number, value_of as settled};
-use crate::fault::{Problem, Stop, or_return, wrong};
+use crate::fault::{DeclarationError, FaultKind, or_return, wrong};
 use crate::heads::Heads;
 use crate::integers::integer_at;
 use crate::kind::item_of_head;
@@ -404,13 +404,13 @@ fn zero_default(
     integers: &[Option<Scalar>],
     base: Base,
     left: usize,
-) -> Result<Option<Value>, Stop>
+) -> Result<Option<Value>, DeclarationError>
     requires { integers.now ≡ enums_spec.integers_of (map names_spec.head_of heads.now) }
     ensures value { IfOk result (λ o. spec.zero_default (map names_spec.head_of heads.now) base
         ≡ Some (option_map value_of o)) }
     ensures wrong { Tells (when (not (names_spec.is_set (spec.zero_default
         (map names_spec.head_of heads.now) base)))
-        Problem.UnknownValue left) result }
+        FaultKind.UnknownValue left) result }
 {
     let zero = Number {
         negative: false,
@@ -418,7 +418,7 @@ fn zero_default(
     };
     match base {
         Base::Scalar(scalar) if scalar.is_float() => {
-            let zero = or_return!(Vec::from_slice(alloc, b"0"), Stop::OutOfMemory);
+            let zero = or_return!(Vec::from_slice(alloc, b"0"), DeclarationError::OutOfMemory);
             Ok(Some(Value::Float(zero)))
         }
         Base::Scalar(_) => Ok(Some(Value::Integer(zero))),
@@ -426,7 +426,7 @@ fn zero_default(
             Some(declared) if is_among_values(integer_at(integers, index), declared, zero) => {
                 Ok(Some(Value::Integer(zero)))
             }
-            _ => Err(wrong(Problem::UnknownValue, left)),
+            _ => Err(wrong(FaultKind::UnknownValue, left)),
         },
         _ => Ok(None),
     }
@@ -439,7 +439,7 @@ pub(crate) fn default_of(
     kind: FieldType,
     literal: &Option<Literal>,
     left: usize,
-) -> Result<Option<Value>, Stop>
+) -> Result<Option<Value>, DeclarationError>
     requires { integers.now ≡ enums_spec.integers_of (map names_spec.head_of heads.now) }
     ensures value { IfOk result (λ o. spec.default_said (map names_spec.head_of heads.now) kind
         (option_map literal_of literal.now) ≡ Some (option_map value_of o)) }
@@ -450,11 +450,11 @@ pub(crate) fn default_of(
         Some(literal) => {
             let value = or_return!(
                 literal_default(alloc, heads, integers, kind, literal),
-                Stop::OutOfMemory
+                DeclarationError::OutOfMemory
             );
             match value {
                 Some(_) => Ok(value),
-                None => Err(wrong(Problem::WrongDefault, left)),
+                None => Err(wrong(FaultKind::WrongDefault, left)),
             }
         }
         None if kind.vector => Ok(None),

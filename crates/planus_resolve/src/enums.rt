@@ -11,7 +11,7 @@ ghost use Rattle.planus_resolve.specs.WrongEnums.{wrong_values, wrong_enum};
 ghost use Rattle.planus_schema.specs.Distinct.{AreDistinct};
 
 use crate::attributes::has;
-use crate::fault::{Problem, Stop, or_return, wrong};
+use crate::fault::{DeclarationError, FaultKind, or_return, wrong};
 use crate::names::{copied, take_key};
 use crate::taken::Taken;
 use planus_schema::{Enum, EnumValue, Number, Scalar, following, integer};
@@ -62,7 +62,7 @@ fn add_value(
     values: &mut Vec<EnumValue>,
     variant: &Variant,
     number: Number,
-) -> Result<(), Stop>
+) -> Result<(), DeclarationError>
     requires { AreNumbers taken.old (map spec.number_of_value values.old.items) }
     ensures taken { IfOk result (λ _. AreNumbers taken.new (map spec.number_of_value
         values.new.items)) }
@@ -73,28 +73,34 @@ fn add_value(
         (Some number)) result }
 {
     if !scalar.fits(number) {
-        return Err(wrong(Problem::ValueOutOfRange, variant.left));
+        return Err(wrong(FaultKind::ValueOutOfRange, variant.left));
     }
-    let new = or_return!(taken.take(number), Stop::OutOfMemory);
+    let new = or_return!(taken.take(number), DeclarationError::OutOfMemory);
     if !new {
-        return Err(wrong(Problem::ValueTaken, variant.left));
+        return Err(wrong(FaultKind::ValueTaken, variant.left));
     }
-    let name = or_return!(Vec::from_slice(alloc, &variant.name), Stop::OutOfMemory);
-    let docs = or_return!(copied(alloc, &variant.docs), Stop::OutOfMemory);
+    let name = or_return!(
+        Vec::from_slice(alloc, &variant.name),
+        DeclarationError::OutOfMemory
+    );
+    let docs = or_return!(copied(alloc, &variant.docs), DeclarationError::OutOfMemory);
     values.push(EnumValue { name, docs, number })?;
     Ok(())
 }
 
-fn check_names(alloc: Global, variants: &[Variant]) -> Result<(), Stop>
+fn check_names(alloc: Global, variants: &[Variant]) -> Result<(), DeclarationError>
     ensures distinct { IfOk result (λ _. AreDistinct (map (λ v. v.name)
         (map variant_of variants.now))) }
     ensures wrong { Tells (wrong_names [] variants.now) result }
 {
     let mut names = BTreeMap::new(alloc);
     'variants: for variant in variants {
-        let new = or_return!(take_key(&mut names, &variant.name), Stop::OutOfMemory);
+        let new = or_return!(
+            take_key(&mut names, &variant.name),
+            DeclarationError::OutOfMemory
+        );
         if !new {
-            return Err(wrong(Problem::ValueNameTaken, variant.left));
+            return Err(wrong(FaultKind::ValueNameTaken, variant.left));
         }
     }
     Ok(())
@@ -105,7 +111,7 @@ fn enum_values(
     scalar: Scalar,
     flags: bool,
     variants: &[Variant],
-) -> Result<Vec<EnumValue>, Stop>
+) -> Result<Vec<EnumValue>, DeclarationError>
     ensures says { IfOk result (λ values. spec.AreValues scalar flags (map variant_of variants.now)
         values.items) }
     ensures wrong { Tells (wrong_values scalar flags None [] variants.now) result }
@@ -116,11 +122,11 @@ fn enum_values(
     'variants: for variant in variants {
         let number = match number_of(previous, variant) {
             Some(number) => number,
-            None => return Err(wrong(Problem::ValueOutOfRange, variant.left)),
+            None => return Err(wrong(FaultKind::ValueOutOfRange, variant.left)),
         };
         let value = match value_of(flags, number) {
             Some(value) => value,
-            None => return Err(wrong(Problem::ValueOutOfRange, variant.left)),
+            None => return Err(wrong(FaultKind::ValueOutOfRange, variant.left)),
         };
         or_return!(add_value(alloc, scalar, &mut taken, &mut values, variant, value));
         previous = Some(number);
@@ -158,14 +164,17 @@ fn values_or_none(
     scalar: Scalar,
     flags: bool,
     variants: &[Variant],
-) -> Result<Vec<EnumValue>, Stop>
+) -> Result<Vec<EnumValue>, DeclarationError>
     requires { spec.is_integer_type scalar ≡ true }
     ensures says { IfOk result (λ values. spec.AreValues scalar flags
         (spec.variants_or_none (map variant_of variants.now)) values.items) }
     ensures wrong { Tells (wrong_values scalar flags None [] variants.now) result }
 {
     if variants.is_empty() {
-        let values = or_return!(none_alone(alloc, scalar, flags), Stop::OutOfMemory);
+        let values = or_return!(
+            none_alone(alloc, scalar, flags),
+            DeclarationError::OutOfMemory
+        );
         return Ok(values);
     }
     enum_values(alloc, scalar, flags, variants)
@@ -176,7 +185,7 @@ pub(crate) fn enum_of(
     alloc: Global,
     integer: Option<Scalar>,
     declared: &Enumeration,
-) -> Result<Enum, Stop>
+) -> Result<Enum, DeclarationError>
     requires { IfSome integer (λ s. spec.is_integer_type s ≡ true) }
     ensures says { IfOk result (λ e. spec.SaysEnum integer (enumeration_of declared.now) e) }
     ensures sound { IfOk result (λ e. spec.IsEnum e) }
@@ -185,7 +194,7 @@ pub(crate) fn enum_of(
     let flags = has(&declared.attributes, b"bit_flags");
     let scalar = match integer {
         Some(scalar) => scalar,
-        None => return Err(wrong(Problem::NoIntegerType, declared.base.left)),
+        None => return Err(wrong(FaultKind::NoIntegerType, declared.base.left)),
     };
     or_return!(check_names(alloc, &declared.variants));
     let values = or_return!(values_or_none(alloc, scalar, flags, &declared.variants));

@@ -9,7 +9,7 @@ use std::alloc::{AllocError, AllocFailed};
 
 /// The kind of a fault.
 #[derive(Clone, Copy)]
-pub enum Problem {
+pub enum FaultKind {
     /// No scalar type and no declaration has this name, where one of these is expected.
     UnknownType(Expected),
     /// A declaration before it has this name.
@@ -93,45 +93,46 @@ pub enum Problem {
 /// to the end of the text, the word included.
 #[derive(Clone, Copy)]
 pub struct Fault {
-    pub problem: Problem,
+    pub kind: FaultKind,
     pub file: usize,
     pub left: usize,
 }
 
 /// Why files have no meaning.
 #[derive(Drop)]
-pub enum Refusal {
+pub enum ResolveError {
     /// Memory was refused.
     OutOfMemory,
     /// From one to twenty faults.
     Faults(Vec<Fault>),
 }
 
+/// Why a declaration has no meaning.
 #[derive(Clone, Copy)]
-pub(crate) enum Stop {
+pub(crate) enum DeclarationError {
     OutOfMemory,
-    Wrong { problem: Problem, left: usize },
+    Wrong { kind: FaultKind, left: usize },
 }
 
-impl From<AllocError> for Stop {
+impl From<AllocError> for DeclarationError {
     ghost use Rattle.std.specs.Prelude.{◌≡◌};
-    ghost use Rattle.planus_resolve.specs.declared.fault.Stop.TheVariants.{OutOfMemory};
+    ghost use Rattle.planus_resolve.specs.declared.fault.DeclarationError.TheVariants.{OutOfMemory};
 
     ghost from_gives = { λ _ e. e ≡ OutOfMemory };
 
-    fn from(_error: AllocError) -> Stop {
-        Stop::OutOfMemory
+    fn from(_error: AllocError) -> DeclarationError {
+        DeclarationError::OutOfMemory
     }
 }
 
-impl<T: Drop> From<AllocFailed<T>> for Stop {
+impl<T: Drop> From<AllocFailed<T>> for DeclarationError {
     ghost use Rattle.std.specs.Prelude.{◌≡◌};
-    ghost use Rattle.planus_resolve.specs.declared.fault.Stop.TheVariants.{OutOfMemory};
+    ghost use Rattle.planus_resolve.specs.declared.fault.DeclarationError.TheVariants.{OutOfMemory};
 
     ghost from_gives = { λ _ e. e ≡ OutOfMemory };
 
-    fn from(_error: AllocFailed<T>) -> Stop {
-        Stop::OutOfMemory
+    fn from(_error: AllocFailed<T>) -> DeclarationError {
+        DeclarationError::OutOfMemory
     }
 }
 
@@ -154,31 +155,31 @@ macro_rules! or_return {
 
 pub(crate) use or_return;
 
-pub(crate) fn wrong(problem: Problem, left: usize) -> Stop
-    ensures { result ≡ Stop.Wrong problem left }
+pub(crate) fn wrong(kind: FaultKind, left: usize) -> DeclarationError
+    ensures { result ≡ DeclarationError.Wrong kind left }
 {
-    Stop::Wrong { problem, left }
+    DeclarationError::Wrong { kind, left }
 }
 
-pub(crate) fn note(faults: &mut Vec<Fault>, file: usize, stop: Stop) -> Result<(), AllocError>
+pub(crate) fn note(
+    faults: &mut Vec<Fault>,
+    file: usize,
+    error: DeclarationError,
+) -> Result<(), AllocError>
     requires { length faults.old.items ≤ 20 }
     ensures some { OnOk result (0 < length faults.new.items) }
     ensures most { OnOk result (length faults.new.items ≤ 20) }
-    ensures told { OnOk result (is_set (broken_in stop) ≡ true) }
-    ensures adds { OnOk result (Adds (fault_in file (broken_in stop)) faults.old.items
+    ensures told { OnOk result (is_set (broken_in error) ≡ true) }
+    ensures adds { OnOk result (Adds (fault_in file (broken_in error)) faults.old.items
         faults.new.items) }
 {
-    match stop {
-        Stop::OutOfMemory => Err(AllocError),
-        Stop::Wrong { problem, left } => {
+    match error {
+        DeclarationError::OutOfMemory => Err(AllocError),
+        DeclarationError::Wrong { kind, left } => {
             if faults.len() >= 20 {
                 return Ok(());
             }
-            let fault = Fault {
-                problem,
-                file,
-                left,
-            };
+            let fault = Fault { kind, file, left };
             match faults.push(fault) {
                 Ok(()) => Ok(()),
                 Err(_) => Err(AllocError),

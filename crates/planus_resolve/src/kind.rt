@@ -9,7 +9,7 @@ ghost use Rattle.planus_resolve.specs.Wrong.{Tells, wrong_base, wrong_fit, wrong
 ghost use Rattle.planus_resolve.specs.Fitting.{fits};
 
 use crate::expected::Expected;
-use crate::fault::{Problem, Stop, or_return, wrong};
+use crate::fault::{DeclarationError, FaultKind, or_return, wrong};
 use crate::head::item_base;
 use crate::heads::Heads;
 use crate::lookup::{Wanted, found};
@@ -70,15 +70,23 @@ pub(crate) fn base_named(
     }
 }
 
-fn base_of(scope: &Scope, wanted: Wanted, path: &Path, expected: Expected) -> Result<Base, Stop>
+fn base_of(
+    scope: &Scope,
+    wanted: Wanted,
+    path: &Path,
+    expected: Expected,
+) -> Result<Base, DeclarationError>
     ensures named { IfOk result (λ b. spec.base_as (scope_heads scope.now) (spec.used_as wanted)
         (scope_space scope.now) (path_of path.now) ≡ Some b) }
     ensures wrong { Tells (wrong_base expected (scope_heads scope.now) (spec.used_as wanted)
         (scope_space scope.now) path.now) result }
 {
-    match or_return!(base_named(scope, wanted, path), Stop::OutOfMemory) {
+    match or_return!(
+        base_named(scope, wanted, path),
+        DeclarationError::OutOfMemory
+    ) {
         Some(base) => Ok(base),
-        None => Err(wrong(Problem::UnknownType(expected), path.left)),
+        None => Err(wrong(FaultKind::UnknownType(expected), path.left)),
     }
 }
 
@@ -92,7 +100,11 @@ pub(crate) fn is_array(kind: &Kind) -> bool
 }
 
 /// Returns the type of a field; for an array, the type of its items.
-pub(crate) fn type_of(scope: &Scope, kind: &Kind, expected: Expected) -> Result<FieldType, Stop>
+pub(crate) fn type_of(
+    scope: &Scope,
+    kind: &Kind,
+    expected: Expected,
+) -> Result<FieldType, DeclarationError>
     ensures named { IfOk result (λ t. spec.type_named (scope_heads scope.now)
         (scope_space scope.now) (kind_of kind.now) ≡ Some t) }
     ensures wrong { Tells (wrong_kind expected (scope_heads scope.now) (scope_space scope.now)
@@ -111,17 +123,17 @@ pub(crate) fn table_at(
     scope: &Scope,
     wanted: Wanted,
     path: &Path,
-    problem: Problem,
-) -> Result<usize, Stop>
+    kind: FaultKind,
+) -> Result<usize, DeclarationError>
     ensures named { IfOk result (λ i. spec.base_as (scope_heads scope.now) (spec.used_as wanted)
         (scope_space scope.now) (path_of path.now) ≡ Some (Base.Table i)) }
-    ensures wrong { Tells (wrong_table problem (scope_heads scope.now) (spec.used_as wanted)
+    ensures wrong { Tells (wrong_table kind (scope_heads scope.now) (spec.used_as wanted)
         (scope_space scope.now) path.now) result }
 {
     match base_of(scope, wanted, path, Expected::Table) {
         Ok(Base::Table(index)) => Ok(index),
-        Ok(_) => Err(wrong(problem, path.left)),
-        Err(stop) => Err(stop),
+        Ok(_) => Err(wrong(kind, path.left)),
+        Err(error) => Err(error),
     }
 }
 
@@ -131,17 +143,17 @@ pub(crate) fn base_at(
     wanted: Wanted,
     path: &Path,
     expected: Expected,
-    problem: Problem,
-) -> Result<Base, Stop>
+    kind: FaultKind,
+) -> Result<Base, DeclarationError>
     ensures named { IfOk result (λ b. spec.base_as (scope_heads scope.now) (spec.used_as wanted)
         (scope_space scope.now) (path_of path.now) ≡ Some b) }
     ensures fits { IfOk result (λ b. fits expected b ≡ true) }
-    ensures wrong { Tells (wrong_fit problem expected (scope_heads scope.now) (spec.used_as wanted)
+    ensures wrong { Tells (wrong_fit kind expected (scope_heads scope.now) (spec.used_as wanted)
         (scope_space scope.now) path.now) result }
 {
     match base_of(scope, wanted, path, expected) {
         Ok(base) if expected.fits(base) => Ok(base),
-        Ok(_) => Err(wrong(problem, path.left)),
-        Err(stop) => Err(stop),
+        Ok(_) => Err(wrong(kind, path.left)),
+        Err(error) => Err(error),
     }
 }

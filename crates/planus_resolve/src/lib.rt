@@ -30,7 +30,7 @@ mod waiting;
 mod words;
 
 pub use expected::Expected;
-pub use fault::{Fault, Problem, Refusal};
+pub use fault::{Fault, FaultKind, ResolveError};
 pub use head::{Head, heads as heads_of};
 pub use meaning::resolve;
 pub use planus_schema::{

@@ -6,7 +6,7 @@ ghost use Rattle.planus_resolve.specs.Names.{head_of, heads_of, space_of, space_
 ghost use Rattle.planus_schema.specs.Distinct.{AreDistinct};
 ghost use Rattle.planus_resolve.specs.inner.Read.{IsBodyRead, IsToldOf};
 ghost use Rattle.planus_resolve.specs.Schemas.{IsDeclared, AreDeclared, Means};
-ghost use Rattle.planus_resolve.specs.Schemas.{IsRefusal, IsAppended};
+ghost use Rattle.planus_resolve.specs.Schemas.{HoldsFaults, IsAppended};
 ghost use Rattle.planus_resolve.specs.Sound.{IsSound};
 ghost use Rattle.planus_schema.specs.Layouts.{measure_of_body};
 ghost use Rattle.planus_resolve.specs.Wrong.{Tells};
@@ -16,7 +16,7 @@ ghost use Rattle.planus_resolve.specs.Faults as spec;
 
 use crate::enums::enum_of;
 use crate::expected::Expected;
-use crate::fault::{Fault, Problem, Refusal, Stop, note, or_return, wrong};
+use crate::fault::{DeclarationError, Fault, FaultKind, ResolveError, note, or_return, wrong};
 use crate::head::{Head, heads};
 use crate::heads::Heads;
 use crate::integers::{integer_at, integers};
@@ -37,7 +37,7 @@ fn body_of(
     integers: &[Option<Scalar>],
     declared: &[Declared],
     head: &Head,
-) -> Result<Body, Stop>
+) -> Result<Body, DeclarationError>
     requires { integers.now ≡ integers_of (map head_of heads.now) }
     ensures read { IfOk result (λ b. IsBodyRead (map head_of heads.now)
         (space_at (space_of head.now.space) (length declared.now + 1)) declared.now
@@ -73,7 +73,7 @@ fn body_of(
             let body = or_return!(union_of(&scope, body));
             Ok(Body::Union(body))
         }
-        _ => Err(wrong(Problem::UnknownType(Expected::AnyType), left)),
+        _ => Err(wrong(FaultKind::UnknownType(Expected::AnyType), left)),
     }
 }
 
@@ -139,8 +139,8 @@ fn add_declared(
 {
     match body_of(alloc, heads, integers, declared, head) {
         Ok(body) => add_body(alloc, declared, head, body),
-        Err(stop) => {
-            or_return!(note(faults, head.file, stop));
+        Err(error) => {
+            or_return!(note(faults, head.file, error));
             let body = stand_in(alloc, &head.declaration.item);
             add_body(alloc, declared, head, body)
         }
@@ -189,7 +189,10 @@ fn check_name(
         note(
             faults,
             head.file,
-            wrong(Problem::NameTaken, head.declaration.left.saturating_sub(1)),
+            wrong(
+                FaultKind::NameTaken,
+                head.declaration.left.saturating_sub(1),
+            ),
         )
     }
 }
@@ -212,7 +215,7 @@ fn check_names(heads: &Heads, faults: &mut Vec<Fault>) -> Result<(), AllocError>
 }
 
 /// Fails with these faults in order, if there are any.
-fn refuse(mut faults: Vec<Fault>) -> Result<(), Refusal>
+fn refuse(mut faults: Vec<Fault>) -> Result<(), ResolveError>
     requires { length faults.items ≤ 20 }
     ensures none { OnOk result (faults.items ≡ []) }
     ensures told { IfErr result (λ e. IsToldOf faults.items e) }
@@ -222,34 +225,38 @@ fn refuse(mut faults: Vec<Fault>) -> Result<(), Refusal>
     }
     or_return!(
         faults.sort_by_key(|fault| (fault.file, usize::MAX - fault.left)),
-        Refusal::OutOfMemory
+        ResolveError::OutOfMemory
     );
-    Err(Refusal::Faults(faults))
+    Err(ResolveError::Faults(faults))
 }
 
 /// Returns the meaning of files whose declarations are these.
-fn meaning_of(alloc: Global, heads: &Heads, files: &[Vec<Declaration>]) -> Result<Schema, Refusal>
+fn meaning_of(
+    alloc: Global,
+    heads: &Heads,
+    files: &[Vec<Declaration>],
+) -> Result<Schema, ResolveError>
     requires heads { map head_of heads.now ≡ heads_of (map (λ f. declarations_of f.items) files.now) }
     requires placed { map spec.placed_of heads.now ≡ spec.placed_from 0 files.now }
     ensures means { IfOk result (λ s. Means (map (λ f. declarations_of f.items) files.now) s) }
     ensures none { OnOk result (spec.faults_found files.now ≡ []) }
-    ensures faults { IfErr result (λ e. IsRefusal e) }
+    ensures faults { IfErr result (λ e. HoldsFaults e) }
     ensures exact { IfErr result (λ e. spec.IsExact files.now e) }
 {
     let mut faults = Vec::new(alloc);
-    or_return!(check_names(heads, &mut faults), Refusal::OutOfMemory);
-    let integers = or_return!(integers(alloc, heads), Refusal::OutOfMemory);
+    or_return!(check_names(heads, &mut faults), ResolveError::OutOfMemory);
+    let integers = or_return!(integers(alloc, heads), ResolveError::OutOfMemory);
     let declarations = or_return!(
         declarations(alloc, heads, &integers, &mut faults),
-        Refusal::OutOfMemory
+        ResolveError::OutOfMemory
     );
     let statements = or_return!(
         statements(alloc, heads, files, &mut faults),
-        Refusal::OutOfMemory
+        ResolveError::OutOfMemory
     );
     or_return!(
         check_uses(alloc, heads, files, &mut faults),
-        Refusal::OutOfMemory
+        ResolveError::OutOfMemory
     );
     or_return!(refuse(faults));
     Ok(Schema {
@@ -262,17 +269,17 @@ fn meaning_of(alloc: Global, heads: &Heads, files: &[Vec<Declaration>]) -> Resul
 /// struct holds only structs and enums that are declared before it.
 ///
 /// Fails with up to twenty faults.
-pub fn resolve(alloc: Global, files: &[Vec<Declaration>]) -> Result<Schema, Refusal>
+pub fn resolve(alloc: Global, files: &[Vec<Declaration>]) -> Result<Schema, ResolveError>
     ensures means { IfOk result (λ s. Means (map (λ f. declarations_of f.items) files.now) s) }
     // A schema is sound, whatever it was read from.
     ensures sound { IfOk result (λ s. IsSound s) }
     // A good schema is returned, and a bad one fails with exactly its faults.
     ensures none { OnOk result (spec.faults_found files.now ≡ []) }
-    ensures faults { IfErr result (λ e. IsRefusal e) }
+    ensures faults { IfErr result (λ e. HoldsFaults e) }
     ensures exact { IfErr result (λ e. spec.IsExact files.now e) }
     ensures within { IfErr result (λ e. spec.AreWithin (length files.now) e) }
 {
-    let list = or_return!(heads(alloc, files), Refusal::OutOfMemory);
-    let heads = or_return!(Heads::new(alloc, &list), Refusal::OutOfMemory);
+    let list = or_return!(heads(alloc, files), ResolveError::OutOfMemory);
+    let heads = or_return!(Heads::new(alloc, &list), ResolveError::OutOfMemory);
     meaning_of(alloc, &heads, files)
 }

@@ -8,7 +8,7 @@ ghost use Rattle.planus_resolve.specs.Wrong.{Tells};
 ghost use Rattle.planus_resolve.specs.WrongTables as wrong_tables_spec;
 
 use crate::attributes::{has, setting};
-use crate::fault::{Problem, Stop, or_return, wrong};
+use crate::fault::{DeclarationError, FaultKind, or_return, wrong};
 use crate::structs::setting_number;
 use planus_schema::{FieldType, TableField, slot_of, slots_taken};
 use planus_syntax::Field;
@@ -46,7 +46,7 @@ pub(crate) fn field_slot(
     kind: FieldType,
     ids: bool,
     next: usize,
-) -> Result<usize, Stop>
+) -> Result<usize, DeclarationError>
     requires { next ≤ 65535 }
     ensures id { ids ≡ true → IfOk result (λ n. tables_spec.id_said (field_of field.now) ≡ Some n) }
     ensures order { ids ≡ false → IfOk result (λ n. n + 1 ≡ next + spec.width kind) }
@@ -55,8 +55,8 @@ pub(crate) fn field_slot(
 {
     match slot_of(id_of(field), kind, ids, next) {
         Some(slot) => Ok(slot),
-        None if !has(&field.attributes, b"id") => Err(wrong(Problem::IdMissing, field.left)),
-        None => Err(wrong(Problem::WrongId, field.left)),
+        None if !has(&field.attributes, b"id") => Err(wrong(FaultKind::IdMissing, field.left)),
+        None => Err(wrong(FaultKind::WrongId, field.left)),
     }
 }
 
@@ -74,17 +74,21 @@ fn are_whole(alloc: Global, slots: &[usize]) -> Result<bool, AllocError>
     Ok(true)
 }
 
-pub(crate) fn check_slots(alloc: Global, fields: &[TableField], left: usize) -> Result<(), Stop>
+pub(crate) fn check_slots(
+    alloc: Global,
+    fields: &[TableField],
+    left: usize,
+) -> Result<(), DeclarationError>
     ensures sound { IfOk result (λ _. spec.AreSlots (spec.slots_taken fields.now)) }
     ensures wrong { Tells (wrong_tables_spec.wrong_slots left (spec.slots_taken fields.now)) result }
 {
-    let slots = or_return!(slots_taken(alloc, fields), Stop::OutOfMemory);
+    let slots = or_return!(slots_taken(alloc, fields), DeclarationError::OutOfMemory);
     if slots.len() > 32765 {
-        return Err(wrong(Problem::TooManySlots, left));
+        return Err(wrong(FaultKind::TooManySlots, left));
     }
-    let whole = or_return!(are_whole(alloc, &slots), Stop::OutOfMemory);
+    let whole = or_return!(are_whole(alloc, &slots), DeclarationError::OutOfMemory);
     if !whole {
-        return Err(wrong(Problem::IdsWithGap, left));
+        return Err(wrong(FaultKind::IdsWithGap, left));
     }
     Ok(())
 }

@@ -14,7 +14,7 @@ ghost use Rattle.planus_resolve.specs.Faults.{file_faults};
 
 use crate::attribute_names::AttributeNames;
 use crate::checks::{check_item, known_attributes};
-use crate::fault::{Fault, Problem, Stop, note, or_return, wrong};
+use crate::fault::{DeclarationError, Fault, FaultKind, note, or_return, wrong};
 use crate::head::{begun_after, space_after};
 use crate::heads::Heads;
 use crate::kind::table_at;
@@ -29,7 +29,7 @@ fn state(
     known: &AttributeNames,
     declaration: &Declaration,
     statements: &mut Statements,
-) -> Result<(), Stop>
+) -> Result<(), DeclarationError>
     ensures said { OnOk result ((said_of statements.new ≡ after (scope_heads scope.now)
         (scope_space scope.now) (said_of statements.old) (item_of declaration.now.item))
         × (IsFour (said_of statements.old).identifier
@@ -40,18 +40,24 @@ fn state(
     or_return!(check_item(scope, known, &declaration.item));
     match &declaration.item {
         Item::RootType(path) => {
-            let table = or_return!(table_at(scope, Wanted::Root, path, Problem::RootIsNoTable));
+            let table = or_return!(table_at(scope, Wanted::Root, path, FaultKind::RootIsNoTable));
             statements.root = Some(table);
         }
         Item::FileIdentifier(string) => {
-            let identifier = or_return!(string_text(scope.alloc, string), Stop::OutOfMemory);
+            let identifier = or_return!(
+                string_text(scope.alloc, string),
+                DeclarationError::OutOfMemory
+            );
             if identifier.len() != 4 {
-                return Err(wrong(Problem::WrongIdentifier, declaration.left));
+                return Err(wrong(FaultKind::WrongIdentifier, declaration.left));
             }
             statements.identifier = Some(identifier);
         }
         Item::FileExtension(string) => {
-            let extension = or_return!(string_text(scope.alloc, string), Stop::OutOfMemory);
+            let extension = or_return!(
+                string_text(scope.alloc, string),
+                DeclarationError::OutOfMemory
+            );
             statements.extension = Some(extension);
         }
         _ => {}
@@ -87,7 +93,7 @@ fn state_file(
         };
         match state(&scope, known, declaration, statements) {
             Ok(()) => {}
-            Err(stop) => or_return!(note(faults, file, stop)),
+            Err(error) => or_return!(note(faults, file, error)),
         }
         space = space_after(space, declaration);
         *begun = or_return!(begun_after(*begun, declaration));

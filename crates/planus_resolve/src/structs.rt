@@ -18,7 +18,7 @@ ghost use Rattle.planus_resolve.specs.WrongStructs as spec;
 use crate::attributes::{has, setting};
 use crate::defaults::literal_default;
 use crate::expected::Expected;
-use crate::fault::{Problem, Stop, or_return, wrong};
+use crate::fault::{DeclarationError, FaultKind, or_return, wrong};
 use crate::kind::type_of;
 use crate::names::{copied, take_key};
 use crate::scope::Scope;
@@ -44,12 +44,12 @@ fn check_zero(
     kind: FieldType,
     literal: &Option<Literal>,
     left: usize,
-) -> Result<(), Stop>
+) -> Result<(), DeclarationError>
     requires { HasIntegers scope.now }
     ensures zero { IfOk result (λ _. structs_spec.is_zero_default (scope_heads scope.now) kind
         (option_map literal_of literal.now) ≡ true) }
     ensures wrong { Tells (when (not (structs_spec.is_zero_default (scope_heads scope.now) kind
-        (option_map literal_of literal.now))) Problem.DefaultInStruct left) result }
+        (option_map literal_of literal.now))) FaultKind.DefaultInStruct left) result }
 {
     let literal = match literal {
         Some(literal) => literal,
@@ -57,16 +57,16 @@ fn check_zero(
     };
     let value = or_return!(
         literal_default(scope.alloc, scope.heads, scope.integers, kind, literal),
-        Stop::OutOfMemory
+        DeclarationError::OutOfMemory
     );
     if is_zero(&value) {
         Ok(())
     } else {
-        Err(wrong(Problem::DefaultInStruct, left))
+        Err(wrong(FaultKind::DefaultInStruct, left))
     }
 }
 
-fn base_in_struct(scope: &Scope, field: &Field) -> Result<Base, Stop>
+fn base_in_struct(scope: &Scope, field: &Field) -> Result<Base, DeclarationError>
     requires { HasIntegers scope.now }
     ensures kind { IfOk result (λ b. names_spec.type_named (scope_heads scope.now)
         (scope_space scope.now)
@@ -79,21 +79,25 @@ fn base_in_struct(scope: &Scope, field: &Field) -> Result<Base, Stop>
         result }
 {
     if has(&field.attributes, b"required") || has(&field.attributes, b"deprecated") {
-        return Err(wrong(Problem::AttributeInStruct, field.left));
+        return Err(wrong(FaultKind::AttributeInStruct, field.left));
     }
     let expected = Expected::InStruct {
         index: scope.begun.saturating_sub(1),
     };
     let kind = or_return!(type_of(scope, &field.kind, expected));
     if kind.vector {
-        return Err(wrong(Problem::NoStructField, field.left));
+        return Err(wrong(FaultKind::NoStructField, field.left));
     }
     or_return!(check_zero(scope, kind, &field.default, field.left));
     Ok(kind.base)
 }
 
 #[tactic(auto, using(crate::proofs::MeasureLemmas::among))]
-fn measure_in_struct(bodies: &[Declared], base: Base, left: usize) -> Result<Measure, Stop>
+fn measure_in_struct(
+    bodies: &[Declared],
+    base: Base,
+    left: usize,
+) -> Result<Measure, DeclarationError>
     ensures read { IfOk result (λ m. IsMeasureRead bodies.now base m) }
     ensures wrong { Tells (spec.wrong_measure base left (spec.measure_among
         (spec.measures_of bodies.now) base))
@@ -104,16 +108,16 @@ fn measure_in_struct(bodies: &[Declared], base: Base, left: usize) -> Result<Mea
             if 0 < measure.alignment && measure.alignment <= 32 && measure.size <= 65535 => {
             Ok(measure)
         }
-        Some(_) => Err(wrong(Problem::StructTooLarge, left)),
+        Some(_) => Err(wrong(FaultKind::StructTooLarge, left)),
         None => match base {
-            Base::Enum(_) | Base::Struct(_) => Err(wrong(Problem::DeclaredLater, left)),
-            _ => Err(wrong(Problem::NoStructField, left)),
+            Base::Enum(_) | Base::Struct(_) => Err(wrong(FaultKind::DeclaredLater, left)),
+            _ => Err(wrong(FaultKind::NoStructField, left)),
         },
     }
 }
 
 /// Returns the number of an array's items; fails if the array has a default or is a `key`.
-fn count_in_struct(field: &Field) -> Result<Option<usize>, Stop>
+fn count_in_struct(field: &Field) -> Result<Option<usize>, DeclarationError>
     ensures count { IfOk result (λ c. structs_spec.count_said (field_of field.now).kind ≡ Some c) }
     ensures default { IfOk result (λ _. names_spec.is_array (field_of field.now).kind ≡ true
         → (field_of field.now).default ≡ None) }
@@ -127,13 +131,13 @@ fn count_in_struct(field: &Field) -> Result<Option<usize>, Stop>
     };
     let count = match natural(digits) {
         Some(number) if 1 <= number && number <= 65535 => number as usize,
-        _ => return Err(wrong(Problem::ArrayCount, field.left)),
+        _ => return Err(wrong(FaultKind::ArrayCount, field.left)),
     };
     if field.default.is_some() {
-        return Err(wrong(Problem::DefaultInStruct, field.left));
+        return Err(wrong(FaultKind::DefaultInStruct, field.left));
     }
     if has(&field.attributes, b"key") {
-        return Err(wrong(Problem::WrongKey, field.left));
+        return Err(wrong(FaultKind::WrongKey, field.left));
     }
     Ok(Some(count))
 }
@@ -165,7 +169,7 @@ fn struct_field(
     bodies: &[Declared],
     field: &Field,
     at: usize,
-) -> Result<StructField, Stop>
+) -> Result<StructField, DeclarationError>
     requires at { at ≤ 65535 }
     requires integers { HasIntegers scope.now }
     ensures read { IfOk result (λ f. IsStructFieldRead (scope_heads scope.now)
@@ -179,10 +183,16 @@ fn struct_field(
     let measure = measure_of_items(count, item);
     let distance = next_multiple(at, measure.alignment);
     if distance + measure.size > 65535 {
-        return Err(wrong(Problem::StructTooLarge, field.left));
+        return Err(wrong(FaultKind::StructTooLarge, field.left));
     }
-    let name = or_return!(Vec::from_slice(scope.alloc, &field.name), Stop::OutOfMemory);
-    let docs = or_return!(copied(scope.alloc, &field.docs), Stop::OutOfMemory);
+    let name = or_return!(
+        Vec::from_slice(scope.alloc, &field.name),
+        DeclarationError::OutOfMemory
+    );
+    let docs = or_return!(
+        copied(scope.alloc, &field.docs),
+        DeclarationError::OutOfMemory
+    );
     Ok(StructField {
         name,
         docs,
@@ -194,7 +204,11 @@ fn struct_field(
     })
 }
 
-fn struct_fields(scope: &Scope, bodies: &[Declared], declared: &[Field]) -> Result<Layout, Stop>
+fn struct_fields(
+    scope: &Scope,
+    bodies: &[Declared],
+    declared: &[Field],
+) -> Result<Layout, DeclarationError>
     requires { HasIntegers scope.now }
     ensures read { IfOk result (λ l. IsLayoutRead (scope_heads scope.now) (scope_space scope.now)
         bodies.now declared.now l) }
@@ -207,9 +221,12 @@ fn struct_fields(scope: &Scope, bodies: &[Declared], declared: &[Field]) -> Resu
     let mut alignment = 1;
     'fields: for declaration in declared {
         let field = or_return!(struct_field(scope, bodies, declaration, end));
-        let new = or_return!(take_key(&mut names, &declaration.name), Stop::OutOfMemory);
+        let new = or_return!(
+            take_key(&mut names, &declaration.name),
+            DeclarationError::OutOfMemory
+        );
         if !new {
-            return Err(wrong(Problem::FieldNameTaken, declaration.left));
+            return Err(wrong(FaultKind::FieldNameTaken, declaration.left));
         }
         end = field.distance + field.size;
         alignment = greater(alignment, field.alignment);
@@ -244,7 +261,11 @@ pub(crate) fn setting_number(attribute: &Attribute) -> Option<u64>
     }
 }
 
-fn alignment_of(attributes: &[Attribute], greatest: usize, left: usize) -> Result<usize, Stop>
+fn alignment_of(
+    attributes: &[Attribute],
+    greatest: usize,
+    left: usize,
+) -> Result<usize, DeclarationError>
     ensures said { IfOk result (λ n. structs_spec.alignment_said
         (names_spec.setting (codes "force_align") (map attribute_of attributes.now)) greatest
         ≡ Some n) }
@@ -256,14 +277,14 @@ fn alignment_of(attributes: &[Attribute], greatest: usize, left: usize) -> Resul
     let (alignment, at) = match setting(attributes, b"force_align") {
         Some(attribute) => match setting_number(attribute) {
             Some(number) if number <= 32 => (number as usize, attribute.label.left),
-            _ => return Err(wrong(Problem::WrongAlignment, attribute.label.left)),
+            _ => return Err(wrong(FaultKind::WrongAlignment, attribute.label.left)),
         },
         None => (greatest, left),
     };
     if is_alignment(alignment) && greatest <= alignment {
         Ok(alignment)
     } else {
-        Err(wrong(Problem::WrongAlignment, at))
+        Err(wrong(FaultKind::WrongAlignment, at))
     }
 }
 
@@ -272,7 +293,7 @@ pub(crate) fn struct_of(
     bodies: &[Declared],
     declared: &Record,
     left: usize,
-) -> Result<Struct, Stop>
+) -> Result<Struct, DeclarationError>
     requires { HasIntegers scope.now }
     ensures read { IfOk result (λ s. IsStructRead (scope_heads scope.now) (scope_space scope.now)
         bodies.now declared.now s) }
@@ -280,7 +301,7 @@ pub(crate) fn struct_of(
         (spec.measures_of bodies.now) declared.now left) result }
 {
     if declared.fields.is_empty() {
-        return Err(wrong(Problem::EmptyStruct, left));
+        return Err(wrong(FaultKind::EmptyStruct, left));
     }
     let layout = or_return!(struct_fields(scope, bodies, &declared.fields));
     let alignment = or_return!(alignment_of(&declared.attributes, layout.alignment, left));

@@ -18,7 +18,7 @@ ghost use Rattle.planus_resolve.specs.WrongTables.{wrong_fields, wrong_table_bod
 use crate::attributes::{has, setting};
 use crate::defaults::default_of;
 use crate::expected::Expected;
-use crate::fault::{Problem, Stop, or_return, wrong};
+use crate::fault::{DeclarationError, FaultKind, or_return, wrong};
 use crate::kind::{head_base, is_array, type_of};
 use crate::lookup::{Wanted, found};
 use crate::names::{copied, take_key};
@@ -69,43 +69,46 @@ fn check_lawful(
     key: bool,
     nested: Option<usize>,
     left: usize,
-) -> Result<(), Stop>
+) -> Result<(), DeclarationError>
     ensures lawful { IfOk result (λ _. (not (required && spec.is_number kind)
         && (not key || spec.may_be_key kind) && (not (names_spec.is_set nested) || spec.is_bytes
         kind)) ≡ true) }
     ensures wrong { Tells (wrong_law required key (names_spec.is_set nested) kind left) result }
 {
     if required && is_number(kind) {
-        Err(wrong(Problem::RequiredScalar, left))
+        Err(wrong(FaultKind::RequiredScalar, left))
     } else if key && !may_be_key(kind) {
-        Err(wrong(Problem::WrongKey, left))
+        Err(wrong(FaultKind::WrongKey, left))
     } else if nested.is_some() && !is_bytes(kind) {
-        Err(wrong(Problem::WrongNested, left))
+        Err(wrong(FaultKind::WrongNested, left))
     } else {
         Ok(())
     }
 }
 
-fn table_named(scope: &Scope, text: &[u8], left: usize) -> Result<usize, Stop>
+fn table_named(scope: &Scope, text: &[u8], left: usize) -> Result<usize, DeclarationError>
     ensures named { IfOk result (λ i. names_spec.base_found (scope_heads scope.now)
         (names_spec.found (scope_heads scope.now) names_spec.as_record (scope_space scope.now)
         (text.now ∷ []))
         ≡ Some (Base.Table i)) }
     ensures wrong { Tells (when (not (names_spec.is_set (names_spec.table_in (spec.table_found
         (scope_heads scope.now)
-        (scope_space scope.now) (Some text.now))))) Problem.NestedIsNoTable left) result }
+        (scope_space scope.now) (Some text.now))))) FaultKind.NestedIsNoTable left) result }
 {
-    let index = or_return!(found(scope, Wanted::Record, text, &[]), Stop::OutOfMemory);
+    let index = or_return!(
+        found(scope, Wanted::Record, text, &[]),
+        DeclarationError::OutOfMemory
+    );
     match index {
         Some(index) => match head_base(scope.heads, index) {
             Some(Base::Table(table)) => Ok(table),
-            _ => Err(wrong(Problem::NestedIsNoTable, left)),
+            _ => Err(wrong(FaultKind::NestedIsNoTable, left)),
         },
-        None => Err(wrong(Problem::NestedIsNoTable, left)),
+        None => Err(wrong(FaultKind::NestedIsNoTable, left)),
     }
 }
 
-fn nested_of(scope: &Scope, attributes: &[Attribute]) -> Result<Option<usize>, Stop>
+fn nested_of(scope: &Scope, attributes: &[Attribute]) -> Result<Option<usize>, DeclarationError>
     ensures says { IfOk result (λ o. spec.NestedIs (scope_heads scope.now) (scope_space scope.now)
         (names_spec.setting (codes "nested_flatbuffer") (map attribute_of attributes.now)) o) }
     ensures set { IfOk result (λ o. names_spec.is_set o
@@ -120,14 +123,14 @@ fn nested_of(scope: &Scope, attributes: &[Attribute]) -> Result<Option<usize>, S
                 let table = or_return!(table_named(scope, name, attribute.label.left));
                 Ok(Some(table))
             }
-            _ => Err(wrong(Problem::NestedIsNoTable, attribute.label.left)),
+            _ => Err(wrong(FaultKind::NestedIsNoTable, attribute.label.left)),
         },
         None => Ok(None),
     }
 }
 
 /// Returns the type of a field, which is no array.
-fn field_type(scope: &Scope, field: &Field) -> Result<FieldType, Stop>
+fn field_type(scope: &Scope, field: &Field) -> Result<FieldType, DeclarationError>
     ensures named { IfOk result (λ t. names_spec.type_named (scope_heads scope.now)
         (scope_space scope.now)
         (kind_of field.now.kind) ≡ Some t) }
@@ -136,12 +139,17 @@ fn field_type(scope: &Scope, field: &Field) -> Result<FieldType, Stop>
         field.now) result }
 {
     if is_array(&field.kind) {
-        return Err(wrong(Problem::ArrayInTable, field.left));
+        return Err(wrong(FaultKind::ArrayInTable, field.left));
     }
     type_of(scope, &field.kind, Expected::AnyType)
 }
 
-fn table_field(scope: &Scope, field: &Field, ids: bool, next: usize) -> Result<TableField, Stop>
+fn table_field(
+    scope: &Scope,
+    field: &Field,
+    ids: bool,
+    next: usize,
+) -> Result<TableField, DeclarationError>
     requires next { next ≤ 65535 }
     requires integers { HasIntegers scope.now }
     ensures read { IfOk result (λ f. IsFieldRead (scope_heads scope.now) (scope_space scope.now)
@@ -165,8 +173,14 @@ fn table_field(scope: &Scope, field: &Field, ids: bool, next: usize) -> Result<T
     let key = has(attributes, b"key");
     or_return!(check_lawful(kind, required, key, nested, field.left));
     let deprecated = has(attributes, b"deprecated");
-    let name = or_return!(Vec::from_slice(scope.alloc, &field.name), Stop::OutOfMemory);
-    let docs = or_return!(copied(scope.alloc, &field.docs), Stop::OutOfMemory);
+    let name = or_return!(
+        Vec::from_slice(scope.alloc, &field.name),
+        DeclarationError::OutOfMemory
+    );
+    let docs = or_return!(
+        copied(scope.alloc, &field.docs),
+        DeclarationError::OutOfMemory
+    );
     Ok(TableField {
         name,
         docs,
@@ -223,36 +237,43 @@ fn add_names<'n>(
     name: &'n [u8],
     type_name: &'n [u8],
     left: usize,
-) -> Result<bool, Stop>
+) -> Result<bool, DeclarationError>
     requires own { field.now.name.items ≡ name.now }
     requires typed { type_name.now ≡ spec.type_name name.now }
     ensures read { (list : List Name) → IsTaken names.old list
         → IfOk result (λ k. AreNamesRead list names.new field.now key k) }
     ensures wrong { (list : List Name) → IsTaken names.old list → Tells (first
-        (when (are_among list (spec.names_taken field.now)) Problem.FieldNameTaken left)
-        (when (field.now.key && key) Problem.SecondKey left)) result }
+        (when (are_among list (spec.names_taken field.now)) FaultKind.FieldNameTaken left)
+        (when (field.now.key && key) FaultKind.SecondKey left)) result }
 {
     let new = or_return!(
         take_names(names, field.kind, name, type_name),
-        Stop::OutOfMemory
+        DeclarationError::OutOfMemory
     );
     if !new {
-        return Err(wrong(Problem::FieldNameTaken, left));
+        return Err(wrong(FaultKind::FieldNameTaken, left));
     }
     if field.key && key {
-        return Err(wrong(Problem::SecondKey, left));
+        return Err(wrong(FaultKind::SecondKey, left));
     }
     Ok(key || field.key)
 }
 
-fn table_fields(scope: &Scope, declared: &[Field], ids: bool) -> Result<Vec<TableField>, Stop>
+fn table_fields(
+    scope: &Scope,
+    declared: &[Field],
+    ids: bool,
+) -> Result<Vec<TableField>, DeclarationError>
     requires { HasIntegers scope.now }
     ensures read { IfOk result (λ v. AreFieldsRead (scope_heads scope.now) (scope_space scope.now)
         ids declared.now v.items) }
     ensures wrong { Tells (wrong_fields (scope_heads scope.now) (scope_space scope.now) ids 0 false
         [] declared.now) result }
 {
-    let types = or_return!(type_names(scope.alloc, declared), Stop::OutOfMemory);
+    let types = or_return!(
+        type_names(scope.alloc, declared),
+        DeclarationError::OutOfMemory
+    );
     let mut fields = Vec::new(scope.alloc);
     let mut names = BTreeMap::new(scope.alloc);
     let mut next = 0;
@@ -260,7 +281,7 @@ fn table_fields(scope: &Scope, declared: &[Field], ids: bool) -> Result<Vec<Tabl
     let mut index = 0;
     'fields: for declaration in declared {
         if next > 65535 {
-            return Err(wrong(Problem::TooManySlots, declaration.left));
+            return Err(wrong(FaultKind::TooManySlots, declaration.left));
         }
         let field = or_return!(table_field(scope, declaration, ids, next));
         key = or_return!(add_names(
@@ -278,11 +299,15 @@ fn table_fields(scope: &Scope, declared: &[Field], ids: bool) -> Result<Vec<Tabl
     Ok(fields)
 }
 
-pub(crate) fn table_of(scope: &Scope, declared: &Record, left: usize) -> Result<Table, Stop>
+pub(crate) fn table_of(
+    scope: &Scope,
+    declared: &Record,
+    left: usize,
+) -> Result<Table, DeclarationError>
     requires { HasIntegers scope.now }
     ensures says { IfOk result (λ t. spec.SaysTable (scope_heads scope.now) (scope_space scope.now)
         (record_of declared.now) t) }
-    ensures sound { IfOk result (λ t. spec.IsTable t) }
+    ensures sound { IfOk result (λ t. spec.IsTableBody t) }
     ensures wrong { Tells (wrong_table_body (scope_heads scope.now) (scope_space scope.now)
         declared.now left) result }
 {

@@ -18,7 +18,7 @@ ghost use Rattle.planus_resolve.specs.Fitting.{fits};
 
 use crate::attributes::setting;
 use crate::expected::Expected;
-use crate::fault::{Problem, Stop, or_return, wrong};
+use crate::fault::{DeclarationError, FaultKind, or_return, wrong};
 use crate::head::dotted_name;
 use crate::kind::base_at;
 use crate::lookup::Wanted;
@@ -56,7 +56,7 @@ fn expected_as(wanted: Wanted) -> Expected
     }
 }
 
-fn base_of(scope: &Scope, declared: &Member) -> Result<Base, Stop>
+fn base_of(scope: &Scope, declared: &Member) -> Result<Base, DeclarationError>
     ensures named { IfOk result (λ b. names_spec.base_as (scope_heads scope.now)
         (spec.wanted_of (values_spec.member_of declared.now)) (scope_space scope.now)
         (spec.target_of (values_spec.member_of declared.now)) ≡ Some b) }
@@ -73,7 +73,7 @@ fn base_of(scope: &Scope, declared: &Member) -> Result<Base, Stop>
         wanted,
         target_of(declared),
         expected_as(wanted),
-        Problem::NoUnionMember,
+        FaultKind::NoUnionMember,
     )
 }
 
@@ -92,7 +92,7 @@ fn tag_of(previous: u8, member: &Member) -> Option<u8>
     }
 }
 
-fn member(scope: &Scope, declared: &Member, tag: u8) -> Result<UnionMember, Stop>
+fn member(scope: &Scope, declared: &Member, tag: u8) -> Result<UnionMember, DeclarationError>
     ensures read { IfOk result (λ m. spec.SaysMember (scope_heads scope.now) (scope_space scope.now)
         (values_spec.member_of declared.now) m × m.tag ≡ tag) }
     ensures wrong { Tells (wrong_target (scope_heads scope.now)
@@ -108,9 +108,12 @@ fn member(scope: &Scope, declared: &Member, tag: u8) -> Result<UnionMember, Stop
             &declared.path.first,
             &declared.path.more
         ),
-        Stop::OutOfMemory
+        DeclarationError::OutOfMemory
     );
-    let docs = or_return!(copied(scope.alloc, &declared.docs), Stop::OutOfMemory);
+    let docs = or_return!(
+        copied(scope.alloc, &declared.docs),
+        DeclarationError::OutOfMemory
+    );
     Ok(UnionMember {
         name,
         docs,
@@ -154,7 +157,7 @@ fn next_member(
     declared: &Member,
     previous: u8,
     members: &[UnionMember],
-) -> Result<UnionMember, Stop>
+) -> Result<UnionMember, DeclarationError>
     ensures read { IfOk result (λ m. IsMemberRead (scope_heads scope.now) (scope_space scope.now)
         previous members.now declared.now m) }
     ensures wrong { Tells (wrong_member (scope_heads scope.now) (scope_space scope.now)
@@ -163,15 +166,15 @@ fn next_member(
 {
     let tag = match tag_of(previous, declared) {
         Some(tag) => tag,
-        None => return Err(wrong(Problem::TagOutOfRange, declared.path.left)),
+        None => return Err(wrong(FaultKind::TagOutOfRange, declared.path.left)),
     };
     if has_tag(members, tag) {
-        return Err(wrong(Problem::TagTaken, declared.path.left));
+        return Err(wrong(FaultKind::TagTaken, declared.path.left));
     }
     member(scope, declared, tag)
 }
 
-fn members_of(scope: &Scope, declared: &[Member]) -> Result<Union, Stop>
+fn members_of(scope: &Scope, declared: &[Member]) -> Result<Union, DeclarationError>
     ensures read { IfOk result (λ u. IsUnionRead (scope_heads scope.now) (scope_space scope.now)
         declared.now u) }
     ensures wrong { Tells (wrong_members (scope_heads scope.now) (scope_space scope.now) (Some 0)
@@ -182,7 +185,7 @@ fn members_of(scope: &Scope, declared: &[Member]) -> Result<Union, Stop>
     'members: for member in declared {
         let next = or_return!(next_member(scope, member, previous, &members));
         if is_taken(&members, &next.name) {
-            return Err(wrong(Problem::MemberNameTaken, member.path.left));
+            return Err(wrong(FaultKind::MemberNameTaken, member.path.left));
         }
         previous = next.tag;
         members.push(next)?;
@@ -190,7 +193,7 @@ fn members_of(scope: &Scope, declared: &[Member]) -> Result<Union, Stop>
     Ok(Union { members })
 }
 
-fn check_flags(attributes: &[Attribute]) -> Result<(), Stop>
+fn check_flags(attributes: &[Attribute]) -> Result<(), DeclarationError>
     ensures plain { IfOk result (λ _. names_spec.has (codes "bit_flags")
         (map values_spec.attribute_of attributes.now)
         ≡ false) }
@@ -199,12 +202,12 @@ fn check_flags(attributes: &[Attribute]) -> Result<(), Stop>
         result }
 {
     match setting(attributes, b"bit_flags") {
-        Some(attribute) => Err(wrong(Problem::FlagsInUnion, attribute.label.left)),
+        Some(attribute) => Err(wrong(FaultKind::FlagsInUnion, attribute.label.left)),
         None => Ok(()),
     }
 }
 
-pub(crate) fn union_of(scope: &Scope, declared: &UnionBody) -> Result<Union, Stop>
+pub(crate) fn union_of(scope: &Scope, declared: &UnionBody) -> Result<Union, DeclarationError>
     ensures says { IfOk result (λ u. spec.SaysUnion (scope_heads scope.now) (scope_space scope.now)
         (values_spec.union_of declared.now) u) }
     ensures sound { IfOk result (λ u. spec.IsUnion u) }

@@ -10,7 +10,7 @@ ghost use Rattle.planus_resolve.specs.inner.Read.{AreNoted};
 ghost use Rattle.planus_resolve.specs.Uses as spec;
 
 use crate::awaited::Awaited;
-use crate::fault::{Fault, Problem, note, or_return, wrong};
+use crate::fault::{Fault, FaultKind, note, or_return, wrong};
 use crate::head::dotted_name;
 use crate::heads::Heads;
 use crate::lookup::{Sought, Wanted, at, found, found_by};
@@ -220,8 +220,8 @@ fn read_use(
             wait(alloc, heads, waiting, usage, awaited)
         }
         Told::Clash(here, elsewhere) => {
-            let problem = Problem::TwoMeanings { here, elsewhere };
-            note(faults, usage.spot.file, wrong(problem, usage.left))
+            let kind = FaultKind::TwoMeanings { here, elsewhere };
+            note(faults, usage.spot.file, wrong(kind, usage.left))
         }
     }
 }
@@ -237,11 +237,11 @@ fn note_bound(
 {
     match awaited {
         Some(awaited) if awaited.meaning != index => {
-            let problem = Problem::TwoMeanings {
+            let kind = FaultKind::TwoMeanings {
                 here: awaited.meaning,
                 elsewhere: index,
             };
-            note(faults, awaited.file, wrong(problem, awaited.left))
+            note(faults, awaited.file, wrong(kind, awaited.left))
         }
         _ => Ok(()),
     }

@@ -23,8 +23,8 @@ use Rattle.planus_schema.specs.Layouts.{body_in, greatest_alignment, IsNext, IsS
 use Rattle.planus_schema.specs.Layouts.{Laid, measure_in, measure_of_body}
 use Rattle.planus_schema.specs.Slots.{Follow, slots_taken, width}
 use Rattle.planus_resolve.specs.declared.fault.Fault.{Fault}
-use Rattle.planus_resolve.specs.declared.fault.Refusal.{Refusal}
-use Rattle.planus_resolve.specs.declared.fault.Refusal.TheVariants as refusal
+use Rattle.planus_resolve.specs.declared.fault.ResolveError.{ResolveError}
+use Rattle.planus_resolve.specs.declared.fault.ResolveError.TheVariants as error
 use Rattle.planus_resolve.specs.Faults.{Adds, AreInOrder, sound_measure}
 use Rattle.planus_resolve.specs.Names.{HeadV, SpaceV}
 use Rattle.planus_resolve.specs.Schemas.{AreFaults, IsBody, IsFour, SaysBody, StatementsV, said_of}
@@ -136,6 +136,6 @@ pub record AreStated (said : StatementsV) (found : List Fault) (old new : Statem
   pub noted : AreNoted found before after
 
 -- these faults in order, from one to twenty, or memory was refused
-abbrev pub IsToldOf : List Fault → Refusal → Type 0
-IsToldOf found refusal.OutOfMemory = Unit {0}
-IsToldOf found (refusal.Faults v) = AreInOrder found v.items × AreFaults v.items
+abbrev pub IsToldOf : List Fault → ResolveError → Type 0
+IsToldOf found error.OutOfMemory = Unit {0}
+IsToldOf found (error.Faults v) = AreInOrder found v.items × AreFaults v.items

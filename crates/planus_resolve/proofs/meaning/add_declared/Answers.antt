@@ -68,11 +68,11 @@ returns-in-Ok-note-clause-measures c =
     let h = c.args.head.now in
     let old = measures_of c.args.declared.now.items in
     let item = h.declaration.now.item in
-    let s' = subst (λ ds. Stops (wrong_body hs (space_at (space_of h.space) (length ds + 1)) (measures_of ds) (name_left h.declaration.now) item) c.in-Err.stop) c.deref.ensures.value c.in-Err.ensures.wrong in
-    let s = subst (λ k. Stops (wrong_body hs (space_at (space_of h.space) (k + 1)) old (name_left h.declaration.now) item) c.in-Err.stop) (as_many c.args.declared.now.items) s' in
+    let s' = subst (λ ds. Stops (wrong_body hs (space_at (space_of h.space) (length ds + 1)) (measures_of ds) (name_left h.declaration.now) item) c.in-Err.error) c.deref.ensures.value c.in-Err.ensures.wrong in
+    let s = subst (λ k. Stops (wrong_body hs (space_at (space_of h.space) (k + 1)) old (name_left h.declaration.now) item) c.in-Err.error) (as_many c.args.declared.now.items) s' in
     let here = space_at (space_of h.space) (length old + 1) in
     on_ok_weaker c.add_body-in-Err.result
-    (λ e. e ∙ ap (λ m. old ++ m ∷ []) (c.stand_in-body.ensures ∙ sym (byte_told (wrong_body hs here old (name_left h.declaration.now) item) c.in-Err.stop (sound_measure hs here old item) (byte_measure item) s c.in-Ok-note.ensures.told)))
+    (λ e. e ∙ ap (λ m. old ++ m ∷ []) (c.stand_in-body.ensures ∙ sym (byte_told (wrong_body hs here old (name_left h.declaration.now) item) c.in-Err.error (sound_measure hs here old item) (byte_measure item) s c.in-Ok-note.ensures.told)))
     c.add_body-in-Err.ensures.measures
 
 pub returns-in-Ok-note-clause-adds : goal.returns-in-Ok-note-clause-adds
@@ -80,8 +80,8 @@ returns-in-Ok-note-clause-adds c =
     let hs = map head_of c.args.heads.now in
     let h = c.args.head.now in
     let ds = c.args.declared.now.items in
-    let s' = subst (λ ds. Stops (wrong_body hs (space_at (space_of h.space) (length ds + 1)) (measures_of ds) (name_left h.declaration.now) h.declaration.now.item) c.in-Err.stop) c.deref.ensures.value c.in-Err.ensures.wrong in
-    let s = subst (λ k. Stops (wrong_body hs (space_at (space_of h.space) (k + 1)) (measures_of ds) (name_left h.declaration.now) h.declaration.now.item) c.in-Err.stop) (as_many ds) s' in
+    let s' = subst (λ ds. Stops (wrong_body hs (space_at (space_of h.space) (length ds + 1)) (measures_of ds) (name_left h.declaration.now) h.declaration.now.item) c.in-Err.error) c.deref.ensures.value c.in-Err.ensures.wrong in
+    let s = subst (λ k. Stops (wrong_body hs (space_at (space_of h.space) (k + 1)) (measures_of ds) (name_left h.declaration.now) h.declaration.now.item) c.in-Err.error) (as_many ds) s' in
     ok_anyway c.add_body-in-Err.result _
-    (adds_told h.file _ c.in-Err.stop c.args.faults.now.items c.note.new.faults.items s
+    (adds_told h.file _ c.in-Err.error c.args.faults.now.items c.note.new.faults.items s
     c.in-Ok-note.ensures.told c.in-Ok-note.ensures.adds)

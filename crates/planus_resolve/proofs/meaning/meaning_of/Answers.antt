@@ -5,7 +5,7 @@ use Rattle.planus_syntax.specs.declared.value.Declaration.{Declaration}
 use Rattle.planus_schema.specs.Distinct.{AreDistinct}
 use Rattle.planus_resolve.specs.Schemas.{AreDeclared, after_files, no_statements}
 use Rattle.planus_resolve.specs.Names.{HeadV}
-use Rattle.planus_resolve.proofs.FaultLemmas.{all_found, exactly_told, refusal_told}
+use Rattle.planus_resolve.proofs.FaultLemmas.{all_found, exactly_told, error_told}
 use Rattle.planus_resolve.proofs.meaning.meaning_of.Goals as goal
 
 pub returns-clause-none : goal.returns-clause-none
@@ -25,7 +25,7 @@ returns-in-Err-refuse-clause-exact c =
     exactly_told c.args.files.now c.check_uses.new.faults.items c.in-Err-refuse.error found c.in-Err-refuse.ensures.told
 
 pub returns-in-Err-refuse-clause-faults : goal.returns-in-Err-refuse-clause-faults
-returns-in-Err-refuse-clause-faults c = refusal_told c.check_uses.new.faults.items c.in-Err-refuse.error c.in-Err-refuse.ensures.told
+returns-in-Err-refuse-clause-faults c = error_told c.check_uses.new.faults.items c.in-Err-refuse.error c.in-Err-refuse.ensures.told
 
 pub returns-clause-means : goal.returns-clause-means
 returns-clause-means c =

@@ -37,7 +37,7 @@ declarations-preserved c =
             noted = record {
               kept = λ e. no_faults new some e;
               most = w.in-Ok-note.ensures.most;
-              adds = adds_told c.args.file _ w.in-Err.stop old new w.in-Err.ensures.wrong w.in-Ok-note.ensures.told w.in-Ok-note.ensures.adds;
+              adds = adds_told c.args.file _ w.in-Err.error old new w.in-Err.ensures.wrong w.in-Ok-note.ensures.told w.in-Ok-note.ensures.adds;
             };
           })
       | in-Ok w ↦
