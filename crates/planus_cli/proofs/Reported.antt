@@ -1,7 +1,7 @@
 -- Reports.
 use Rattle.std.proofs.Common.{ℕ, List, [], ◌∷◌, ◌++◌, refl, sym, ap, ◌∙◌}
 use Rattle.std.proofs.Common.{append-nil, append_assoc}
-use Rattle.planus_syntax.specs.Parsed.{IsRefusal}
+use Rattle.planus_syntax.specs.Parsed.{IsMemoryError}
 use Rattle.planus_syntax.specs.declared.text.SchemaError.{SchemaError}
 use Rattle.planus_syntax.specs.declared.text.SchemaError.TheVariants as whole
 use Rattle.planus_resolve.specs.Names.{HeadV}
@@ -33,7 +33,7 @@ reports_push hs files (f ∷ fs) fault old new j a = record {
 }
 
 -- refused memory is not reported
-pub not_reported : (name text : List ℕ) (e : SchemaError) (report : List ℕ) → IsRefusal e → ReportsError name text e report → ⊥
+pub not_reported : (name text : List ℕ) (e : SchemaError) (report : List ℕ) → IsMemoryError e → ReportsError name text e report → ⊥
 not_reported name text whole.OutOfMemory report h r = r
 not_reported name text (whole.Token fault at) report h r = h
 not_reported name text (whole.Declaration fault index at) report h r = h

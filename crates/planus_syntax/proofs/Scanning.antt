@@ -8,7 +8,7 @@ use Rattle.std.proofs.lemmas.Bool.{eqb-true}
 use Rattle.planus_syntax.specs.declared.lexer.LexFault.{LexFault}
 use Rattle.planus_syntax.specs.declared.lexer.LexFault.TheVariants.{BadNumber, OpenComment, Strange}
 use Rattle.planus_syntax.specs.Tokens.{Piece, word, number, doc, mark, begins, is_word_byte, is_number_start, starts_number, is_number_byte, is_number, is_line_byte}
-use Rattle.planus_syntax.specs.Lexing.{State, between, run, figures, point, slash, slashes, comment, documented, block, starred, Step, Read, number_piece, opened, in_front, closed, step, with_front, going, lex_from, lex_of}
+use Rattle.planus_syntax.specs.Lexing.{LexState, between, run, figures, point, slash, slashes, comment, documented, block, starred, Step, Read, number_piece, opened, in_front, closed, step, with_front, going, lex_from, lex_of}
 use Rattle.planus_syntax.specs.Cutting.{Splits}
 use Rattle.planus_syntax.specs.Spelled.{closes}
 
@@ -24,7 +24,7 @@ front_of_read : (p : Piece) (ps : List Piece) (r : Read) → with_front (p ∷ p
 front_of_read p ps (Ok qs) = refl
 front_of_read p ps (Err e) = refl
 
-front_of_step : (left : ℕ) (p : Piece) (s : Step) (more : State → Read) → going left (in_front p s) more ≡ with_front (p ∷ []) (going left s more)
+front_of_step : (left : ℕ) (p : Piece) (s : Step) (more : LexState → Read) → going left (in_front p s) more ≡ with_front (p ∷ []) (going left s more)
 front_of_step left p (Ok x) more = front_of_read p x.0 (more x.1)
 front_of_step left p (Err f) more = refl
 

@@ -10,7 +10,7 @@ use Rattle.planus_syntax.specs.declared.lexer.LexFault.{LexFault}
 use Rattle.planus_syntax.specs.declared.lexer.LexFault.TheVariants.{Strange}
 use Rattle.planus_syntax.proofs.Runs.{end, splits}
 use Rattle.planus_syntax.specs.Tokens.{Piece, word, number, text, doc, mark, begins, is_word_byte, is_number_start, starts_number, is_number_byte, is_number, is_line_byte, is_blank, is_mark, is_some, is_lawful, bytes_of}
-use Rattle.planus_syntax.specs.Lexing.{State, between, run, slash, slashes, Read, opened, going, with_front, lex_from, lex_of}
+use Rattle.planus_syntax.specs.Lexing.{LexState, between, run, slash, slashes, Read, opened, going, with_front, lex_from, lex_of}
 use Rattle.planus_syntax.specs.Lexing as machine
 use Rattle.planus_syntax.specs.Strings.{start, is_quote, is_string, is_closed, string_step}
 use Rattle.planus_syntax.specs.Cutting.{Splits, string_end}

@@ -5,7 +5,7 @@ use Rattle.std.specs.List.{list_all}
 use Rattle.std.specs.Borrow.{Bor}
 use Rattle.planus_syntax.specs.declared.lexer.LexFault.{LexFault}
 use Rattle.planus_syntax.specs.declared.lexer.LexFault.TheVariants.{OpenString}
-use Rattle.planus_syntax.specs.declared.lexer.Stop.{Stop}
+use Rattle.planus_syntax.specs.declared.lexer.PlacedFault.{PlacedFault}
 use Rattle.planus_syntax.specs.declared.token.Lexeme.{Lexeme}
 use Rattle.planus_syntax.specs.declared.token.Lexeme.TheVariants as token
 use Rattle.planus_syntax.specs.declared.run.Run.{Run}
@@ -56,9 +56,9 @@ pieces_in None = []
 pieces_in (Some t) = cut_piece t ∷ []
 
 -- the token at the front, if there is one, before the tokens of the rest
-abbrev pub Cuts : List ℕ → Result (Option Lexeme × Bor (List ℕ)) Stop → Type 0
+abbrev pub Cuts : List ℕ → Result (Option Lexeme × Bor (List ℕ)) PlacedFault → Type 0
 Cuts bytes (Ok x) = lex_of bytes ≡ with_front (pieces_in x.0) (lex_of x.1.now)
-Cuts bytes (Err stop) = lex_of bytes ≡ Err (stop.fault, stop.left)
+Cuts bytes (Err placed) = lex_of bytes ≡ Err (placed.fault, placed.left)
 
 -- what follows the closing quote of a string, or its error
 abbrev pub string_end : ℕ → StringState → List ℕ → Result (List ℕ) (LexFault × ℕ)
@@ -69,11 +69,11 @@ string_end q s (b ∷ bs) =
     else if is_wrong next then Err (string_fault s b, length (b ∷ bs))
     else string_end q next bs
 
-abbrev pub Ends : Result (List ℕ) (LexFault × ℕ) → Result (Bor (List ℕ)) Stop → Type 0
+abbrev pub Ends : Result (List ℕ) (LexFault × ℕ) → Result (Bor (List ℕ)) PlacedFault → Type 0
 Ends end (Ok rest) = end ≡ Ok rest.now
-Ends end (Err stop) = end ≡ Err (stop.fault, stop.left)
+Ends end (Err placed) = end ≡ Err (placed.fault, placed.left)
 
 -- a comment or documentation; `read` is what is read with it
-abbrev pub Skips : Read → Result (Bor (List ℕ)) Stop → Type 0
+abbrev pub Skips : Read → Result (Bor (List ℕ)) PlacedFault → Type 0
 Skips read (Ok rest) = read ≡ lex_of rest.now
-Skips read (Err stop) = read ≡ Err (stop.fault, stop.left)
+Skips read (Err placed) = read ≡ Err (placed.fault, placed.left)

@@ -22,22 +22,22 @@ use Rattle.planus_syntax.specs.declared.strings.StringState.TheVariants as strin
 -- between tokens; in a word, a number, a string or documentation, with the bytes so far, of a string
 -- also with its quote and its state; after a point, which begins a number or is a mark; after one or
 -- two slashes; in a comment to the end of the line; in a comment to `*/`, and there after a `*`
-pub data State : Type 0 where
-  between : State
-  run : List ℕ → State
-  figures : List ℕ → State
-  point : State
-  quoted : ℕ → StringState → List ℕ → State
-  slash : State
-  slashes : State
-  comment : State
-  documented : List ℕ → State
-  block : State
-  starred : State
+pub data LexState : Type 0 where
+  between : LexState
+  run : List ℕ → LexState
+  figures : List ℕ → LexState
+  point : LexState
+  quoted : ℕ → StringState → List ℕ → LexState
+  slash : LexState
+  slashes : LexState
+  comment : LexState
+  documented : List ℕ → LexState
+  block : LexState
+  starred : LexState
 
 -- the tokens that a byte completes, and the next state
 abbrev pub Step : Type 0
-Step = Result (List Piece × State) LexFault
+Step = Result (List Piece × LexState) LexFault
 
 abbrev pub number_piece : List ℕ → Result Piece LexFault
 number_piece w = if is_number w then Ok (number w) else Err BadNumber
@@ -82,7 +82,7 @@ in_string q w fault next =
     else if is_wrong next then Err fault
     else Ok ([], quoted q next w)
 
-abbrev pub step : State → ℕ → Step
+abbrev pub step : LexState → ℕ → Step
 step between b = opened b
 step (run w) b =
     if is_word_byte b then Ok ([], run (w ++ b ∷ [])) else closed (Ok (word w)) (opened b)
@@ -107,7 +107,7 @@ step starred b =
     else Ok ([], block)
 
 -- at the end of the text
-abbrev pub finished : State → Step
+abbrev pub finished : LexState → Step
 finished between = Ok ([], between)
 finished (run w) = Ok (word w ∷ [], between)
 finished (figures w) = closed (number_piece w) (Ok ([], between))
@@ -128,11 +128,11 @@ abbrev pub with_front : List Piece → Read → Read
 with_front front (Ok ps) = Ok (front ++ ps)
 with_front front (Err e) = Err e
 
-abbrev pub going : ℕ → Step → (State → Read) → Read
+abbrev pub going : ℕ → Step → (LexState → Read) → Read
 going left (Ok x) more = with_front x.0 (more x.1)
 going left (Err f) more = Err (f, left)
 
-abbrev pub lex_from : State → List ℕ → Read
+abbrev pub lex_from : LexState → List ℕ → Read
 lex_from s [] = going 0 (finished s) (λ _. Ok [])
 lex_from s (b ∷ bs) = going (length (b ∷ bs)) (step s b) (λ next. lex_from next bs)
 
@@ -140,8 +140,8 @@ abbrev pub lex_of : List ℕ → Read
 lex_of bytes = lex_from between bytes
 
 -- the result for a text of this length
-abbrev pub Answers : ℕ → Result (Vec Token) LexError → Read → Type 0
-Answers len (Ok tokens) read = read ≡ Ok (pieces_of tokens.items)
-Answers len (Err errors.OutOfMemory) read = Unit {0}
-Answers len (Err (errors.Fault fault at)) read =
+abbrev pub AnswersLex : ℕ → Result (Vec Token) LexError → Read → Type 0
+AnswersLex len (Ok tokens) read = read ≡ Ok (pieces_of tokens.items)
+AnswersLex len (Err errors.OutOfMemory) read = Unit {0}
+AnswersLex len (Err (errors.Fault fault at)) read =
     (left : ℕ) × (read ≡ Err (fault, left)) × (at + left ≡ len)

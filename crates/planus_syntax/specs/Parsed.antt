@@ -31,14 +31,14 @@ AnswersParse len (Err errors.OutOfMemory) read = Unit {0}
 AnswersParse len (Err (errors.Fault fault index)) read =
     (left : ℕ) × (read ≡ Err (fault, left)) × (index ≡ len - left)
 
-abbrev pub IsRefusal : SchemaError → Type 0
-IsRefusal whole.OutOfMemory = Unit {0}
-IsRefusal (whole.Token fault at) = ⊥
-IsRefusal (whole.Declaration fault index at) = ⊥
+abbrev pub IsMemoryError : SchemaError → Type 0
+IsMemoryError whole.OutOfMemory = Unit {0}
+IsMemoryError (whole.Token fault at) = ⊥
+IsMemoryError (whole.Declaration fault index at) = ⊥
 
 abbrev pub TextParsesTo : SchemaV → Result Schema SchemaError → Type 0
 TextParsesTo schema (Ok s) = schema_of s ≡ schema
-TextParsesTo schema (Err e) = IsRefusal e
+TextParsesTo schema (Err e) = IsMemoryError e
 
 -- The text spells a schema, and the other one is its canonical text, with its comments.
 pub record HasCanonicalText (text out : List ℕ) : Type 0 where
@@ -65,7 +65,7 @@ pub record KeepsComments (text out : List ℕ) : Type 0 where
 
 abbrev pub TextFormatsTo : List ℕ → Result (Vec ℕ) SchemaError → Type 0
 TextFormatsTo bytes (Ok out) = out.items ≡ bytes
-TextFormatsTo bytes (Err e) = IsRefusal e
+TextFormatsTo bytes (Err e) = IsMemoryError e
 
 -- The tokens of the text, or of its declarations, have this error at this place.
 abbrev pub IsFaultOf : List ℕ → SchemaError → Type 0

@@ -143,9 +143,9 @@ pub(crate) fn after(bytes: &[u8], byte: u8) -> Option<&[u8]>
     }
 }
 
-/// `left` counts the bytes from the error's place to the text's end.
+/// `left` counts the bytes from the fault's place to the text's end.
 #[derive(Clone, Copy)]
-pub(crate) struct Stop {
+pub(crate) struct PlacedFault {
     fault: LexFault,
     left: usize,
 }
@@ -162,18 +162,18 @@ fn word_at(bytes: &[u8]) -> (Option<Lexeme>, &[u8])
     (Some(Lexeme::Word(word)), rest)
 }
 
-fn number_at(bytes: &[u8]) -> Result<(Option<Lexeme>, &[u8]), Stop>
+fn number_at(bytes: &[u8]) -> Result<(Option<Lexeme>, &[u8]), PlacedFault>
     requires { tokens_spec.starts_number bytes.now ≡ true }
     ensures cuts { spec.Cuts bytes.now result }
     ensures starts { IfOk result (λ x. spec.Starts bytes.now x.0 x.1.now) }
     ensures shorter { IfOk result (λ x. length x.1.now < length bytes.now) }
-    ensures within { IfErr result (λ stop. stop.left ≤ length bytes.now) }
+    ensures within { IfErr result (λ placed. placed.left ≤ length bytes.now) }
 {
     let (number, rest) = split(Run::Number, bytes);
     if is_number(number) {
         Ok((Some(Lexeme::Number(number)), rest))
     } else {
-        Err(Stop {
+        Err(PlacedFault {
             fault: LexFault::BadNumber,
             left: rest.len(),
         })
@@ -205,7 +205,7 @@ fn string_fault(state: StringState, b: u8) -> LexFault
 }
 
 /// Returns what follows the closing quote of a string.
-fn string_end(quote: u8, bytes: &[u8]) -> Result<&[u8], Stop>
+fn string_end(quote: u8, bytes: &[u8]) -> Result<&[u8], PlacedFault>
     ensures { spec.Ends (spec.string_end quote strings_spec.start bytes.now) result }
 {
     let mut state = start();
@@ -216,7 +216,7 @@ fn string_end(quote: u8, bytes: &[u8]) -> Result<&[u8], Stop>
             return Ok(after);
         }
         if is_wrong(next) {
-            return Err(Stop {
+            return Err(PlacedFault {
                 fault: string_fault(state, *b),
                 left: rest.len(),
             });
@@ -224,18 +224,18 @@ fn string_end(quote: u8, bytes: &[u8]) -> Result<&[u8], Stop>
         state = next;
         rest = after;
     }
-    Err(Stop {
+    Err(PlacedFault {
         fault: LexFault::OpenString,
         left: 0,
     })
 }
 
-fn string_at(bytes: &[u8]) -> Result<(Option<Lexeme>, &[u8]), Stop>
+fn string_at(bytes: &[u8]) -> Result<(Option<Lexeme>, &[u8]), PlacedFault>
     requires { begins strings_spec.is_quote bytes.now ≡ true }
     ensures cuts { spec.Cuts bytes.now result }
     ensures starts { IfOk result (λ x. spec.Starts bytes.now x.0 x.1.now) }
     ensures shorter { IfOk result (λ x. length x.1.now < length bytes.now) }
-    ensures within { IfErr result (λ stop. stop.left ≤ length bytes.now) }
+    ensures within { IfErr result (λ placed. placed.left ≤ length bytes.now) }
 {
     let Some((quote, body)) = bytes.split_first() else {
         return Ok((None, bytes));
@@ -246,13 +246,13 @@ fn string_at(bytes: &[u8]) -> Result<(Option<Lexeme>, &[u8]), Stop>
             if is_utf8(text) {
                 Ok((Some(Lexeme::Text(text)), rest))
             } else {
-                Err(Stop {
+                Err(PlacedFault {
                     fault: LexFault::NotUtf8,
                     left: rest.len() + 1,
                 })
             }
         }
-        Err(stop) => Err(stop),
+        Err(placed) => Err(placed),
     }
 }
 
@@ -266,11 +266,11 @@ fn after_end(bytes: &[u8]) -> Option<&[u8]>
     }
 }
 
-fn block_at(bytes: &[u8]) -> Result<&[u8], Stop>
+fn block_at(bytes: &[u8]) -> Result<&[u8], PlacedFault>
     ensures skips { spec.Skips (lexing_spec.lex_from lexing_spec.block bytes.now) result }
     ensures closes { IfOk result (λ rest. spec.Closes bytes.now rest.now) }
     ensures shorter { IfOk result (λ rest. length rest.now < length bytes.now) }
-    ensures within { IfErr result (λ stop. stop.left ≤ length bytes.now) }
+    ensures within { IfErr result (λ placed. placed.left ≤ length bytes.now) }
 {
     let mut rest = bytes;
     'bytes: while let Some((_, next)) = rest.split_first() {
@@ -279,7 +279,7 @@ fn block_at(bytes: &[u8]) -> Result<&[u8], Stop>
         }
         rest = next;
     }
-    Err(Stop {
+    Err(PlacedFault {
         fault: LexFault::OpenComment,
         left: 0,
     })
@@ -303,30 +303,30 @@ fn line_at(bytes: &[u8]) -> (Option<Lexeme>, &[u8])
     }
 }
 
-fn comment_at(bytes: &[u8]) -> Result<(Option<Lexeme>, &[u8]), Stop>
+fn comment_at(bytes: &[u8]) -> Result<(Option<Lexeme>, &[u8]), PlacedFault>
     ensures cuts { spec.Cuts (47 ∷ bytes.now) result }
     ensures starts { IfOk result (λ x. spec.Starts (47 ∷ bytes.now) x.0 x.1.now) }
     ensures shorter { IfOk result (λ x. length x.1.now < length bytes.now) }
-    ensures within { IfErr result (λ stop. stop.left ≤ length bytes.now) }
+    ensures within { IfErr result (λ placed. placed.left ≤ length bytes.now) }
 {
     if let Some(rest) = after(bytes, b'/') {
         return Ok(line_at(rest));
     }
     match after(bytes, b'*') {
         Some(rest) => Ok((None, block_at(rest)?)),
-        None => Err(Stop {
+        None => Err(PlacedFault {
             fault: LexFault::Strange,
             left: bytes.len(),
         }),
     }
 }
 
-pub(crate) fn token_at(bytes: &[u8]) -> Result<(Option<Lexeme>, &[u8]), Stop>
+pub(crate) fn token_at(bytes: &[u8]) -> Result<(Option<Lexeme>, &[u8]), PlacedFault>
     requires { 0 < length bytes.now }
     ensures cuts { spec.Cuts bytes.now result }
     ensures starts { IfOk result (λ x. spec.Starts bytes.now x.0 x.1.now) }
     ensures shorter { IfOk result (λ x. length x.1.now < length bytes.now) }
-    ensures within { IfErr result (λ stop. stop.left ≤ length bytes.now) }
+    ensures within { IfErr result (λ placed. placed.left ≤ length bytes.now) }
 {
     let Some((first, rest)) = bytes.split_first() else {
         return Ok((None, bytes));
@@ -345,7 +345,7 @@ pub(crate) fn token_at(bytes: &[u8]) -> Result<(Option<Lexeme>, &[u8]), Stop>
     } else if first == b'/' {
         comment_at(rest)
     } else {
-        Err(Stop {
+        Err(PlacedFault {
             fault: LexFault::Strange,
             left: bytes.len(),
         })
@@ -365,7 +365,7 @@ fn owned(alloc: Global, lexeme: Lexeme) -> Result<Token, AllocError>
 }
 
 pub(crate) fn lex(alloc: Global, text: &[u8]) -> Result<Vec<Token>, LexError>
-    ensures { lexing_spec.Answers (length text.now) result (lexing_spec.lex_of text.now) }
+    ensures { lexing_spec.AnswersLex (length text.now) result (lexing_spec.lex_of text.now) }
 {
     let mut tokens = Vec::new(alloc);
     let mut rest = text;
@@ -378,10 +378,10 @@ pub(crate) fn lex(alloc: Global, text: &[u8]) -> Result<Vec<Token>, LexError>
                 }
                 rest = after;
             }
-            Err(stop) => {
-                let at = text.len() - stop.left;
+            Err(placed) => {
+                let at = text.len() - placed.left;
                 return Err(LexError::Fault {
-                    fault: stop.fault,
+                    fault: placed.fault,
                     at,
                 });
             }

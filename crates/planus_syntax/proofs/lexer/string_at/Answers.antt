@@ -31,8 +31,8 @@ returns-else-is_utf8 c =
 
 pub returns-in-Err-clause-cuts : goal.returns-in-Err-clause-cuts
 returns-in-Err-clause-cuts c =
-    none_cut c.in-Some.quote.now c.args.bytes.now c.in-Some.body.now c.in-Err.stop.fault c.in-Err.stop.left (search rules) c.requires c.in-Err.ensures
+    none_cut c.in-Some.quote.now c.args.bytes.now c.in-Some.body.now c.in-Err.placed.fault c.in-Err.placed.left (search rules) c.requires c.in-Err.ensures
 
 pub returns-in-Err-clause-within : goal.returns-in-Err-clause-within
 returns-in-Err-clause-within c =
-    none_left c.in-Some.quote.now c.args.bytes.now c.in-Some.body.now c.in-Err.stop.fault c.in-Err.stop.left (search rules) c.in-Err.ensures
+    none_left c.in-Some.quote.now c.args.bytes.now c.in-Some.body.now c.in-Err.placed.fault c.in-Err.placed.left (search rules) c.in-Err.ensures
