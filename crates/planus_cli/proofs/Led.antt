@@ -5,7 +5,7 @@ use Rattle.std.specs.Io.KnownBytes.{Appends, Keeps}
 use Rattle.std.proofs.KnownBytes.{Keeps-refl}
 use Rattle.planus_dump.specs.Writing.{WritesBeginning}
 use Rattle.planus_cli.specs.declared.view.One.{One}
-use Rattle.planus_cli.specs.declared.streams.RunError.{RunError}
+use Rattle.planus_cli.specs.declared.streams.CallError.{CallError}
 use Rattle.planus_cli.specs.Buffers.{Look, LeadV, lead_of, limits_of, look_left, cut_one, header_text, ViewsOne, FailsOne, ViewsAfter, ViewsNext, FailsNext, ViewsSized, FailsSized, EndsCut}
 use Rattle.planus_cli.specs.Viewing.{SplitsSized}
 
@@ -13,7 +13,7 @@ pub err_map : {T E : Type 0} (r : Result T E) (P Q : E → Type 0) → ((e : E) 
 err_map (Ok x) P Q f h = tt
 err_map (Err e) P Q f h = f e h
 
-pub lead_failed : (look : Look) (header buffer : List ℕ) (error : RunError) (lead : LeadV) (before after unsaid : Option (List ℕ))
+pub lead_failed : (look : Look) (header buffer : List ℕ) (error : CallError) (lead : LeadV) (before after unsaid : Option (List ℕ))
     → lead ≡ lead_of (limits_of look) header → WritesBeginning lead.text before after → FailsNext look header buffer error before after unsaid unsaid
 lead_failed look header buffer error lead before after unsaid is begun =
     inl (subst (λ (l : LeadV). WritesBeginning l.text before after) is begun, Keeps-refl unsaid)
@@ -40,7 +40,7 @@ led_on look at header buffer one lead before between after unsaid said is cut le
       (subst (λ (l : Look). ViewsOne l buffer one between after unsaid said) here views));
 }
 
-pub led_failed : (look at : Look) (header buffer : List ℕ) (error : RunError) (lead : LeadV) (before between after unsaid said : Option (List ℕ))
+pub led_failed : (look at : Look) (header buffer : List ℕ) (error : CallError) (lead : LeadV) (before between after unsaid said : Option (List ℕ))
     → lead ≡ lead_of (limits_of look) header → lead.is_cut ≡ false → Appends before between lead.text → at ≡ look_left look lead.left
     → FailsOne at buffer error between after unsaid said → FailsNext look header buffer error before after unsaid said
 led_failed look at header buffer error lead before between after unsaid said is cut led here fails = inr (
@@ -86,7 +86,7 @@ first_on look at number place buffer bytes rest buffers one worst status before 
       (ViewsSized (look_left look one.left) (number + 1) (place + (4 + length buffer)) buffers rest (max worst one.status) status between after told said)) (sym cut) follows;
 }
 
-pub first_then_failed : (look at : Look) (number place : ℕ) (buffer bytes rest : List ℕ) (buffers : List (List ℕ)) (one : One) (error : RunError)
+pub first_then_failed : (look at : Look) (number place : ℕ) (buffer bytes rest : List ℕ) (buffers : List (List ℕ)) (one : One) (error : CallError)
     (before between after unsaid told said : Option (List ℕ))
     → at ≡ look → SplitsSized bytes buffer rest → ViewsNext at (header_text (number + 1) (place + 4)) buffer one before between unsaid told
     → one.is_cut ≡ false

@@ -8,7 +8,7 @@ use Rattle.planus_resolve.specs.Names.{HeadV}
 use Rattle.planus_resolve.specs.declared.fault.Fault.{Fault}
 use Rattle.planus_cli.specs.declared.check.File.{File}
 use Rattle.planus_cli.specs.Checks.{AreReports, IsReportAdded}
-use Rattle.planus_cli.specs.Outcomes.{ReportsError}
+use Rattle.planus_cli.specs.SchemaTexts.{ReportsError}
 
 pub reports_push : (hs : List HeadV) (files : List File) (faults : List Fault) (fault : Fault) (old new : List ℕ)
     → AreReports hs files faults old → IsReportAdded hs files fault old new

@@ -6,9 +6,9 @@ use Rattle.std.proofs.KnownBytes.{Keeps-refl}
 use Rattle.planus_schema.specs.declared.schema.Schema.{Schema}
 use Rattle.planus_dump.specs.declared.schemas.Schema.{Schema as Dumped}
 use Rattle.planus_inspect.specs.Shown.{Shows}
-use Rattle.planus_cli.specs.declared.streams.RunError.{RunError}
+use Rattle.planus_cli.specs.declared.streams.CallError.{CallError}
 use Rattle.planus_cli.specs.declared.view.Viewing.{Viewing}
-use Rattle.planus_cli.specs.Outcomes.{line_of}
+use Rattle.planus_cli.specs.SchemaTexts.{line_of}
 use Rattle.planus_cli.specs.Viewing.{EndsEarly}
 use Rattle.planus_cli.specs.Buffers.{Look, EndsSized, Views, ViewsAdvised, FailsAdvised, ViewsBytes, FailsViews, FailsBytes, look_by}
 
@@ -23,24 +23,24 @@ pub ended_early : (look : Look) (bytes : List ℕ) (worst : ℕ) (before unsaid 
 ended_early look [] worst before unsaid said some early told = absurd (some refl)
 ended_early look (b ∷ bs) worst before unsaid said some early told = (refl, early, Keeps-refl before, told)
 
-pub held : (look : Look) (bytes : List ℕ) (prefixed way : Bool) (r : Result ℕ RunError) (before after unsaid said : Option (List ℕ)) → prefixed ≡ way
+pub held : (look : Look) (bytes : List ℕ) (prefixed way : Bool) (r : Result ℕ CallError) (before after unsaid said : Option (List ℕ)) → prefixed ≡ way
     → IfOk r (λ status. Views way look bytes status before after unsaid said) → IfOk r (λ status. Views prefixed look bytes status before after unsaid said)
 held look bytes prefixed way r before after unsaid said is h =
     subst (λ p. IfOk r (λ status. Views p look bytes status before after unsaid said)) (sym is) h
 
-pub held_failed : (look : Look) (bytes : List ℕ) (prefixed way : Bool) (r : Result ℕ RunError) (before after unsaid said : Option (List ℕ)) → prefixed ≡ way
+pub held_failed : (look : Look) (bytes : List ℕ) (prefixed way : Bool) (r : Result ℕ CallError) (before after unsaid said : Option (List ℕ)) → prefixed ≡ way
     → IfErr r (λ error. FailsViews way look bytes error before after unsaid said) → IfErr r (λ error. FailsViews prefixed look bytes error before after unsaid said)
 held_failed look bytes prefixed way r before after unsaid said is h =
     subst (λ p. IfErr r (λ error. FailsViews p look bytes error before after unsaid said)) (sym is) h
 
-pub viewed : (schema : Schema) (how : Viewing) (name bytes : List ℕ) (dumped : Dumped) (r : Result ℕ RunError) (before after unsaid said : Option (List ℕ))
+pub viewed : (schema : Schema) (how : Viewing) (name bytes : List ℕ) (dumped : Dumped) (r : Result ℕ CallError) (before after unsaid said : Option (List ℕ))
     → Shows schema how.root dumped
     → IfOk r (λ status. ViewsAdvised how.size_prefixed (look_by schema dumped how.limits name) bytes status before after unsaid said)
     → IfOk r (λ status. ViewsBytes schema how name bytes status before after unsaid said)
 viewed schema how name bytes dumped (Ok status) before after unsaid said shows h = record { dumped = dumped; shows = shows; views = h }
 viewed schema how name bytes dumped (Err error) before after unsaid said shows h = tt
 
-pub failed : (schema : Schema) (how : Viewing) (name bytes : List ℕ) (dumped : Dumped) (r : Result ℕ RunError) (before after unsaid said : Option (List ℕ))
+pub failed : (schema : Schema) (how : Viewing) (name bytes : List ℕ) (dumped : Dumped) (r : Result ℕ CallError) (before after unsaid said : Option (List ℕ))
     → Shows schema how.root dumped
     → IfErr r (λ error. FailsAdvised how.size_prefixed (look_by schema dumped how.limits name) bytes error before after unsaid said)
     → IfErr r (λ error. FailsBytes schema how name bytes error before after unsaid said)

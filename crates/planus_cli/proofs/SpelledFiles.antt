@@ -11,7 +11,7 @@ use Rattle.planus_resolve.specs.declared.fault.ResolveError.{ResolveError}
 use Rattle.planus_resolve.specs.declared.fault.ResolveError.TheVariants.{Faults}
 use Rattle.planus_resolve.specs.Faults.{AreWithin}
 use Rattle.planus_cli.specs.declared.check.File.{File}
-use Rattle.planus_cli.specs.Outcomes.{HasTokens, IsSpelled}
+use Rattle.planus_cli.specs.SchemaTexts.{HasTokens, IsSpelled}
 use Rattle.planus_cli.specs.Checks.{AreSpelled}
 use Rattle.planus_cli.specs.Files.{AreRead, IsTextOf}
 use Rattle.planus_cli.specs.Loading.{IsSource}

@@ -20,11 +20,11 @@ use Rattle.planus_cli.specs.declared.view.Viewing.{Viewing}
 use Rattle.planus_cli.specs.declared.viewing.Limits.{Limits}
 use Rattle.planus_cli.specs.Shown.{shown}
 use Rattle.planus_cli.specs.Arguments.{WordsV, number_of}
-use Rattle.planus_cli.specs.Outcomes.{line_of}
+use Rattle.planus_cli.specs.SchemaTexts.{line_of}
 use Rattle.planus_cli.specs.Viewing.{WritesView, FailsViewing, SplitsSized, EndsEarly}
 use Rattle.planus_cli.specs.Viewing.{end_text, is_clean, is_cut}
-use Rattle.planus_cli.specs.declared.streams.RunError.{RunError}
-use Rattle.planus_cli.specs.declared.streams.RunError.TheVariants.{OutOfMemory}
+use Rattle.planus_cli.specs.declared.streams.CallError.{CallError}
+use Rattle.planus_cli.specs.declared.streams.CallError.TheVariants.{OutOfMemory}
 use Rattle.planus_dump.specs.Writing.{WritesBeginning}
 use Rattle.planus_schema.specs.declared.schema.Body.{Body}
 use Rattle.planus_schema.specs.declared.schema.Body.TheVariants as body
@@ -121,7 +121,7 @@ ViewsAlone look bytes status before after unsaid said =
 
 -- A beginning of what is said of the identifier was written; or all of it, and a beginning of the
 -- lines.
-abbrev pub FailsOne : Look → List ℕ → RunError → Option (List ℕ) → Option (List ℕ)
+abbrev pub FailsOne : Look → List ℕ → CallError → Option (List ℕ) → Option (List ℕ)
     → Option (List ℕ) → Option (List ℕ) → Type 0
 FailsOne look bytes error before after unsaid said =
     (Keeps before after × FailsIdentifier look.identifier look.name bytes unsaid said)
@@ -200,7 +200,7 @@ pub record ViewsNext (look : Look) (header buffer : List ℕ) (one : One)
       unsaid said
 
 -- A beginning of what comes before the buffer was written; or all of it, and viewing failed.
-abbrev pub FailsNext : Look → List ℕ → List ℕ → RunError → Option (List ℕ) → Option (List ℕ)
+abbrev pub FailsNext : Look → List ℕ → List ℕ → CallError → Option (List ℕ) → Option (List ℕ)
     → Option (List ℕ) → Option (List ℕ) → Type 0
 FailsNext look header buffer error before after unsaid said =
     (WritesBeginning (lead_of (limits_of look) header).text before after × Keeps unsaid said)
@@ -245,7 +245,7 @@ ViewsSized look number at (buffer ∷ buffers) bytes worst status before after u
     (max worst one.status) status written after told said))
 
 -- Viewing the next buffer failed, or saying that the bytes end before it does.
-abbrev pub FailsThere : Look → ℕ → ℕ → List ℕ → RunError → Option (List ℕ) → Option (List ℕ)
+abbrev pub FailsThere : Look → ℕ → ℕ → List ℕ → CallError → Option (List ℕ) → Option (List ℕ)
     → Option (List ℕ) → Option (List ℕ) → Type 0
 FailsThere look number at bytes error before after unsaid said =
     ((buffer : List ℕ) × (rest : List ℕ) × SplitsSized bytes buffer rest
@@ -254,7 +254,7 @@ FailsThere look number at bytes error before after unsaid said =
     (line_of [] look.name (codes " ends before a buffer does")) unsaid said)
 
 -- These buffers, each after its size, were viewed in order, and the next failed.
-abbrev pub FailsSized : Look → ℕ → ℕ → List (List ℕ) → List ℕ → RunError → Option (List ℕ)
+abbrev pub FailsSized : Look → ℕ → ℕ → List (List ℕ) → List ℕ → CallError → Option (List ℕ)
     → Option (List ℕ) → Option (List ℕ) → Option (List ℕ) → Type 0
 FailsSized look number at [] bytes error before after unsaid said =
     FailsThere look number at bytes error before after unsaid said
@@ -264,7 +264,7 @@ FailsSized look number at (buffer ∷ buffers) bytes error before after unsaid s
     (at + (4 + length buffer)) buffers rest error written after told said)
 
 -- One buffer failed to be viewed, or one of several.
-abbrev pub FailsViews : Bool → Look → List ℕ → RunError → Option (List ℕ) → Option (List ℕ)
+abbrev pub FailsViews : Bool → Look → List ℕ → CallError → Option (List ℕ) → Option (List ℕ)
     → Option (List ℕ) → Option (List ℕ) → Type 0
 FailsViews false look bytes error before after unsaid said =
     FailsOne look bytes error before after unsaid said
@@ -338,7 +338,7 @@ ViewsAdvised prefixed look bytes status before after unsaid said =
     × Advises look prefixed bytes told said
 
 -- Viewing failed, or saying the advice after it.
-abbrev pub FailsAdvised : Bool → Look → List ℕ → RunError → Option (List ℕ) → Option (List ℕ)
+abbrev pub FailsAdvised : Bool → Look → List ℕ → CallError → Option (List ℕ) → Option (List ℕ)
     → Option (List ℕ) → Option (List ℕ) → Type 0
 FailsAdvised prefixed look bytes error before after unsaid said =
     FailsViews prefixed look bytes error before after unsaid said
@@ -367,7 +367,7 @@ pub record ViewsBytes (schema : Schema) (how : Viewing) (name bytes : List ℕ) 
       before after unsaid said
 
 -- The buffers of a file failed to be viewed by a schema.
-pub record FailsFile (schema : Schema) (how : Viewing) (name bytes : List ℕ) (error : RunError)
+pub record FailsFile (schema : Schema) (how : Viewing) (name bytes : List ℕ) (error : CallError)
     (before after unsaid said : Option (List ℕ)) : Type 0 where
   pub dumped : Dumped
   pub shows : Shows schema how.root dumped
@@ -375,7 +375,7 @@ pub record FailsFile (schema : Schema) (how : Viewing) (name bytes : List ℕ) (
       before after unsaid said
 
 -- Memory was refused before anything was written, or the buffers failed to be viewed.
-abbrev pub FailsBytes : Schema → Viewing → List ℕ → List ℕ → RunError → Option (List ℕ)
+abbrev pub FailsBytes : Schema → Viewing → List ℕ → List ℕ → CallError → Option (List ℕ)
     → Option (List ℕ) → Option (List ℕ) → Option (List ℕ) → Type 0
 FailsBytes schema how name bytes error before after unsaid said =
     ((error ≡ OutOfMemory) × Keeps before after × Keeps unsaid said)
@@ -407,7 +407,7 @@ ViewsBy schema words name bytes status before after unsaid said =
     ViewsRoot (root_of schema words.root) schema words name bytes status before after unsaid said
 
 -- The buffers failed to be viewed with this root, or a beginning was said of that there is none.
-abbrev pub FailsRoot : Option ℕ → Schema → WordsV → List ℕ → List ℕ → RunError
+abbrev pub FailsRoot : Option ℕ → Schema → WordsV → List ℕ → List ℕ → CallError
     → Option (List ℕ) → Option (List ℕ) → Option (List ℕ) → Option (List ℕ) → Type 0
 FailsRoot (Some root) schema words name bytes error before after unsaid said =
     FailsBytes schema (viewing_of words root) name bytes error before after unsaid said
@@ -415,7 +415,7 @@ FailsRoot None schema words name bytes error before after unsaid said =
     Keeps before after × WritesBeginning (no_root_text words.root) unsaid said
 
 -- what a `view` that fails has done with a schema and the bytes of a file, as these words say
-abbrev pub FailsBy : Schema → WordsV → List ℕ → List ℕ → RunError → Option (List ℕ)
+abbrev pub FailsBy : Schema → WordsV → List ℕ → List ℕ → CallError → Option (List ℕ)
     → Option (List ℕ) → Option (List ℕ) → Option (List ℕ) → Type 0
 FailsBy schema words name bytes error before after unsaid said =
     FailsRoot (root_of schema words.root) schema words name bytes error before after unsaid said

@@ -13,10 +13,10 @@ use Rattle.planus_syntax.specs.Values.{DeclarationV, declarations_of}
 use Rattle.planus_syntax.specs.declared.value.Declaration.{Declaration}
 use Rattle.planus_resolve.specs.Names.{HeadV, heads_of}
 use Rattle.planus_resolve.specs.Faults.{AreInOrder, faults_found}
-use Rattle.planus_cli.specs.declared.streams.RunError.{RunError}
-use Rattle.planus_cli.specs.declared.streams.RunError.TheVariants.{OutOfMemory, Read, Write}
-use Rattle.planus_cli.specs.declared.streams.RunError.TheVariants.{BadSchema}
-use Rattle.planus_cli.specs.Outcomes.{IsPlaceAt, IsSpelled}
+use Rattle.planus_cli.specs.declared.streams.CallError.{CallError}
+use Rattle.planus_cli.specs.declared.streams.CallError.TheVariants.{OutOfMemory, Read, Write}
+use Rattle.planus_cli.specs.declared.streams.CallError.TheVariants.{BadSchema}
+use Rattle.planus_cli.specs.SchemaTexts.{IsPlaceAt, IsSpelled}
 use Rattle.planus_resolve.specs.Schemas.{Means, AreFaults}
 use Rattle.planus_resolve.specs.Sound.{IsSound}
 use Rattle.planus_resolve.specs.declared.fault.Fault.{Fault}
@@ -96,7 +96,7 @@ ResolvesFiles files declarations None before after = (faults : List Fault)
 
 -- Memory was refused before anything was written; or writing failed, and a beginning of the reports
 -- was written.
-abbrev pub FailsResolving : List File → List (Vec Declaration) → RunError → Option (List ℕ)
+abbrev pub FailsResolving : List File → List (Vec Declaration) → CallError → Option (List ℕ)
     → Option (List ℕ) → Type 0
 FailsResolving files declarations OutOfMemory before after = Keeps before after
 FailsResolving files declarations Read before after = ⊥

@@ -5,7 +5,7 @@ use Rattle.std.specs.List.{list_any}
 use Rattle.std.specs.Str.{bytes_eq}
 use Rattle.std.specs.String.{string_bytes}
 use Rattle.planus_cli.specs.declared.check.File.{File}
-use Rattle.planus_cli.specs.Outcomes.{greatest_text}
+use Rattle.planus_cli.specs.SchemaTexts.{greatest_text}
 use Rattle.planus_cli.specs.declared.file_error.FileError.{FileError}
 use Rattle.planus_cli.specs.declared.file_error.FileError.TheVariants as error
 

@@ -10,7 +10,7 @@ use Rattle.planus_syntax.specs.declared.value.Declaration.{Declaration}
 use Rattle.planus_cli.specs.declared.check.File.{File}
 use Rattle.planus_cli.specs.Disks.{Disk, after_name}
 use Rattle.planus_cli.specs.declared.file_error.FileError.{FileError}
-use Rattle.planus_cli.specs.Outcomes.{Reports, line_of}
+use Rattle.planus_cli.specs.SchemaTexts.{Reports, line_of}
 use Rattle.planus_cli.specs.Checks.{AreSpelled}
 
 -- the text of a schema: its file's bytes after a byte order mark

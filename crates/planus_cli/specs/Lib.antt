@@ -3,7 +3,7 @@ pub mod Completions
 pub mod Said
 pub mod Shown
 pub mod Reports
-pub mod Outcomes
+pub mod SchemaTexts
 pub mod FaultTexts
 pub mod Checks
 pub mod Disks

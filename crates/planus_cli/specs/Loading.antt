@@ -16,7 +16,7 @@ use Rattle.planus_cli.specs.declared.sources.Sources.{Sources}
 use Rattle.planus_cli.specs.Disks.{Disk}
 use Rattle.planus_cli.specs.Files.{IsTextOf, FailsReading}
 use Rattle.planus_cli.specs.Including.{IsFirstThere, tried, path_of}
-use Rattle.planus_cli.specs.Outcomes.{IsSpelled, ReportsAt}
+use Rattle.planus_cli.specs.SchemaTexts.{IsSpelled, ReportsAt}
 
 -- A file has this name, the text of that name, and what the text spells.
 pub record IsSource (Holds : List ℕ → List ℕ → Type 0) (name : List ℕ) (source : Source)

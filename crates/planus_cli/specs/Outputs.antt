@@ -6,10 +6,10 @@ use Rattle.std.specs.declared.io.Error.{Error}
 use Rattle.std.specs.declared.io.ErrorKind.{ErrorKind}
 use Rattle.std.specs.declared.io.ErrorKind.TheVariants.{BrokenPipe}
 use Rattle.planus_dump.specs.Writing.{WritesBeginning}
-use Rattle.planus_cli.specs.declared.streams.RunError.{RunError}
-use Rattle.planus_cli.specs.declared.streams.RunError.TheVariants.{OutOfMemory, Read, Write}
-use Rattle.planus_cli.specs.declared.streams.RunError.TheVariants.{BadSchema}
-use Rattle.planus_cli.specs.Outcomes.{reason_of}
+use Rattle.planus_cli.specs.declared.streams.CallError.{CallError}
+use Rattle.planus_cli.specs.declared.streams.CallError.TheVariants.{OutOfMemory, Read, Write}
+use Rattle.planus_cli.specs.declared.streams.CallError.TheVariants.{BadSchema}
+use Rattle.planus_cli.specs.SchemaTexts.{reason_of}
 
 -- what reads from a pipe is gone
 abbrev pub is_broken : ErrorKind → Bool
@@ -22,7 +22,7 @@ breaks (Ok value) = false
 breaks (Err error) = is_broken (error_kind error)
 
 -- Writing failed, and what reads the output is gone.
-abbrev pub ends_quietly : RunError → Bool → Bool
+abbrev pub ends_quietly : CallError → Bool → Bool
 ends_quietly OutOfMemory closed = false
 ends_quietly Read closed = false
 ends_quietly Write closed = closed
@@ -30,12 +30,12 @@ ends_quietly BadSchema closed = false
 
 -- The status is 0 and nothing is said, or it is 2 and the reason is said, as far as that can be
 -- written.
-abbrev pub EndsBy : Bool → RunError → ℕ → Option (List ℕ) → Option (List ℕ) → Type 0
+abbrev pub EndsBy : Bool → CallError → ℕ → Option (List ℕ) → Option (List ℕ) → Type 0
 EndsBy true error status unsaid said = (status ≡ 0) × Keeps unsaid said
 EndsBy false error status unsaid said =
     (status ≡ 2) × WritesBeginning (reason_of error) unsaid said
 
 -- how the program ends where a call fails
-abbrev pub Ends : RunError → Bool → ℕ → Option (List ℕ) → Option (List ℕ) → Type 0
+abbrev pub Ends : CallError → Bool → ℕ → Option (List ℕ) → Option (List ℕ) → Type 0
 Ends error closed status unsaid said =
     EndsBy (ends_quietly error closed) error status unsaid said

@@ -19,7 +19,7 @@ use Rattle.planus_cli.specs.Including.{file_named}
 use Rattle.planus_cli.specs.Loading.{Places}
 use Rattle.planus_cli.specs.Sources.{MeansAll}
 use Rattle.planus_cli.specs.declared.file_error.FileError.{FileError}
-use Rattle.planus_cli.specs.Outcomes.{line_of}
+use Rattle.planus_cli.specs.SchemaTexts.{line_of}
 
 abbrev pub is_small_letter : ℕ → Bool
 is_small_letter b = is_in_range 97 122 b

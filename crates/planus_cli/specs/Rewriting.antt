@@ -1,14 +1,14 @@
 -- What `format` writes of a text.
 use Rattle.std.specs.Prelude.{◌≡◌, ℕ, Bool, true, false, ◌⊎◌, List, [], Option, codes}
 use Rattle.std.specs.Io.KnownBytes.{Appends, Keeps}
-use Rattle.planus_cli.specs.declared.outcome.Outcome.{Outcome}
-use Rattle.planus_cli.specs.declared.outcome.Outcome.TheVariants.{Formatted, Faulty}
+use Rattle.planus_cli.specs.declared.formatted.Formatted.{Formatted}
+use Rattle.planus_cli.specs.declared.formatted.Formatted.TheVariants as formatted
 use Rattle.std.specs.Str.{bytes_eq}
 use Rattle.planus_syntax.specs.Spelled.{after_order_mark}
 use Rattle.planus_cli.specs.Arguments.{WordsV}
 use Rattle.planus_cli.specs.Disks.{Disk}
 use Rattle.planus_cli.specs.Files.{IsTextOf, PutsFile, SaysUnread}
-use Rattle.planus_cli.specs.Outcomes.{Formats, IsOutcome, Reports, line_of}
+use Rattle.planus_cli.specs.SchemaTexts.{Formats, IsFormatted, Reports, line_of}
 
 -- The canonical text was written.
 pub record PrintsText (text : List ℕ) (before after unsaid said : Option (List ℕ)) : Type 0 where
@@ -32,16 +32,16 @@ FormatsText name text status before after unsaid said =
     ⊎ ((status ≡ 1) × ReportsText name text before after unsaid said)
 
 -- It was written in place of its file, or it was said why not.
-abbrev pub Replaces : Disk → List ℕ → Outcome → ℕ → Option (List ℕ) → Option (List ℕ) → Type 0
-Replaces disk name (Formatted out) status unsaid said =
+abbrev pub Replaces : Disk → List ℕ → Formatted → ℕ → Option (List ℕ) → Option (List ℕ) → Type 0
+Replaces disk name (formatted.Text out) status unsaid said =
     PutsFile disk name out.items status unsaid said
-Replaces disk name (Faulty report) status unsaid said =
+Replaces disk name (formatted.Report report) status unsaid said =
     (status ≡ 1) × Appends unsaid said report.items
 
 -- The canonical text of a text was written in place of its file, or it was said why not.
 abbrev pub Rewrites : Disk → List ℕ → List ℕ → ℕ → Option (List ℕ) → Option (List ℕ) → Type 0
-Rewrites disk name text status unsaid said = (what : Outcome)
-    × IsOutcome name text what × Replaces disk name what status unsaid said
+Rewrites disk name text status unsaid said = (what : Formatted)
+    × IsFormatted name text what × Replaces disk name what status unsaid said
 
 abbrev pub no_write : List ℕ
 no_write = codes "--write needs a file, and - is standard input"

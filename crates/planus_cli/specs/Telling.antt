@@ -12,7 +12,7 @@ use Rattle.planus_cli.specs.declared.spots.Spot.{Spot}
 use Rattle.planus_cli.specs.Changes.{SayingV, before_text, message_of, saying_of}
 use Rattle.planus_cli.specs.Checks.{Joins}
 use Rattle.planus_cli.specs.Json.{place_json, text_json, text_or_null}
-use Rattle.planus_cli.specs.Outcomes.{IsPlaceAt, ReportsAt}
+use Rattle.planus_cli.specs.SchemaTexts.{IsPlaceAt, ReportsAt}
 use Rattle.planus_cli.specs.Parts.{old_word, new_word, subject, is_needed}
 use Rattle.planus_cli.specs.Parts.{declaration_told, part_told}
 use Rattle.planus_cli.specs.Spots.{spot_of_word}

@@ -4,9 +4,9 @@ use Rattle.std.specs.Prelude.{codes, Option, take, length, ◌<◌, ◌≤◌, �
 use Rattle.std.specs.Int.{from_le_bytes, w32}
 use Rattle.std.specs.Io.KnownBytes.{Appends, Keeps}
 use Rattle.planus_dump.specs.Schemas.{is_good}
-use Rattle.planus_cli.specs.declared.streams.RunError.{RunError}
-use Rattle.planus_cli.specs.declared.streams.RunError.TheVariants.{OutOfMemory, Read, Write}
-use Rattle.planus_cli.specs.declared.streams.RunError.TheVariants.{BadSchema}
+use Rattle.planus_cli.specs.declared.streams.CallError.{CallError}
+use Rattle.planus_cli.specs.declared.streams.CallError.TheVariants.{OutOfMemory, Read, Write}
+use Rattle.planus_cli.specs.declared.streams.CallError.TheVariants.{BadSchema}
 use Rattle.planus_dump.specs.Dumped.{events_of}
 use Rattle.planus_dump.specs.Views.{Viewed, IsTold, lines_text}
 use Rattle.planus_dump.specs.Writing.{WritesBeginning}
@@ -62,7 +62,7 @@ pub record BeginsView (schema : Schema) (bytes : List ℕ) (most size : ℕ)
 
 -- Memory was refused or writing failed, after a beginning of the lines; or the schema is bad, and
 -- nothing was written.
-abbrev pub FailsViewing : Schema → List ℕ → ℕ → ℕ → RunError → Option (List ℕ) → Option (List ℕ)
+abbrev pub FailsViewing : Schema → List ℕ → ℕ → ℕ → CallError → Option (List ℕ) → Option (List ℕ)
     → Type 0
 FailsViewing schema bytes most size OutOfMemory before after =
     BeginsView schema bytes most size before after
@@ -72,10 +72,10 @@ FailsViewing schema bytes most size Write before after =
 FailsViewing schema bytes most size BadSchema before after =
     (is_good schema ≡ false) × Keeps before after
 
-abbrev pub run_error : ViewError → RunError
-run_error errors.OutOfMemory = OutOfMemory
-run_error errors.BadSchema = BadSchema
-run_error errors.Write = Write
+abbrev pub call_error : ViewError → CallError
+call_error errors.OutOfMemory = OutOfMemory
+call_error errors.BadSchema = BadSchema
+call_error errors.Write = Write
 
 -- a buffer after its size, a number of four bytes, and what follows it
 pub record SplitsSized (bytes buffer rest : List ℕ) : Type 0 where

@@ -4,12 +4,12 @@ ghost use Rattle.std.specs.Prelude.{◌≡◌, ◌<◌, length, map, IfOk, IfErr
 ghost use Rattle.std.specs.List.{All};
 ghost use Rattle.planus_resolve.specs.Names.{head_of};
 ghost use Rattle.planus_cli.specs.Checks as spec;
-ghost use Rattle.planus_cli.specs.Outcomes.{HasTokens};
+ghost use Rattle.planus_cli.specs.SchemaTexts.{HasTokens};
 
 use crate::fault_texts::message_text;
 use crate::placed::place_of;
 use crate::report::report;
-use crate::streams::{RunError, write_out};
+use crate::streams::{CallError, write_out};
 use planus_resolve::{Fault, Head, ResolveError, Schema, heads_of, resolve};
 use planus_syntax::Declaration;
 use std::alloc::{AllocError, Global};
@@ -106,7 +106,7 @@ pub fn resolve_or_report<X: Write>(
     files: &[File],
     declarations: &[Vec<Declaration>],
     errors: &mut X,
-) -> Result<Option<Schema>, RunError>
+) -> Result<Option<Schema>, CallError>
     requires { spec.AreSpelled files.now declarations.now }
     ensures resolved { IfOk result (λ found. spec.ResolvesFiles files.now declarations.now found
         (X.contents errors.old) (X.contents errors.new)) }
@@ -115,7 +115,7 @@ pub fn resolve_or_report<X: Write>(
 {
     match resolve(alloc, declarations) {
         Ok(schema) => Ok(Some(schema)),
-        Err(ResolveError::OutOfMemory) => Err(RunError::OutOfMemory),
+        Err(ResolveError::OutOfMemory) => Err(CallError::OutOfMemory),
         Err(ResolveError::Faults(faults)) => {
             let heads = heads_of(alloc, declarations)?;
             let out = reports(alloc, &heads, files, &faults)?;

@@ -14,7 +14,7 @@ use crate::include::{file_in, last_part};
 use crate::meaning::Meaning;
 use crate::said::{CLEAN, FAILED, FAULTY};
 use crate::sources::meaning_at;
-use crate::streams::{RunError, write_out};
+use crate::streams::{CallError, write_out};
 use crate::told::told;
 use planus_conform::{Break, Rename, Way, conforms, notes_of};
 use std::alloc::{AllocError, Global};
@@ -26,7 +26,7 @@ fn write_told<W: Write, X: Write>(
     out: &[u8],
     writer: &mut W,
     errors: &mut X,
-) -> Result<(), RunError>
+) -> Result<(), CallError>
     ensures { OnOk result (spec.AreWritten json out.now (W.contents writer.old)
         (W.contents writer.new) (X.contents errors.old) (X.contents errors.new)) }
 {
@@ -53,7 +53,7 @@ fn tell<W: Write, X: Write>(
     all: &[Break],
     writer: &mut W,
     errors: &mut X,
-) -> Result<(), RunError>
+) -> Result<(), CallError>
     requires old { AreSpelled old.now.files.items old.now.declarations.items }
     requires new { AreSpelled new.now.files.items new.now.declarations.items }
     ensures { OnOk result (spec.TellsAll json renames.now old.now new.now all.now
@@ -77,7 +77,7 @@ fn compare<W: Write, X: Write>(
     new: &Meaning,
     writer: &mut W,
     errors: &mut X,
-) -> Result<u8, RunError>
+) -> Result<u8, CallError>
     requires old { AreSpelled old.now.files.items old.now.declarations.items }
     requires new { AreSpelled new.now.files.items new.now.declarations.items }
     ensures { IfOk result (λ status. Compares json way renames.now old.now new.now status
@@ -130,7 +130,7 @@ fn conform_to<F: Files, W: Write, X: Write>(
     word: &str,
     writer: &mut W,
     errors: &mut X,
-) -> Result<u8, RunError>
+) -> Result<u8, CallError>
     requires { AreSpelled old.now.files.items old.now.declarations.items }
     ensures { IfOk result (λ status. spec.ConformsTo
         (places_of (F.disk files.now) words.now.folders.items) (words_of words.now) old.now word.now
@@ -156,7 +156,7 @@ fn conform_pair<F: Files, W: Write, X: Write>(
     new: &str,
     writer: &mut W,
     errors: &mut X,
-) -> Result<u8, RunError>
+) -> Result<u8, CallError>
     ensures { IfOk result (λ status. spec.ConformsPair
         (places_of (F.disk files.now) words.now.folders.items) (words_of words.now) old.now new.now
         status (W.contents writer.old) (W.contents writer.new)
@@ -178,7 +178,7 @@ fn conform_against<F: Files, W: Write, X: Write>(
     word: &str,
     writer: &mut W,
     errors: &mut X,
-) -> Result<u8, RunError>
+) -> Result<u8, CallError>
     ensures { IfOk result (λ status. spec.ConformsAgainst
         (places_of (F.disk files.now) words.now.folders.items) (words_of words.now) folder.now
         word.now status (W.contents writer.old) (W.contents writer.new)
@@ -196,7 +196,7 @@ fn conform_each<F: Files, W: Write, X: Write>(
     folder: &str,
     writer: &mut W,
     errors: &mut X,
-) -> Result<u8, RunError>
+) -> Result<u8, CallError>
     ensures { IfOk result (λ status. RunsFiles (spec.ConformsAgainst
         (places_of (F.disk files.now) words.now.folders.items) (words_of words.now) folder.now)
         (words_of words.now).files 0 status (W.contents writer.old) (W.contents writer.new)
@@ -217,7 +217,7 @@ fn conform_two<F: Files, W: Write, X: Write>(
     words: &Words<'_>,
     writer: &mut W,
     errors: &mut X,
-) -> Result<u8, RunError>
+) -> Result<u8, CallError>
     ensures { IfOk result (λ status. spec.ConformsTwo
         (places_of (F.disk files.now) words.now.folders.items) (words_of words.now)
         (words_of words.now).files status
@@ -238,7 +238,7 @@ pub fn conform<F: Files, W: Write, X: Write>(
     words: &Words<'_>,
     writer: &mut W,
     errors: &mut X,
-) -> Result<u8, RunError>
+) -> Result<u8, CallError>
     ensures { IfOk result (λ status. spec.ConformsFiles
         (places_of (F.disk files.now) words.now.folders.items) (words_of words.now) status
         (W.contents writer.old) (W.contents writer.new)

@@ -11,14 +11,14 @@ use crate::arguments::Words;
 use crate::files::Files;
 use crate::said::{CLEAN, FAILED};
 use crate::sources::schema_at;
-use crate::streams::{RunError, write_out};
+use crate::streams::{CallError, write_out};
 use planus_dot::graph_text;
 use planus_resolve::Schema;
 use std::alloc::Global;
 use std::io::Write;
 
 /// Writes the graph of a schema. Returns the exit status.
-fn draw<W: Write>(alloc: Global, schema: &Schema, writer: &mut W) -> Result<u8, RunError>
+fn draw<W: Write>(alloc: Global, schema: &Schema, writer: &mut W) -> Result<u8, CallError>
     ensures { IfOk result (λ status. (status ≡ 0)
         × Appends (W.contents writer.old) (W.contents writer.new) (spec.graph_text schema.now)) }
 {
@@ -35,7 +35,7 @@ fn draw_named<F: Files, W: Write, X: Write>(
     word: &str,
     writer: &mut W,
     errors: &mut X,
-) -> Result<u8, RunError>
+) -> Result<u8, CallError>
     ensures { IfOk result (λ status. DrawsNamed (places_of (F.disk files.now) folders.now) word.now
         status (W.contents writer.old) (W.contents writer.new)
         (X.contents errors.old) (X.contents errors.new)) }
@@ -54,7 +54,7 @@ pub fn draw_graph<F: Files, W: Write, X: Write>(
     words: &Words<'_>,
     writer: &mut W,
     errors: &mut X,
-) -> Result<u8, RunError>
+) -> Result<u8, CallError>
     ensures { IfOk result (λ status. DrawsFiles
         (places_of (F.disk files.now) words.now.folders.items) (words_of words.now).files status
         (W.contents writer.old) (W.contents writer.new)

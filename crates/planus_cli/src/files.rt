@@ -3,12 +3,12 @@
 ghost use Rattle.std.specs.Prelude.{◌≤◌, ◌<◌, length, IfOk, IfErr, OnOk};
 ghost use Rattle.planus_cli.specs.Disks.{Disk};
 ghost use Rattle.planus_cli.specs.Files.{PutsFile};
-ghost use Rattle.planus_cli.specs.Outcomes.{greatest_text};
+ghost use Rattle.planus_cli.specs.SchemaTexts.{greatest_text};
 
 use crate::check::File;
 use crate::file_error::FileError;
 use crate::said::{CLEAN, fail};
-use crate::streams::{RunError, read_all};
+use crate::streams::{CallError, read_all};
 use std::alloc::Global;
 use std::io::{Input, Write};
 use std::{fs, io};
@@ -46,7 +46,7 @@ pub(crate) fn put_file<F: Files, X: Write>(
     name: &str,
     bytes: &[u8],
     errors: &mut X,
-) -> Result<u8, RunError>
+) -> Result<u8, CallError>
     ensures { IfOk result (λ status. PutsFile (F.disk files.now) name.now bytes.now status
         (X.contents errors.old) (X.contents errors.new)) }
 {

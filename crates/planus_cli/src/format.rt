@@ -8,11 +8,11 @@ ghost use Rattle.planus_cli.specs.Rewriting.{ComparesBytes, ComparesFile};
 
 use crate::arguments::Words;
 use crate::files::{Files, put_file};
-use crate::outcome::{Outcome, Printed};
+use crate::formatted::{Formatted, Printed};
 use crate::said::{CLEAN, FAILED, FAULTY, fail};
 use crate::sources::{bytes_of, text_of};
-use crate::streams::{RunError, say, write_out};
-use crate::texts::{format, outcome_of};
+use crate::streams::{CallError, say, write_out};
+use crate::texts::{format, format_or_report};
 use planus_syntax::after_order_mark;
 use std::alloc::Global;
 use std::io::Write;
@@ -24,16 +24,16 @@ fn rewrite<F: Files, X: Write>(
     name: &str,
     text: &[u8],
     errors: &mut X,
-) -> Result<u8, RunError>
+) -> Result<u8, CallError>
     ensures { IfOk result (λ status. Rewrites (F.disk files.now) name.now text.now
         status (X.contents errors.old) (X.contents errors.new)) }
 {
-    match outcome_of(alloc, name, text)? {
-        Outcome::Faulty(report) => {
+    match format_or_report(alloc, name, text)? {
+        Formatted::Report(report) => {
             write_out(errors, &report)?;
             Ok(FAULTY)
         }
-        Outcome::Formatted(out) => put_file(files, alloc, name, &out, errors),
+        Formatted::Text(out) => put_file(files, alloc, name, &out, errors),
     }
 }
 
@@ -44,7 +44,7 @@ pub fn print_text<W: Write, X: Write>(
     text: &[u8],
     writer: &mut W,
     errors: &mut X,
-) -> Result<u8, RunError>
+) -> Result<u8, CallError>
     ensures { IfOk result (λ status. FormatsText name.now text.now status
         (W.contents writer.old) (W.contents writer.new)
         (X.contents errors.old) (X.contents errors.new)) }
@@ -64,7 +64,7 @@ fn format_text<F: Files, W: Write, X: Write>(
     text: &[u8],
     writer: &mut W,
     errors: &mut X,
-) -> Result<u8, RunError>
+) -> Result<u8, CallError>
     ensures { IfOk result (λ status. FormatsBy (F.disk files.now) (words_of words.now) name.now
         text.now status (W.contents writer.old) (W.contents writer.new)
         (X.contents errors.old) (X.contents errors.new)) }
@@ -85,16 +85,16 @@ fn compare_bytes<X: Write>(
     name: &str,
     bytes: &[u8],
     errors: &mut X,
-) -> Result<u8, RunError>
+) -> Result<u8, CallError>
     ensures { IfOk result (λ status. ComparesBytes name.now bytes.now status
         (X.contents errors.old) (X.contents errors.new)) }
 {
-    match outcome_of(alloc, name, after_order_mark(bytes))? {
-        Outcome::Faulty(report) => {
+    match format_or_report(alloc, name, after_order_mark(bytes))? {
+        Formatted::Report(report) => {
             write_out(errors, &report)?;
             Ok(FAULTY)
         }
-        Outcome::Formatted(out) => {
+        Formatted::Text(out) => {
             if out.as_slice() == bytes {
                 return Ok(CLEAN);
             }
@@ -110,7 +110,7 @@ fn compare_file<F: Files, X: Write>(
     alloc: Global,
     name: &str,
     errors: &mut X,
-) -> Result<u8, RunError>
+) -> Result<u8, CallError>
     ensures { IfOk result (λ status. ComparesFile (F.disk files.now) name.now status
         (X.contents errors.old) (X.contents errors.new)) }
 {
@@ -129,7 +129,7 @@ pub fn format_file<F: Files, W: Write, X: Write>(
     name: &str,
     writer: &mut W,
     errors: &mut X,
-) -> Result<u8, RunError>
+) -> Result<u8, CallError>
     ensures { IfOk result (λ status. FormatsFile (F.disk files.now) (words_of words.now) name.now
         status (W.contents writer.old) (W.contents writer.new)
         (X.contents errors.old) (X.contents errors.new)) }

@@ -1,7 +1,7 @@
 //! A text as declarations, or the report of its first fault.
 
 ghost use Rattle.std.specs.Prelude.{IfOk};
-ghost use Rattle.planus_cli.specs.Outcomes.{IsParsed};
+ghost use Rattle.planus_cli.specs.SchemaTexts.{IsParsed};
 
 use crate::texts::error_report;
 use planus_syntax::{Declaration, parse_text};
@@ -12,7 +12,7 @@ use std::alloc::{AllocError, Global};
 pub enum Parsed {
     Declarations(Vec<Declaration>),
     /// The report of its first fault.
-    Faulty(Vec<u8>),
+    Report(Vec<u8>),
 }
 
 /// Returns the declarations of a text that reports call `name`.
@@ -21,6 +21,6 @@ pub fn parse_or_report(alloc: Global, name: &str, text: &[u8]) -> Result<Parsed,
 {
     match parse_text(alloc, text) {
         Ok(schema) => Ok(Parsed::Declarations(schema.declarations)),
-        Err(error) => Ok(Parsed::Faulty(error_report(alloc, name, text, error)?)),
+        Err(error) => Ok(Parsed::Report(error_report(alloc, name, text, error)?)),
     }
 }

@@ -1,7 +1,7 @@
 //! Places in a schema, and reports of faults there.
 
 ghost use Rattle.std.specs.Prelude.{◌≤◌, length, IfOk};
-ghost use Rattle.planus_cli.specs.Outcomes.{HasTokens, IsPlaceAt, ReportsAt};
+ghost use Rattle.planus_cli.specs.SchemaTexts.{HasTokens, IsPlaceAt, ReportsAt};
 
 use crate::report::report;
 use planus_syntax::place_from_end;

@@ -17,7 +17,7 @@ use crate::output::Output;
 use crate::rattle::print_code;
 use crate::said::{CLEAN, FAILED, say as say_of};
 use crate::sources::check_at;
-use crate::streams::{RunError, reason_of, write_out};
+use crate::streams::{CallError, reason_of, write_out};
 use crate::view::view_file;
 use std::alloc::Global;
 use std::env;
@@ -32,7 +32,7 @@ fn run_file<F: Files, W: Write, X: Write>(
     word: &str,
     writer: &mut W,
     errors: &mut X,
-) -> Result<u8, RunError>
+) -> Result<u8, CallError>
     ensures { IfOk result (λ status. RunsFile (F.disk files.now) format (words_of words.now)
         word.now status (W.contents writer.old) (W.contents writer.new)
         (X.contents errors.old) (X.contents errors.new)) }
@@ -52,7 +52,7 @@ fn run_files<F: Files, W: Write, X: Write>(
     words: &Words<'_>,
     writer: &mut W,
     errors: &mut X,
-) -> Result<u8, RunError>
+) -> Result<u8, CallError>
     ensures { IfOk result (λ status. RunsFiles (RunsFile (F.disk files.now) format
         (words_of words.now)) (words_of words.now).files 0 status
         (W.contents writer.old) (W.contents writer.new)
@@ -72,7 +72,7 @@ fn run_request<F: Files, W: Write, X: Write>(
     request: &Request<'_>,
     writer: &mut W,
     errors: &mut X,
-) -> Result<u8, RunError>
+) -> Result<u8, CallError>
     ensures { IfOk result (λ status. Runs (F.disk files.now) (spec.asked request.now) status
         (W.contents writer.old) (W.contents writer.new)
         (X.contents errors.old) (X.contents errors.new)) }
@@ -101,7 +101,7 @@ pub fn run_words<F: Files, W: Write, X: Write>(
     words: &[String],
     writer: &mut W,
     errors: &mut X,
-) -> Result<u8, RunError>
+) -> Result<u8, CallError>
     ensures { IfOk result (λ status. SaysOrRuns (F.disk files.now)
         (spec.request_of (map string_bytes words.now)) status
         (W.contents writer.old) (W.contents writer.new)
@@ -114,15 +114,15 @@ pub fn run_words<F: Files, W: Write, X: Write>(
     }
 }
 
-fn words_of(rt: &HostRuntime) -> Result<Vec<String>, RunError> {
+fn words_of(rt: &HostRuntime) -> Result<Vec<String>, CallError> {
     let mut words = Vec::new(rt.alloc());
     let Ok(mut arguments) = env::args(rt) else {
-        return Err(RunError::Read);
+        return Err(CallError::Read);
     };
     let _name = arguments.next();
     for word in arguments {
         if words.push(word).is_err() {
-            return Err(RunError::OutOfMemory);
+            return Err(CallError::OutOfMemory);
         }
     }
     Ok(words)
@@ -132,20 +132,20 @@ fn run<W: Write, X: Write>(
     rt: &HostRuntime,
     writer: &mut W,
     errors: &mut X,
-) -> Result<u8, RunError> {
+) -> Result<u8, CallError> {
     let words = words_of(rt)?;
     run_words(&HostFiles { rt }, rt.alloc(), &words, writer, errors)
 }
 
 /// Whether nothing is said of the error, as what reads the output is gone.
-fn ends_quietly(error: RunError, closed: bool) -> bool
+fn ends_quietly(error: CallError, closed: bool) -> bool
     ensures { result ≡ outputs_spec.ends_quietly error closed }
 {
-    matches!(error, RunError::Write) && closed
+    matches!(error, CallError::Write) && closed
 }
 
 /// Says why a call failed, or nothing where what reads the output is gone. Returns the exit status.
-fn end<X: Write>(error: RunError, closed: bool, errors: &mut X) -> u8
+fn end<X: Write>(error: CallError, closed: bool, errors: &mut X) -> u8
     ensures { outputs_spec.Ends error closed result (X.contents errors.old)
         (X.contents errors.new) }
 {

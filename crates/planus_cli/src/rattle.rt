@@ -12,7 +12,7 @@ use crate::files::{Files, put_file};
 use crate::libraries::is_library;
 use crate::said::{CLEAN, FAILED, FAULTY, fail};
 use crate::sources::schema_at;
-use crate::streams::{GREATEST_TEXT, RunError, say};
+use crate::streams::{CallError, GREATEST_TEXT, say};
 use planus_codegen::{PrintError, PrintedFile, print_crate};
 use planus_resolve::Schema;
 use planus_schema::{have_key, is_reserved};
@@ -96,7 +96,7 @@ fn folder_or_report<'a, X: Write>(
     check: bool,
     verified: bool,
     errors: &mut X,
-) -> Result<Option<Folder<'a>>, RunError>
+) -> Result<Option<Folder<'a>>, CallError>
     ensures { IfOk result (λ found. MatchOption found
         (spec.RefusesName (X.contents errors.old) (X.contents errors.new))
         (λ folder. (spec.is_crate_name folder.name.now ≡ true) × (folder.check ≡ check)
@@ -141,7 +141,7 @@ fn tell_other<X: Write>(
     name: &str,
     found: Result<bool, FileError>,
     errors: &mut X,
-) -> Result<u8, RunError>
+) -> Result<u8, CallError>
     ensures { IfOk result (λ status. spec.TellsOther name.now found status
         (X.contents errors.old) (X.contents errors.new)) }
 {
@@ -161,7 +161,7 @@ fn print_bytes<F: Files, X: Write>(
     bytes: &[u8],
     check: bool,
     errors: &mut X,
-) -> Result<u8, RunError>
+) -> Result<u8, CallError>
     ensures { IfOk result (λ status. spec.PrintsBytes (F.disk files.now) name.now bytes.now check
         status
         (X.contents errors.old) (X.contents errors.new)) }
@@ -183,7 +183,7 @@ fn print_file<F: Files, X: Write>(
     folder: Folder<'_>,
     file: &PrintedFile,
     errors: &mut X,
-) -> Result<u8, RunError>
+) -> Result<u8, CallError>
     ensures { IfOk result (λ status. spec.PrintsFile (F.disk files.now)
         folder.entry.path.now folder.entry.check file.now status
         (X.contents errors.old) (X.contents errors.new)) }
@@ -201,7 +201,7 @@ fn print_files<F: Files, X: Write>(
     folder: Folder<'_>,
     printed: &[PrintedFile],
     errors: &mut X,
-) -> Result<u8, RunError>
+) -> Result<u8, CallError>
     ensures { IfOk result (λ status. spec.PrintsAll (F.disk files.now) folder.entry.path.now
         folder.entry.check
         printed.now 0 status (X.contents errors.old) (X.contents errors.new)) }
@@ -222,7 +222,7 @@ fn say_unsupported<X: Write>(
     what: &str,
     name: &[u8],
     errors: &mut X,
-) -> Result<u8, RunError>
+) -> Result<u8, CallError>
     ensures { IfOk result (λ status. status ≡ 1) }
 {
     let name = std::str::from_utf8(name).unwrap_or("");
@@ -247,7 +247,7 @@ fn say_line<X: Write>(
     schema: &Schema,
     name: &str,
     errors: &mut X,
-) -> Result<(), RunError>
+) -> Result<(), CallError>
     ensures { OnOk result (Appends (X.contents errors.old) (X.contents errors.new)
         (spec.crates_line schema.now.declarations.items name.now)) }
 {
@@ -263,7 +263,7 @@ fn print_to<F: Files, X: Write>(
     schema: &Schema,
     folder: Folder<'_>,
     errors: &mut X,
-) -> Result<u8, RunError>
+) -> Result<u8, CallError>
     requires { spec.is_crate_name folder.name.now ≡ true }
     ensures { IfOk result (λ status. status ≡ 0 → spec.PrintsCrate (F.disk files.now)
         folder.entry.path.now folder.entry.name.now folder.entry.check
@@ -277,7 +277,7 @@ fn print_to<F: Files, X: Write>(
             }
             Ok(status)
         }
-        Err(PrintError::OutOfMemory) => Err(RunError::OutOfMemory),
+        Err(PrintError::OutOfMemory) => Err(CallError::OutOfMemory),
         Err(PrintError::Untied) => fail(
             alloc,
             errors,
@@ -297,7 +297,7 @@ fn print_named<F: Files, X: Write>(
     word: &str,
     folder: Folder<'_>,
     errors: &mut X,
-) -> Result<u8, RunError>
+) -> Result<u8, CallError>
     requires { spec.is_crate_name folder.name.now ≡ true }
     ensures { IfOk result (λ status. status ≡ 0 → spec.PrintsNamed
         (places_of (F.disk files.now) folders.now) word.now folder.entry.path.now
@@ -317,7 +317,7 @@ pub fn print_code<F: Files, X: Write>(
     alloc: Global,
     words: &Words<'_>,
     errors: &mut X,
-) -> Result<u8, RunError>
+) -> Result<u8, CallError>
     ensures { IfOk result (λ status. status ≡ 0 → spec.PrintsCode
         (places_of (F.disk files.now) words.now.folders.items) words.now.check
         (not words.now.no_verified) (words_of words.now).files

@@ -1,7 +1,7 @@
 //! Help, version, and messages for wrong calls.
 
 ghost use Rattle.std.specs.Prelude.{◌≡◌, ◌++◌, codes, map, true, false, IfOk};
-ghost use Rattle.planus_cli.specs.Outcomes.{line_of};
+ghost use Rattle.planus_cli.specs.SchemaTexts.{line_of};
 ghost use Rattle.std.specs.Option.{option_map};
 ghost use Rattle.planus_cli.specs.Arguments.{asked};
 ghost use Rattle.planus_cli.specs.Arguments.{unknown_command as unknown_command_asked};
@@ -18,7 +18,7 @@ use crate::arguments::{Choice, Command, Request, Shell, before_equals};
 use crate::completions::script;
 use crate::near::nearest_word;
 use crate::shown::put_shown;
-use crate::streams::{RunError, say as say_line, write_out};
+use crate::streams::{CallError, say as say_line, write_out};
 use std::alloc::{AllocError, Global};
 use std::io::Write;
 
@@ -176,7 +176,7 @@ pub fn fail<X: Write>(
     before: &str,
     name: &str,
     after: &str,
-) -> Result<u8, RunError>
+) -> Result<u8, CallError>
     ensures { IfOk result (λ status. (status ≡ 2) × Appends (X.contents errors.old)
         (X.contents errors.new) (line_of before.now name.now after.now)) }
 {
@@ -481,7 +481,7 @@ pub fn say<W: Write, X: Write>(
     request: &Request<'_>,
     writer: &mut W,
     errors: &mut X,
-) -> Result<Option<u8>, RunError>
+) -> Result<Option<u8>, CallError>
     ensures { IfOk result (λ status. Says (spec.said_of (asked request.now)) status
         (W.contents writer.old) (W.contents writer.new)
         (X.contents errors.old) (X.contents errors.new)) }

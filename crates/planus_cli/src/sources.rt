@@ -4,7 +4,7 @@ ghost use Rattle.std.specs.Prelude.{◌≡◌, ◌<◌, IfOk, IfErr, IfNone, IfS
 ghost use Rattle.std.specs.Prelude.{OnOk, Some, None, map};
 ghost use Rattle.std.specs.Option.{option_map};
 ghost use Rattle.std.specs.String.{string_bytes};
-ghost use Rattle.planus_cli.specs.Outcomes.{HasTokens, IsSpelled};
+ghost use Rattle.planus_cli.specs.SchemaTexts.{HasTokens, IsSpelled};
 ghost use Rattle.planus_cli.specs.Files.{AreRead, EndsWith, IsTextOf};
 ghost use Rattle.planus_cli.specs.Files.{SaysUnread, FailsReading};
 ghost use Rattle.planus_cli.specs.Including as including_spec;
@@ -22,7 +22,7 @@ use crate::meaning::Meaning;
 use crate::parsed::{Parsed, parse_or_report};
 use crate::placed::placed_report;
 use crate::said::{CLEAN, FAILED, FAULTY};
-use crate::streams::{GREATEST_TEXT, RunError, say, write_out};
+use crate::streams::{CallError, GREATEST_TEXT, say, write_out};
 use planus_resolve::{Schema, file_index};
 use planus_syntax::{Declaration, Item, after_order_mark, string_text};
 use std::alloc::{AllocError, Global};
@@ -74,7 +74,7 @@ pub fn bytes_of<F: Files, X: Write>(
     alloc: Global,
     name: &str,
     errors: &mut X,
-) -> Result<Option<Vec<u8>>, RunError>
+) -> Result<Option<Vec<u8>>, CallError>
     ensures bytes { IfOk result (λ found. IfSome found (λ bytes.
         (F.disk files.now).Holds name.now bytes.items)) }
     ensures kept { IfOk result (λ found. IfSome found (λ _.
@@ -88,7 +88,7 @@ pub fn bytes_of<F: Files, X: Write>(
             say(alloc, errors, "", name, " is longer than 16777216 bytes")?;
             Ok(None)
         }
-        Err(FileError::OutOfMemory) => Err(RunError::OutOfMemory),
+        Err(FileError::OutOfMemory) => Err(CallError::OutOfMemory),
         Err(error) => {
             say(alloc, errors, "can't read ", name, error.after_name())?;
             Ok(None)
@@ -103,7 +103,7 @@ pub fn text_of<F: Files, X: Write>(
     alloc: Global,
     name: &str,
     errors: &mut X,
-) -> Result<Option<Vec<u8>>, RunError>
+) -> Result<Option<Vec<u8>>, CallError>
     ensures text { IfOk result (λ found. IfSome found (λ text.
         IsTextOf (F.disk files.now).Holds name.now text.items)) }
     ensures kept { IfOk result (λ found. IfSome found (λ _.
@@ -184,7 +184,7 @@ fn refuse<X: Write>(
     left: usize,
     message: &[u8],
     errors: &mut X,
-) -> Result<u8, RunError>
+) -> Result<u8, CallError>
     requires { HasTokens file.now.text.items }
     ensures told { IfOk result (λ status. (sources : Sources) → spec.Refuses message.now file.now
         left
@@ -202,7 +202,7 @@ fn read_file<F: Files, X: Write>(
     alloc: Global,
     name: &str,
     errors: &mut X,
-) -> Result<Result<Source, u8>, RunError>
+) -> Result<Result<Source, u8>, CallError>
     ensures source { IfOk result (λ read. IfOk read (λ source.
         spec.IsSource (F.disk files.now).Holds name.now source)) }
     ensures failed { IfOk result (λ read. IfErr read (λ status.
@@ -215,7 +215,7 @@ fn read_file<F: Files, X: Write>(
         return Ok(Err(FAILED));
     };
     match parse_or_report(alloc, name, &text)? {
-        Parsed::Faulty(report) => {
+        Parsed::Report(report) => {
             write_out(errors, &report)?;
             Ok(Err(FAULTY))
         }
@@ -237,7 +237,7 @@ fn load<F: Files, X: Write>(
     name: &str,
     sources: &mut Sources,
     errors: &mut X,
-) -> Result<u8, RunError>
+) -> Result<u8, CallError>
     requires { AreRead (F.disk files.now).Holds sources.old.files.items
         sources.old.declarations.items }
     ensures read { OnOk result
@@ -263,7 +263,7 @@ fn load_file<F: Files, X: Write>(
     name: &str,
     sources: &mut Sources,
     errors: &mut X,
-) -> Result<u8, RunError>
+) -> Result<u8, CallError>
     requires { AreRead (F.disk files.now).Holds sources.old.files.items
         sources.old.declarations.items }
     ensures read { OnOk result
@@ -297,7 +297,7 @@ fn load_includes<F: Files, X: Write>(
     source: &Source,
     sources: &mut Sources,
     errors: &mut X,
-) -> Result<u8, RunError>
+) -> Result<u8, CallError>
     requires are { AreRead (F.disk files.now).Holds
         sources.old.files.items sources.old.declarations.items }
     requires is { IsSpelled source.now.file.text.items source.now.declarations.items }
@@ -336,7 +336,7 @@ fn include<F: Files, X: Write>(
     string: &[u8],
     sources: &mut Sources,
     errors: &mut X,
-) -> Result<u8, RunError>
+) -> Result<u8, CallError>
     requires are { AreRead (F.disk files.now).Holds
         sources.old.files.items sources.old.declarations.items }
     requires is { IsSpelled source.now.file.text.items source.now.declarations.items }
@@ -382,7 +382,7 @@ fn meaning_of<F: Files, X: Write>(
     folders: &[&str],
     name: &str,
     errors: &mut X,
-) -> Result<Result<Meaning, u8>, RunError>
+) -> Result<Result<Meaning, u8>, CallError>
     ensures means { IfOk result (λ found. IfOk found (λ meaning.
         HasMeaning (spec.places_of (F.disk files.now) folders.now) name.now meaning
         (X.contents errors.old) (X.contents errors.new))) }
@@ -419,7 +419,7 @@ pub fn schema_of<F: Files, X: Write>(
     folders: &[&str],
     name: &str,
     errors: &mut X,
-) -> Result<Result<Schema, u8>, RunError>
+) -> Result<Result<Schema, u8>, CallError>
     ensures means { IfOk result (λ found. IfOk found (λ schema.
         MeansAll (spec.places_of (F.disk files.now) folders.now) name.now
         (Some schema) (X.contents errors.old) (X.contents errors.new))) }
@@ -447,7 +447,7 @@ pub fn check_file<F: Files, X: Write>(
     folders: &[&str],
     name: &str,
     errors: &mut X,
-) -> Result<u8, RunError>
+) -> Result<u8, CallError>
     ensures { IfOk result (λ status. ChecksFile
         (spec.places_of (F.disk files.now) folders.now) name.now status
         (X.contents errors.old) (X.contents errors.new)) }
@@ -476,7 +476,7 @@ pub fn schema_at<F: Files, X: Write>(
     folders: &[&str],
     word: &str,
     errors: &mut X,
-) -> Result<Result<Schema, u8>, RunError>
+) -> Result<Result<Schema, u8>, CallError>
     ensures means { IfOk result (λ found. IfOk found (λ schema.
         MeansAll (spec.places_of (F.disk files.now) folders.now) (including_spec.file_named
         word.now)
@@ -497,7 +497,7 @@ pub(crate) fn meaning_at<F: Files, X: Write>(
     folders: &[&str],
     word: &str,
     errors: &mut X,
-) -> Result<Result<Meaning, u8>, RunError>
+) -> Result<Result<Meaning, u8>, CallError>
     ensures means { IfOk result (λ found. IfOk found (λ meaning.
         HasMeaning (spec.places_of (F.disk files.now) folders.now) (including_spec.file_named
         word.now) meaning
@@ -520,7 +520,7 @@ pub fn check_at<F: Files, X: Write>(
     folders: &[&str],
     word: &str,
     errors: &mut X,
-) -> Result<u8, RunError>
+) -> Result<u8, CallError>
     ensures { IfOk result (λ status. ChecksFile (spec.places_of (F.disk files.now) folders.now)
         (including_spec.file_named word.now) status (X.contents errors.old)
         (X.contents errors.new)) }

@@ -3,7 +3,7 @@
 ghost use Rattle.std.specs.Prelude.{◌≡◌, ◌+◌, take, IfOk, IfErr, IfSome, OnOk, OnErr};
 ghost use Rattle.std.specs.Io.KnownBytes.{Appends};
 ghost use Rattle.planus_dump.specs.Writing.{WritesBeginning};
-ghost use Rattle.planus_cli.specs.Outcomes as spec;
+ghost use Rattle.planus_cli.specs.SchemaTexts as spec;
 
 use crate::file_error::FileError;
 use crate::shown::put_shown;
@@ -18,7 +18,7 @@ const MOST_READ: u64 = GREATEST_TEXT as u64 + 1;
 
 /// Why a call ends before what it does is done.
 #[derive(Clone, Copy)]
-pub enum RunError {
+pub enum CallError {
     /// Memory was refused.
     OutOfMemory,
     /// A word of the call can't be read.
@@ -29,14 +29,14 @@ pub enum RunError {
     BadSchema,
 }
 
-impl From<AllocError> for RunError {
+impl From<AllocError> for CallError {
     ghost use Rattle.std.specs.Prelude.{◌≡◌};
-    ghost use Rattle.planus_cli.specs.declared.streams.RunError.TheVariants.{OutOfMemory};
+    ghost use Rattle.planus_cli.specs.declared.streams.CallError.TheVariants.{OutOfMemory};
 
     ghost from_gives = { λ _ e. e ≡ OutOfMemory };
 
-    fn from(_error: AllocError) -> RunError {
-        RunError::OutOfMemory
+    fn from(_error: AllocError) -> CallError {
+        CallError::OutOfMemory
     }
 }
 
@@ -53,16 +53,16 @@ pub fn read_all<R: Read>(alloc: Global, reader: &mut R) -> Result<Vec<u8>, FileE
 }
 
 /// Writes all bytes, and flushes. If this fails, what was written is a beginning of them.
-pub fn write_out<W: Write>(writer: &mut W, bytes: &[u8]) -> Result<(), RunError>
+pub fn write_out<W: Write>(writer: &mut W, bytes: &[u8]) -> Result<(), CallError>
     ensures bytes { OnOk result (Appends (W.contents writer.old) (W.contents writer.new)
         bytes.now) }
     ensures begun { OnErr result (WritesBeginning bytes.now (W.contents writer.old)
         (W.contents writer.new)) }
-    ensures error { IfErr result (λ error. error ≡ RunError.Write) }
+    ensures error { IfErr result (λ error. error ≡ CallError.Write) }
 {
     match planus_dump::write_out(writer, bytes) {
         Ok(()) => Ok(()),
-        Err(_) => Err(RunError::Write),
+        Err(_) => Err(CallError::Write),
     }
 }
 
@@ -84,7 +84,7 @@ pub fn say<X: Write>(
     before: &str,
     name: &str,
     after: &str,
-) -> Result<(), RunError>
+) -> Result<(), CallError>
     ensures said { OnOk result (Appends (X.contents errors.old) (X.contents errors.new)
         (spec.line_of before.now name.now after.now)) }
     ensures begun { OnErr result (WritesBeginning (spec.line_of before.now name.now after.now)
@@ -96,13 +96,13 @@ pub fn say<X: Write>(
 }
 
 /// Returns what is written where a call fails.
-pub fn reason_of(error: RunError) -> &'static str
+pub fn reason_of(error: CallError) -> &'static str
     ensures { result.now ≡ spec.reason_of error }
 {
     match error {
-        RunError::OutOfMemory => "planus: out of memory\n",
-        RunError::Read => "planus: a word of the call is no text\n",
-        RunError::Write => "planus: can't write\n",
-        RunError::BadSchema => "planus: the schema isn't sound\n",
+        CallError::OutOfMemory => "planus: out of memory\n",
+        CallError::Read => "planus: a word of the call is no text\n",
+        CallError::Write => "planus: can't write\n",
+        CallError::BadSchema => "planus: the schema isn't sound\n",
     }
 }

@@ -4,14 +4,14 @@ ghost use Rattle.std.specs.Prelude.{◌≡◌, List, IfOk, IfErr, length};
 ghost use Rattle.planus_syntax.specs.Values.{AreWhole, SchemaV, schema_pieces};
 ghost use Rattle.planus_syntax.specs.Comments.{canonical, elements_of};
 ghost use Rattle.planus_syntax.specs.Parsed.{LiesIn};
-ghost use Rattle.planus_cli.specs.Outcomes.{IsOutcome, IsFormatted, ReportsError};
-ghost use Rattle.planus_cli.specs.Outcomes.{Prints, FailsPrinting};
+ghost use Rattle.planus_cli.specs.SchemaTexts.{HasText, IsFormatted, ReportsError};
+ghost use Rattle.planus_cli.specs.SchemaTexts.{Prints, FailsPrinting};
 ghost use Rattle.planus_syntax.specs.Spelled.{Part, AreParts, spelled, tokens_in};
 
+use crate::formatted::{Formatted, Printed};
 use crate::message::{lex_message, parse_message};
-use crate::outcome::{Outcome, Printed};
 use crate::report::report;
-use crate::streams::{RunError, write_out};
+use crate::streams::{CallError, write_out};
 use planus_syntax::{SchemaError, format_text};
 use std::alloc::{AllocError, Global};
 use std::io::Write;
@@ -42,16 +42,16 @@ pub(crate) fn error_report(
 }
 
 /// Returns the canonical text, or the report of the first fault.
-pub fn outcome_of(alloc: Global, name: &str, text: &[u8]) -> Result<Outcome, AllocError>
-    ensures outcome { IfOk result (λ outcome. IsOutcome name.now text.now outcome) }
+pub fn format_or_report(alloc: Global, name: &str, text: &[u8]) -> Result<Formatted, AllocError>
+    ensures formatted { IfOk result (λ formatted. IsFormatted name.now text.now formatted) }
     // A text that spells a schema is formatted.
     ensures only { (schema : SchemaV) (parts : List Part) → AreWhole schema.declarations
         → AreParts parts → text.now ≡ spelled parts → schema_pieces schema ≡ tokens_in parts
-        → IfOk result (λ outcome. IsFormatted (canonical (elements_of parts)) outcome) }
+        → IfOk result (λ formatted. HasText (canonical (elements_of parts)) formatted) }
 {
     match format_text(alloc, text) {
-        Ok(out) => Ok(Outcome::Formatted(out)),
-        Err(error) => Ok(Outcome::Faulty(error_report(alloc, name, text, error)?)),
+        Ok(out) => Ok(Formatted::Text(out)),
+        Err(error) => Ok(Formatted::Report(error_report(alloc, name, text, error)?)),
     }
 }
 
@@ -64,7 +64,7 @@ pub fn format<W: Write, X: Write>(
     text: &[u8],
     writer: &mut W,
     errors: &mut X,
-) -> Result<Printed, RunError>
+) -> Result<Printed, CallError>
     ensures printed { IfOk result (λ printed. Prints name.now text.now printed
         (W.contents writer.old) (W.contents writer.new)
         (X.contents errors.old) (X.contents errors.new)) }
@@ -72,12 +72,12 @@ pub fn format<W: Write, X: Write>(
         (W.contents writer.old) (W.contents writer.new)
         (X.contents errors.old) (X.contents errors.new)) }
 {
-    match outcome_of(alloc, name, text)? {
-        Outcome::Formatted(out) => {
+    match format_or_report(alloc, name, text)? {
+        Formatted::Text(out) => {
             write_out(writer, &out)?;
             Ok(Printed::Text)
         }
-        Outcome::Faulty(report) => {
+        Formatted::Report(report) => {
             write_out(errors, &report)?;
             Ok(Printed::Report)
         }

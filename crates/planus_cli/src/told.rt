@@ -6,7 +6,7 @@ ghost use Rattle.std.specs.Option.{option_map};
 ghost use Rattle.planus_resolve.specs.Faults.{placed_of, placed_from};
 ghost use Rattle.planus_cli.specs.Changes.{saying_view};
 ghost use Rattle.planus_cli.specs.Checks.{AreSpelled};
-ghost use Rattle.planus_cli.specs.Outcomes.{HasTokens};
+ghost use Rattle.planus_cli.specs.SchemaTexts.{HasTokens};
 ghost use Rattle.planus_cli.specs.Spots as spots_spec;
 ghost use Rattle.planus_cli.specs.Telling as spec;
 

@@ -15,7 +15,7 @@ use crate::files::Files;
 use crate::said::{CLEAN, FAILED, FAULTY};
 use crate::shown::put_shown;
 use crate::sources::{bytes_of, schema_at};
-use crate::streams::{RunError, say, write_out};
+use crate::streams::{CallError, say, write_out};
 use crate::viewing::{Limits, end_text, is_clean, is_cut, view_buffer};
 use planus_dump::{End, Seen, view};
 use planus_inspect::dump_schema;
@@ -66,7 +66,7 @@ fn root_of(schema: &Schema, root: Option<&str>) -> Option<usize>
     }
 }
 
-fn say_no_root<X: Write>(alloc: Global, root: Option<&str>, errors: &mut X) -> Result<(), RunError>
+fn say_no_root<X: Write>(alloc: Global, root: Option<&str>, errors: &mut X) -> Result<(), CallError>
     ensures said { OnOk result (Appends (X.contents errors.old) (X.contents errors.new)
         (spec.no_root_text (option_map (λ name. name.now) root.entry))) }
     ensures begun { OnErr result (WritesBeginning
@@ -106,7 +106,7 @@ fn check_identifier<X: Write>(
     name: &str,
     bytes: &[u8],
     errors: &mut X,
-) -> Result<bool, RunError>
+) -> Result<bool, CallError>
     ensures told { IfOk result (λ known. spec.ChecksIdentifier
         (option_map (λ v. v.items) schema.now.statements.identifier) name.now bytes.now known
         (X.contents errors.old) (X.contents errors.new)) }
@@ -175,7 +175,7 @@ fn view_one<W: Write, X: Write>(
     bytes: &[u8],
     writer: &mut W,
     errors: &mut X,
-) -> Result<One, RunError>
+) -> Result<One, CallError>
     ensures views { IfOk result (λ one. spec.ViewsOne (spec.look_of view.now) bytes.now one
         (W.contents writer.old) (W.contents writer.new)
         (X.contents errors.old) (X.contents errors.new)) }
@@ -194,7 +194,7 @@ fn view_alone<W: Write, X: Write>(
     bytes: &[u8],
     writer: &mut W,
     errors: &mut X,
-) -> Result<u8, RunError>
+) -> Result<u8, CallError>
     ensures views { IfOk result (λ status. spec.ViewsAlone (spec.look_of view.now) bytes.now status
         (W.contents writer.old) (W.contents writer.new)
         (X.contents errors.old) (X.contents errors.new)) }
@@ -285,7 +285,7 @@ fn view_next<W: Write, X: Write>(
     bytes: &[u8],
     writer: &mut W,
     errors: &mut X,
-) -> Result<One, RunError>
+) -> Result<One, CallError>
     ensures views { IfOk result (λ one. spec.ViewsNext (spec.look_of view.now)
         (spec.header_text number at)
         bytes.now one (W.contents writer.old) (W.contents writer.new)
@@ -331,7 +331,7 @@ fn view_sized<W: Write, X: Write>(
     bytes: &[u8],
     writer: &mut W,
     errors: &mut X,
-) -> Result<u8, RunError>
+) -> Result<u8, CallError>
     ensures views { IfOk result (λ status. (buffers : List (List ℕ))
         × spec.ViewsSized (spec.look_of view.now) 0 0 buffers bytes.now 0 status
         (W.contents writer.old) (W.contents writer.new)
@@ -373,7 +373,7 @@ fn view_held<W: Write, X: Write>(
     bytes: &[u8],
     writer: &mut W,
     errors: &mut X,
-) -> Result<u8, RunError>
+) -> Result<u8, CallError>
     ensures views { IfOk result (λ status. Views prefixed (spec.look_of view.now) bytes.now status
         (W.contents writer.old) (W.contents writer.new)
         (X.contents errors.old) (X.contents errors.new)) }
@@ -390,7 +390,7 @@ fn view_held<W: Write, X: Write>(
 }
 
 /// Returns whether a table can be read at the root.
-fn reads_root(alloc: Global, schema: &planus_dump::Schema, bytes: &[u8]) -> Result<bool, RunError>
+fn reads_root(alloc: Global, schema: &planus_dump::Schema, bytes: &[u8]) -> Result<bool, CallError>
     ensures { IfOk result (λ reads. spec.ReadsRoot schema.now bytes.now reads) }
 {
     let mut first = Vec::new(alloc);
@@ -400,7 +400,7 @@ fn reads_root(alloc: Global, schema: &planus_dump::Schema, bytes: &[u8]) -> Resu
 
 /// Returns whether bytes begin with a size and a buffer of this size at whose root a table can be
 /// read.
-fn reads_first(alloc: Global, schema: &planus_dump::Schema, bytes: &[u8]) -> Result<bool, RunError>
+fn reads_first(alloc: Global, schema: &planus_dump::Schema, bytes: &[u8]) -> Result<bool, CallError>
     ensures { IfOk result (λ reads. spec.ReadsFirst schema.now bytes.now reads) }
 {
     match split_sized(bytes) {
@@ -426,7 +426,7 @@ fn advise<X: Write>(
     prefixed: bool,
     bytes: &[u8],
     errors: &mut X,
-) -> Result<(), RunError>
+) -> Result<(), CallError>
     ensures said { OnOk result (spec.Advises (spec.look_of view.now) prefixed bytes.now
         (X.contents errors.old) (X.contents errors.new)) }
     ensures failed { OnErr result (spec.FailsAdvising (spec.look_of view.now) prefixed bytes.now
@@ -447,7 +447,7 @@ fn view_advised<W: Write, X: Write>(
     bytes: &[u8],
     writer: &mut W,
     errors: &mut X,
-) -> Result<u8, RunError>
+) -> Result<u8, CallError>
     ensures views { IfOk result (λ status. spec.ViewsAdvised prefixed (spec.look_of view.now)
         bytes.now status
         (W.contents writer.old) (W.contents writer.new)
@@ -483,7 +483,7 @@ pub fn view_bytes<W: Write, X: Write>(
     bytes: &[u8],
     writer: &mut W,
     errors: &mut X,
-) -> Result<u8, RunError>
+) -> Result<u8, CallError>
     ensures views { IfOk result (λ status. spec.ViewsBytes schema.now how name.now bytes.now status
         (W.contents writer.old) (W.contents writer.new)
         (X.contents errors.old) (X.contents errors.new)) }
@@ -511,7 +511,7 @@ pub fn view_by<W: Write, X: Write>(
     bytes: &[u8],
     writer: &mut W,
     errors: &mut X,
-) -> Result<u8, RunError>
+) -> Result<u8, CallError>
     ensures views { IfOk result (λ status. spec.ViewsBy schema.now (words_of words.now) name.now
         bytes.now status (W.contents writer.old) (W.contents writer.new)
         (X.contents errors.old) (X.contents errors.new)) }
@@ -543,7 +543,7 @@ fn view_by_file<F: Files, W: Write, X: Write>(
     name: &str,
     writer: &mut W,
     errors: &mut X,
-) -> Result<u8, RunError>
+) -> Result<u8, CallError>
     ensures { IfOk result (λ status. ViewsFile (F.disk files.now) schema.now (words_of words.now)
         name.now status (W.contents writer.old) (W.contents writer.new)
         (X.contents errors.old) (X.contents errors.new)) }
@@ -563,7 +563,7 @@ fn view_pair<F: Files, W: Write, X: Write>(
     buffer: &str,
     writer: &mut W,
     errors: &mut X,
-) -> Result<u8, RunError>
+) -> Result<u8, CallError>
     ensures { IfOk result (λ status. ViewsPair (F.disk files.now) (words_of words.now)
         schema.now buffer.now status (W.contents writer.old) (W.contents writer.new)
         (X.contents errors.old) (X.contents errors.new)) }
@@ -582,7 +582,7 @@ pub fn view_file<F: Files, W: Write, X: Write>(
     words: &Words<'_>,
     writer: &mut W,
     errors: &mut X,
-) -> Result<u8, RunError>
+) -> Result<u8, CallError>
     ensures { IfOk result (λ status. ViewsFiles (F.disk files.now) (words_of words.now)
         (words_of words.now).files status (W.contents writer.old) (W.contents writer.new)
         (X.contents errors.old) (X.contents errors.new)) }

@@ -3,7 +3,7 @@
 ghost use Rattle.std.specs.Prelude.{◌≡◌, IfOk, IfErr};
 ghost use Rattle.planus_cli.specs.Viewing as spec;
 
-use crate::streams::{RunError, write_out};
+use crate::streams::{CallError, write_out};
 use planus_dump::{End, Schema, Seen, ViewError, view};
 use std::alloc::Global;
 use std::io::Write;
@@ -17,17 +17,17 @@ pub struct Limits {
     pub bytes: usize,
 }
 
-impl From<ViewError> for RunError {
+impl From<ViewError> for CallError {
     ghost use Rattle.std.specs.Prelude.{◌≡◌};
     ghost use Rattle.planus_cli.specs.Viewing as spec;
 
-    ghost from_gives = { λ error e. e ≡ spec.run_error error };
+    ghost from_gives = { λ error e. e ≡ spec.call_error error };
 
-    fn from(error: ViewError) -> RunError {
+    fn from(error: ViewError) -> CallError {
         match error {
-            ViewError::OutOfMemory => RunError::OutOfMemory,
-            ViewError::BadSchema => RunError::BadSchema,
-            ViewError::Write => RunError::Write,
+            ViewError::OutOfMemory => CallError::OutOfMemory,
+            ViewError::BadSchema => CallError::BadSchema,
+            ViewError::Write => CallError::Write,
         }
     }
 }
@@ -61,14 +61,14 @@ pub(crate) fn is_cut(end: End) -> bool
 /// whether a line states an error, and how much of the limits is left.
 ///
 /// Fails where memory is refused or writing fails, after a beginning of them, and with
-/// [`RunError::BadSchema`] for a schema that isn't good (a sound one's is).
+/// [`CallError::BadSchema`] for a schema that isn't good (a sound one's is).
 pub fn view_buffer<W: Write>(
     alloc: Global,
     schema: &Schema,
     bytes: &[u8],
     limits: Limits,
     writer: &mut W,
-) -> Result<Seen, RunError>
+) -> Result<Seen, CallError>
     ensures shown { IfOk result (λ seen. spec.WritesView schema.now bytes.now limits.lines
         limits.bytes
         seen (W.contents writer.old) (W.contents writer.new)) }

@@ -1,6 +1,6 @@
 use Rattle.std.proofs.Common.{◌<◌, ◌++◌, length, refl, ap, ◌∙◌, subst, sym}
 use Rattle.std.proofs.lemmas.Option.{slice_get_read}
-use Rattle.planus_cli.specs.Outcomes.{HasTokens}
+use Rattle.planus_cli.specs.SchemaTexts.{HasTokens}
 use Rattle.planus_cli.proofs.check.put_report.Goals as goal
 
 pub fault_report-requires : goal.fault_report-requires

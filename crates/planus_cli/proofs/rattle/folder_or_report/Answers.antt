@@ -1,7 +1,7 @@
 use Rattle.std.proofs.Common.{ap, sym, ◌∙◌, subst}
 use Rattle.std.specs.Prelude.{codes}
 use Rattle.std.specs.Io.KnownBytes.{Appends}
-use Rattle.planus_cli.specs.Outcomes.{line_of}
+use Rattle.planus_cli.specs.SchemaTexts.{line_of}
 use Rattle.planus_cli.specs.Printing.{is_crate_name, name_fault}
 use Rattle.planus_cli.proofs.rattle.folder_or_report.Goals as goal
 

@@ -1,7 +1,7 @@
 use Rattle.std.proofs.Common.{subst, inl}
 use Rattle.std.specs.Prelude.{codes}
 use Rattle.std.specs.Io.KnownBytes.{Appends}
-use Rattle.planus_cli.specs.Outcomes.{line_of}
+use Rattle.planus_cli.specs.SchemaTexts.{line_of}
 use Rattle.planus_cli.proofs.sources.bytes_of.Goals as goal
 
 pub returns-in_ok-say-in-Err : goal.returns-in_ok-say-in-Err

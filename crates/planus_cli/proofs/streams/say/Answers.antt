@@ -1,4 +1,4 @@
-use Rattle.planus_cli.specs.Outcomes.{line_of}
+use Rattle.planus_cli.specs.SchemaTexts.{line_of}
 use Rattle.planus_cli.proofs.Failing.{on_err, none_begun}
 use Rattle.planus_cli.proofs.streams.say.Goals as goal
 

@@ -2,7 +2,7 @@ use Rattle.std.proofs.Common.{◌<◌, ℕ, List, length, take, refl, subst, sym
 use Rattle.std.specs.String.{string_bytes}
 use Rattle.std.proofs.lemmas.Option.{slice_get_read}
 use Rattle.planus_cli.specs.Json.{place_json}
-use Rattle.planus_cli.specs.Outcomes.{HasTokens, IsPlaceAt}
+use Rattle.planus_cli.specs.SchemaTexts.{HasTokens, IsPlaceAt}
 use Rattle.planus_cli.proofs.LoadedFiles.{if_ok}
 use Rattle.planus_cli.proofs.told.spot_json.Goals as goal
 

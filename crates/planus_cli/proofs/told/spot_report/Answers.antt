@@ -1,6 +1,6 @@
 use Rattle.std.proofs.Common.{◌<◌, length, refl, subst, sym}
 use Rattle.std.proofs.lemmas.Option.{slice_get_read}
-use Rattle.planus_cli.specs.Outcomes.{HasTokens, ReportsAt}
+use Rattle.planus_cli.specs.SchemaTexts.{HasTokens, ReportsAt}
 use Rattle.planus_cli.proofs.LoadedFiles.{if_ok}
 use Rattle.planus_cli.proofs.told.spot_report.Goals as goal
 

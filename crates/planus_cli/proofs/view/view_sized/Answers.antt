@@ -1,6 +1,6 @@
 use Rattle.std.proofs.Common.{inl, inr, sym, ◌≡◌, ◌≢◌, ◌+◌, ◌∷◌, [], length, rules, subst, arith}
 use Rattle.std.proofs.lemmas.Result.{err_from_is_err_and}
-use Rattle.planus_cli.specs.declared.streams.RunError.{RunError}
+use Rattle.planus_cli.specs.declared.streams.CallError.{CallError}
 use Rattle.planus_cli.specs.Buffers.{header_text, look_left, look_of, Look, ViewsSized, FailsNext}
 use Rattle.std.proofs.KnownBytes.{Keeps-refl}
 use Rattle.planus_cli.proofs.Failing.{if_err}
@@ -58,7 +58,7 @@ returns-in_err-one-clause-failed g c =
       c.in-Some.buffer.now,
       c.in-Some.after.now,
       c.in-Some.ensures,
-      subst (λ (error : RunError). FailsNext (look_left (look_of c.args.view.now) c.buffers.left) header c.in-Some.buffer.now error before after unsaid said) (sym p.2)
+      subst (λ (error : CallError). FailsNext (look_left (look_of c.args.view.now) c.buffers.left) header c.in-Some.buffer.now error before after unsaid said) (sym p.2)
           (subst (λ (look : Look). FailsNext look header c.in-Some.buffer.now c.in_err-one.field-0.0 before after unsaid said) c.with_limits-view.ensures c.in_err-one.ensures.failed),
     )))
 

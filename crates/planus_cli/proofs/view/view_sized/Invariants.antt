@@ -1,7 +1,7 @@
 use Rattle.std.proofs.Common.{◌≡◌, ◌+◌, ◌≤◌, ℕ, List, length}
 use Rattle.std.specs.Prelude.{Option}
 use Rattle.planus_cli.specs.Buffers.{look_of, look_left, ViewsSized, FailsSized}
-use Rattle.planus_cli.specs.declared.streams.RunError.{RunError}
+use Rattle.planus_cli.specs.declared.streams.CallError.{CallError}
 use Rattle.planus_cli.proofs.view.view_sized.Given as goal
 
 -- what views the rest of the bytes ends a view of all, and what fails there fails for all
@@ -13,7 +13,7 @@ invariant-buffers g l = record {
       → ViewsSized (look_left (look_of l.view) l.left) l.number l.at buffers l.rest l.worst status (g.W.Write.contents l.writer) after (g.X.Write.contents l.errors) said
       → (all : List (List ℕ)) × ViewsSized (look_of l.view) 0 0 all l.bytes 0 status
       (g.W.Write.contents l.initial.writer) after (g.X.Write.contents l.initial.errors) said;
-  fails : (buffers : List (List ℕ)) (error : RunError) (after said : Option (List ℕ))
+  fails : (buffers : List (List ℕ)) (error : CallError) (after said : Option (List ℕ))
       → FailsSized (look_left (look_of l.view) l.left) l.number l.at buffers l.rest error (g.W.Write.contents l.writer) after (g.X.Write.contents l.errors) said
       → (all : List (List ℕ)) × FailsSized (look_of l.view) 0 0 all l.bytes error
       (g.W.Write.contents l.initial.writer) after (g.X.Write.contents l.initial.errors) said;

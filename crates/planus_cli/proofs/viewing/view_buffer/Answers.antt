@@ -4,7 +4,7 @@ use Rattle.std.proofs.lemmas.Result.{err_from_is_err_and}
 use Rattle.std.specs.Io.KnownBytes.{Appends}
 use Rattle.planus_dump.specs.Views.{lines_text}
 use Rattle.planus_dump.specs.Writing.{WritesBeginning}
-use Rattle.planus_cli.specs.declared.streams.RunError.{RunError}
+use Rattle.planus_cli.specs.declared.streams.CallError.{CallError}
 use Rattle.planus_cli.specs.Viewing.{FailsViewing, end_text}
 use Rattle.planus_cli.proofs.ViewedBuffer.{fails, ends}
 use Rattle.planus_cli.proofs.viewing.view_buffer.Goals as goal
@@ -32,7 +32,7 @@ returns-in_err-write_out-clause-failed g c =
     let contents = g.W.Write.contents in let view = c.in_ok-seen.ensures.shown in let end = c.in_ok-seen.seen.end in
     let before = contents c.args.writer.now in let between = contents c.view.new.writer in let after = contents c.write_out.new.writer in
     let p = err_from_is_err_and c.from_residual-in_err-write_out.result c.from_residual-in_err-write_out.ensures.1 in
-    rw p.1 (subst (λ (e : RunError). FailsViewing c.args.schema.now c.args.bytes.now c.args.limits.lines c.args.limits.bytes e before after) (sym (p.2 ∙ c.in_err-write_out.ensures.error)) (record {
+    rw p.1 (subst (λ (e : CallError). FailsViewing c.args.schema.now c.args.bytes.now c.args.limits.lines c.args.limits.bytes e before after) (sym (p.2 ∙ c.in_err-write_out.ensures.error)) (record {
       lines = view.lines;
       end = end;
       viewed = view.viewed;

@@ -1,5 +1,5 @@
 use Rattle.planus_cli.proofs.Reported.{not_reported}
-use Rattle.planus_cli.proofs.texts.outcome_of.Goals as goal
+use Rattle.planus_cli.proofs.texts.format_or_report.Goals as goal
 
 pub returns-in_ok-error_report-in-Err-clause-only :
     goal.returns-in_ok-error_report-in-Err-clause-only

@@ -6,12 +6,12 @@ use Rattle.planus_dump.specs.Writing.{WritesBeginning}
 use Rattle.planus_syntax.specs.declared.text.SchemaError.{SchemaError}
 use Rattle.planus_syntax.specs.declared.text.SchemaError.TheVariants as errors
 use Rattle.planus_syntax.specs.Parsed.{HasCanonicalText, IsFaultOf, KeepsComments, Spells}
-use Rattle.planus_cli.specs.declared.streams.RunError.{RunError}
-use Rattle.planus_cli.specs.declared.streams.RunError.TheVariants.{OutOfMemory, Read, Write}
-use Rattle.planus_cli.specs.declared.streams.RunError.TheVariants.{BadSchema}
-use Rattle.planus_cli.specs.declared.outcome.Outcome.{Outcome}
-use Rattle.planus_cli.specs.declared.outcome.Outcome.TheVariants.{Formatted, Faulty}
-use Rattle.planus_cli.specs.declared.outcome.Printed.{Printed}
+use Rattle.planus_cli.specs.declared.streams.CallError.{CallError}
+use Rattle.planus_cli.specs.declared.streams.CallError.TheVariants.{OutOfMemory, Read, Write}
+use Rattle.planus_cli.specs.declared.streams.CallError.TheVariants.{BadSchema}
+use Rattle.planus_cli.specs.declared.formatted.Formatted.{Formatted}
+use Rattle.planus_cli.specs.declared.formatted.Formatted.TheVariants as formatted
+use Rattle.planus_cli.specs.declared.formatted.Printed.{Printed}
 use Rattle.planus_cli.specs.declared.parsed.Parsed.{Parsed}
 use Rattle.planus_cli.specs.declared.parsed.Parsed.TheVariants as parsed
 use Rattle.planus_syntax.specs.Tokens.{Piece}
@@ -20,7 +20,7 @@ use Rattle.planus_syntax.specs.Placing.{StandsAt}
 use Rattle.planus_syntax.specs.Counting.{AreCounted}
 use Rattle.planus_syntax.specs.declared.value.Declaration.{Declaration}
 use Rattle.planus_syntax.specs.Values.{AreWhole, declarations_of}
-use Rattle.planus_cli.specs.declared.outcome.Printed.TheVariants.{Text, Report}
+use Rattle.planus_cli.specs.declared.formatted.Printed.TheVariants.{Text, Report}
 use Rattle.planus_cli.specs.Shown.{shown}
 use Rattle.planus_cli.specs.Reports.{report_text, lex_message, parse_message}
 
@@ -55,7 +55,7 @@ pub record IsSpelled (text : List ℕ) (declarations : List Declaration) : Type 
 abbrev pub IsParsed : List ℕ → List ℕ → Parsed → Type 0
 IsParsed name text (parsed.Declarations ds) =
     IsSpelled text ds.items × AreWhole (declarations_of ds.items)
-IsParsed name text (parsed.Faulty report) = Reports name text report.items
+IsParsed name text (parsed.Report report) = Reports name text report.items
 
 -- the text is tokens, blanks and comments
 abbrev pub HasTokens : List ℕ → Type 0
@@ -72,14 +72,15 @@ abbrev pub ReportsAt : List ℕ → List ℕ → ℕ → List ℕ → List ℕ �
 ReportsAt name text left message report =
     (at : ℕ) × IsPlaceAt text left at × (report ≡ report_text name text at message)
 
-abbrev pub IsOutcome : List ℕ → List ℕ → Outcome → Type 0
-IsOutcome name text (Formatted out) = Formats text out.items
-IsOutcome name text (Faulty report) = Reports name text report.items
+-- the canonical text, or the report of the text's first fault
+abbrev pub IsFormatted : List ℕ → List ℕ → Formatted → Type 0
+IsFormatted name text (formatted.Text out) = Formats text out.items
+IsFormatted name text (formatted.Report report) = Reports name text report.items
 
--- the outcome of a text that has this canonical text
-abbrev pub IsFormatted : List ℕ → Outcome → Type 0
-IsFormatted bytes (Formatted out) = out.items ≡ bytes
-IsFormatted bytes (Faulty report) = ⊥
+-- the canonical text is these bytes
+abbrev pub HasText : List ℕ → Formatted → Type 0
+HasText bytes (formatted.Text out) = out.items ≡ bytes
+HasText bytes (formatted.Report report) = ⊥
 
 -- the greatest length of a text, in bytes
 abbrev pub greatest_text : ℕ
@@ -90,7 +91,7 @@ abbrev pub line_of : List ℕ → List ℕ → List ℕ → List ℕ
 line_of before name after = codes "planus: " ++ (before ++ (shown name ++ (after ++ codes "\n")))
 
 -- why a call fails
-abbrev pub reason_of : RunError → List ℕ
+abbrev pub reason_of : CallError → List ℕ
 reason_of OutOfMemory = codes "planus: out of memory\n"
 reason_of Read = codes "planus: a word of the call is no text\n"
 reason_of Write = codes "planus: can't write\n"
@@ -105,7 +106,7 @@ BeginsPrinting name text before after unsaid said =
     × WritesBeginning report unsaid said)
 
 -- Memory was refused before anything was written, or writing failed.
-abbrev pub FailsPrinting : List ℕ → List ℕ → RunError → Option (List ℕ) → Option (List ℕ)
+abbrev pub FailsPrinting : List ℕ → List ℕ → CallError → Option (List ℕ) → Option (List ℕ)
     → Option (List ℕ) → Option (List ℕ) → Type 0
 FailsPrinting name text OutOfMemory before after unsaid said =
     Keeps before after × Keeps unsaid said

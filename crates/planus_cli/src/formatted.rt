@@ -1,12 +1,12 @@
-//! Outcomes of a text.
+//! A text in its canonical layout, or the report of its first fault.
 
-/// What becomes of a text.
+/// What a text is formatted to.
 #[derive(Drop)]
-pub enum Outcome {
+pub enum Formatted {
     /// Its canonical text.
-    Formatted(Vec<u8>),
+    Text(Vec<u8>),
     /// The report of its first fault.
-    Faulty(Vec<u8>),
+    Report(Vec<u8>),
 }
 
 /// What was written of a text.
