@@ -3,7 +3,6 @@ pub mod Lengths
 pub mod Lists
 pub mod PaddingLaws
 pub mod Asked
-pub mod Periods
 pub mod Places
 pub mod Blocks
 pub mod Buckets

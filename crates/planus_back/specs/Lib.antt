@@ -5,7 +5,6 @@ pub mod Placings
 pub mod Descriptions
 pub mod Requests
 pub mod BackBytes
-pub mod Pairs
 pub mod CacheKeys
 pub mod Hashes
 pub mod Numbers

@@ -15,7 +15,6 @@ pub mod fill;
 mod hash;
 mod identity_hasher;
 pub mod laws;
-pub mod plain;
 pub mod promises;
 
 pub use backvec::BackVec;

@@ -13,6 +13,7 @@ mod no_memory;
 mod padding;
 mod parts;
 mod placings;
+mod plain_padding;
 mod plain_reader;
 mod plain_run;
 mod read_back;

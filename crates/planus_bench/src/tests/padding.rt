@@ -1,11 +1,11 @@
 //! `Promises` beside a plain program, which finds padding by trying.
 ghost use Rattle.std.specs.Prelude.{◌≡◌, ◌+◌, ◌≤◌, IfSome};
 ghost use Rattle.planus_back.specs.Padding.{greatest_place};
-ghost use Rattle.planus_back.specs.Pairs.{period, AlignmentsAboveZero, DistancesWithin};
+ghost use Rattle.planus_bench.specs.Pairs.{period, AlignmentsAboveZero, DistancesWithin};
 
 use super::alignments::mask_of;
+use super::plain_padding::least_padding;
 use planus_back::Promises;
-use planus_back::plain::least_padding;
 use planus_testing::{Test, check, check_eq};
 use std::alloc::AllocError;
 use std::test::Fail;

@@ -1,5 +1,5 @@
 use Rattle.std.proofs.Common.{length}
-use Rattle.planus_back.proofs.plain.+keeps.Given as goal
+use Rattle.planus_bench.proofs.tests.plain_padding.+keeps.Given as goal
 
 abbrev pub decreases-keeps : goal.decreases-keeps
 decreases-keeps l = length l.promises.now

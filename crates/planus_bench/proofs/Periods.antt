@@ -6,7 +6,7 @@ use Rattle.std.proofs.lemmas.Nat.Gcd.{dvd_trans}
 use Rattle.std.proofs.Math.Nat.{dvd-add, dvd-sub, mod-lt, dvd-mul_left, dvd-mul_right, mul-pos}
 use Rattle.planus_back.specs.Promises.{Promise, Keep, CanBeKept}
 use Rattle.planus_back.specs.Padding.{promise_of, CanPad}
-use Rattle.planus_back.specs.Pairs.{promises_of, period, AlignmentsAboveZero, DistancesWithin}
+use Rattle.planus_bench.specs.Pairs.{promises_of, period, AlignmentsAboveZero, DistancesWithin}
 
 pub period_positive : (pairs : List (ℕ × ℕ)) → AlignmentsAboveZero pairs → 0 < period pairs
 period_positive [] h = omega arith

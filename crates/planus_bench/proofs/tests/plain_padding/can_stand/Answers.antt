@@ -2,10 +2,10 @@ use Rattle.std.proofs.Common.{◌≡◌, ◌<◌, ◌∷◌, inl, inr, arith, su
 use Rattle.std.proofs.lemmas.Bool.{cases_lt}
 use Rattle.planus_back.specs.Promises.{Keep}
 use Rattle.planus_back.specs.Padding.{promise_of}
-use Rattle.planus_back.specs.Pairs.{promises_of}
-use Rattle.planus_back.proofs.Periods.{kept_soon}
-use Rattle.planus_back.proofs.plain.can_stand.Goals as goal
-use Rattle.planus_back.proofs.plain.can_stand.Goals.{else-keeps_one-via-then-keeps_one+else-keeps, else-keeps_one-via-else-keeps_one}
+use Rattle.planus_bench.specs.Pairs.{promises_of}
+use Rattle.planus_bench.proofs.Periods.{kept_soon}
+use Rattle.planus_bench.proofs.tests.plain_padding.can_stand.Goals as goal
+use Rattle.planus_bench.proofs.tests.plain_padding.can_stand.Goals.{else-keeps_one-via-then-keeps_one+else-keeps, else-keeps_one-via-else-keeps_one}
 
 pub loop-length-preserved : goal.loop-length-preserved
 loop-length-preserved c = λ k from below h.

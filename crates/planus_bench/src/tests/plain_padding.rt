@@ -2,8 +2,8 @@
 ghost use Rattle.std.specs.Prelude.{◌≡◌, ℕ, ◌+◌, ◌*◌, ◌^◌, ◌<◌, ◌↔◌, ◌∷◌, IsTrue, MatchOption};
 ghost use Rattle.planus_back.specs.Promises.{Keeps, Keep, CanBeKept};
 ghost use Rattle.planus_back.specs.Padding.{promise_of, CanPad, IsLeastPadding};
-ghost use Rattle.planus_back.specs.Pairs.{promises_of, period, AlignmentsAboveZero};
-ghost use Rattle.planus_back.specs.Pairs.{DistancesWithin};
+ghost use Rattle.planus_bench.specs.Pairs.{promises_of, period, AlignmentsAboveZero};
+ghost use Rattle.planus_bench.specs.Pairs.{DistancesWithin};
 
 fn keeps_one(length: usize, distance: usize, alignment: usize) -> bool
     requires { 0 < alignment }

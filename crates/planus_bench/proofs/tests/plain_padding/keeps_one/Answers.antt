@@ -1,7 +1,7 @@
 use Rattle.std.proofs.Common.{ℕ, ◌-◌, ◌%◌}
 use Rattle.std.proofs.lemmas.Bool.{eqb-true, eq-eqb}
 use Rattle.std.proofs.lemmas.Nat.Gcd.{dvd_of_mod-eq-zero, mod-eq-zero_of_dvd}
-use Rattle.planus_back.proofs.plain.keeps_one.Goals as goal
+use Rattle.planus_bench.proofs.tests.plain_padding.keeps_one.Goals as goal
 
 pub returns : goal.returns
 returns c =

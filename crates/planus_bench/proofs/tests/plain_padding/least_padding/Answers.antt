@@ -2,9 +2,9 @@ use Rattle.std.proofs.Common.{◌≡◌, ℕ, ◌+◌, ◌%◌, ◌<◌, ◌≤�
 use Rattle.std.proofs.lemmas.Bool.{cases_lt}
 use Rattle.std.proofs.Math.Nat.{mod-lt}
 use Rattle.planus_back.specs.Padding.{CanPad}
-use Rattle.planus_back.specs.Pairs.{promises_of}
-use Rattle.planus_back.proofs.Periods.{within_later, pads_below}
-use Rattle.planus_back.proofs.plain.least_padding.Goals as goal
+use Rattle.planus_bench.specs.Pairs.{promises_of}
+use Rattle.planus_bench.proofs.Periods.{within_later, pads_below}
+use Rattle.planus_bench.proofs.tests.plain_padding.least_padding.Goals as goal
 
 pub can_stand-requires-clause-within : goal.can_stand-requires-clause-within
 can_stand-requires-clause-within c = within_later c.args.len (c.args.len + c.loop-padding.padding + c.args.size) c.args.promises.now (omega arith) c.requires.within

@@ -1,5 +1,5 @@
 use Rattle.std.proofs.Common.{length}
-use Rattle.planus_back.proofs.plain.+period.Given as goal
+use Rattle.planus_bench.proofs.tests.plain_padding.+period.Given as goal
 
 abbrev pub decreases-period : goal.decreases-period
 decreases-period l = length l.promises.now
