@@ -33,6 +33,7 @@ pub use schemas::{
     EnumSchema, FieldSchema, Fixed, Item, Kind, Number, Schema, StructFieldSchema, StructSchema,
     TableSchema, VariantKind, VariantSchema,
 };
+pub use validate::is_name_byte;
 pub use view_error::ViewError;
 pub use views::{Seen, view};
 pub use writing::{WriteError, write_out};

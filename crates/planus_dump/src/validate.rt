@@ -2,7 +2,8 @@
 ghost use Rattle.std.specs.Prelude.{◌≡◌, length};
 ghost use Rattle.std.specs.List.{list_all, list_any};
 ghost use Rattle.std.specs.Prelude.{◌==◌};
-ghost use Rattle.planus_dump.specs.Schemas.{is_name_byte, is_name, kind_fits};
+ghost use Rattle.planus_dump.specs.Schemas as spec;
+ghost use Rattle.planus_dump.specs.Schemas.{is_name, kind_fits};
 ghost use Rattle.planus_dump.specs.Schemas.{table_fits, variants_fit};
 ghost use Rattle.planus_dump.specs.Schemas.{is_name_or_none, variant_fits, variant_kind_fits};
 ghost use Rattle.planus_dump.specs.Schemas.{union_fits, is_good, fixed_fits, fixed_kind_fits};
@@ -12,8 +13,9 @@ use crate::schemas::{
     FieldSchema, Fixed, Item, Kind, Schema, StructSchema, TableSchema, VariantKind, VariantSchema,
 };
 
-fn is_name_byte_of(byte: u8) -> bool
-    ensures { result ≡ is_name_byte byte }
+/// Whether a name may have this byte: an ASCII letter or digit, or `_`.
+pub fn is_name_byte(byte: u8) -> bool
+    ensures { result ≡ spec.is_name_byte byte }
 {
     matches!(byte, b'A'..=b'Z' | b'a'..=b'z' | b'0'..=b'9' | b'_')
 }
@@ -23,7 +25,7 @@ fn is_name_of(name: &str) -> bool
 {
     let bytes = name.as_bytes();
     for byte in bytes {
-        if !is_name_byte_of(*byte) {
+        if !is_name_byte(*byte) {
             return false;
         }
     }

@@ -1,16 +1,10 @@
 //! Names in the lines of a dump.
 ghost use Rattle.std.specs.Prelude.{◌≡◌, IfOk, OnOk};
 ghost use Rattle.std.specs.String.{string_bytes};
-ghost use Rattle.planus_dump.specs.Schemas as schemas_spec;
 ghost use Rattle.planus_inspect.specs.Shown as spec;
 
+use planus_dump::is_name_byte;
 use std::alloc::{AllocError, Global};
-
-fn is_name_byte(byte: u8) -> bool
-    ensures { result ≡ schemas_spec.is_name_byte byte }
-{
-    matches!(byte, b'A'..=b'Z' | b'a'..=b'z' | b'0'..=b'9' | b'_')
-}
 
 fn take_byte(word: &mut String, byte: u8) -> Result<(), AllocError>
     ensures { OnOk result (string_bytes word.new ≡ spec.after_dot (string_bytes word.old) byte) }
