@@ -8,7 +8,7 @@ use Rattle.std.proofs.lemmas.Option.{slice_get-map}
 use Rattle.planus.specs.Steps.{Step, FieldStep, table}
 use Rattle.planus.proofs.Lists.{made_of, all_unmapped}
 use Rattle.planus_dump.specs.Dumped.{greatest_depth}
-use Rattle.planus_dump.specs.Describes.{HasKind, IsTableOf, Describes, Fits, IsMember, IsTagged, IsVariant}
+use Rattle.planus_dump.specs.Describes.{HasKind, IsTableOf, Describes, Fits, IsMember, IsTagged, IsVariantOf}
 use Rattle.planus_dump.specs.Events.{variant_of}
 use Rattle.planus_dump.specs.declared.schemas.VariantKind.TheVariants as member
 use Rattle.planus_dump.specs.Shapes.{FieldShape, field_shape, TableShape, table_shape, VariantShape, variant_shape, union_shape, HasShape}
@@ -71,7 +71,7 @@ weapon_fits schema root left has =
     describes schema worked_steps left 0 1
     (by_shape schema worked_steps (Describes schema worked_steps left) 0 weapon_shape (table_is schema worked_tables worked_unions root 0 weapon_shape has refl) _ (tt, (refl, tt)))
 
-weapon_tagged : (D : ℕ → ℕ → Type 0) (variants : List VariantSchema) → map variant_shape variants ≡ equipment_shape → D 0 1 → IsVariant worked_steps D (variant_of variants 1) 1
+weapon_tagged : (D : ℕ → ℕ → Type 0) (variants : List VariantSchema) → map variant_shape variants ≡ equipment_shape → D 0 1 → IsVariantOf worked_steps D (variant_of variants 1) 1
 weapon_tagged D [] e axe = cc
 weapon_tagged D (variant ∷ variants) e axe =
     let one : variant_shape variant ≡ record { tag = 1; name = []; kind = member.Table 0 } = cc in

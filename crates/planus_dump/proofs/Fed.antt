@@ -13,7 +13,7 @@ use Rattle.planus_dump.specs.declared.end.End.{End}
 use Rattle.planus_dump.specs.declared.end.End.TheVariants.{Whole, TooDeep, TooManyLines, TooManyBytes}
 use Rattle.planus_dump.specs.inner.Shown.{event_of, Shown, by_room, added, going, step_at, step, feed}
 use Rattle.planus_dump.specs.inner.Taking.{Takes, Puts}
-use Rattle.planus_dump.specs.inner.Feeding.{Fits, left_in, IsOpen, Outcome, Shows, Breaks, Fed}
+use Rattle.planus_dump.specs.inner.Feeding.{Fits, left_in, IsOpen, FeedResult, Shows, Breaks, Fed}
 use Rattle.planus_dump.specs.declared.sink_error.SinkError.{SinkError}
 use Rattle.planus_dump.proofs.Feeds.{feed-append, feed-stopped}
 
@@ -138,7 +138,7 @@ module _ {L : Type 0} (takes breaks : Takes L) where
       (sym (step_fewer s e (sym shows.end ∙ is) h fewer ∙ ap (by_room s e) (sym shows.room ∙ at) ∙ room_long s e room above))
       (record { lines = shows.lines; left = shows.left; room = shows.room; end = refl })
 
-  pub fed_taken : (o : LineSink L) (e : Event) (r : Outcome) (new : L) → IsOpen o (cost e) → e ≢ deep → Puts takes breaks o.lines e r new
+  pub fed_taken : (o : LineSink L) (e : Event) (r : FeedResult) (new : L) → IsOpen o (cost e) → e ≢ deep → Puts takes breaks o.lines e r new
       → Fed takes breaks o (e ∷ []) r (record o { lines = new; left = o.left - 1; room = left_in o.room (cost e) })
   unfolding Fed
   fed_taken o e (Ok u) new isopen h puts = λ start s shows.
@@ -168,20 +168,20 @@ module _ {L : Type 0} (takes breaks : Takes L) where
   fed_none o es none start s shows = subst (λ es. Shows takes breaks start o (feed s es)) (sym none) shows
 
   -- memory for a path was refused
-  pub fed_fails : (o : LineSink L) (es : List Event) (r : Outcome) → IsErr r → Fed takes breaks o es r o
+  pub fed_fails : (o : LineSink L) (es : List Event) (r : FeedResult) → IsErr r → Fed takes breaks o es r o
   unfolding Fed
   fed_fails o es (Ok u) is = cc
   fed_fails o es (Err error) is = λ start s shows.
       let (more, all) = feed-grows s es in
       record { front = s.lines; rest = more; split = all; broken = inl shows.lines }
 
-  pub fed_then : (o m n : LineSink L) (es fs : List Event) (r : Outcome) → Fed takes breaks o es (Ok (tt {0})) m → Fed takes breaks m fs r n → Fed takes breaks o (es ++ fs) r n
+  pub fed_then : (o m n : LineSink L) (es fs : List Event) (r : FeedResult) → Fed takes breaks o es (Ok (tt {0})) m → Fed takes breaks m fs r n → Fed takes breaks o (es ++ fs) r n
   unfolding Fed
   fed_then o m n es fs (Ok v) first second = λ start s shows. subst (Shows takes breaks start n) (sym (feed-append s es fs)) (second start (feed s es) (first start s shows))
   fed_then o m n es fs (Err error) first second = λ start s shows.
       subst (λ (t : Shown). Breaks takes breaks start t.lines n.lines) (sym (feed-append s es fs)) (second start (feed s es) (first start s shows))
 
-  pub fed_broken : (o m : LineSink L) (es fs : List Event) (error : SinkError) (r : Outcome) → Fed takes breaks o es (Err error) m → IsErr r → Fed takes breaks o (es ++ fs) r m
+  pub fed_broken : (o m : LineSink L) (es fs : List Event) (error : SinkError) (r : FeedResult) → Fed takes breaks o es (Err error) m → IsErr r → Fed takes breaks o (es ++ fs) r m
   unfolding Fed
   fed_broken o m es fs error (Ok v) first is = cc
   fed_broken o m es fs error (Err other) first is = λ start s shows.
@@ -194,10 +194,10 @@ module _ {L : Type 0} (takes breaks : Takes L) where
         broken = b.broken;
       }
 
-  pub fed_refused : (o m : LineSink L) (es : List Event) (r : Outcome) → m ≡ o → IsErr r → Fed takes breaks o es r m
+  pub fed_refused : (o m : LineSink L) (es : List Event) (r : FeedResult) → m ≡ o → IsErr r → Fed takes breaks o es r m
   fed_refused o m es r same is = subst (Fed takes breaks o es r) (sym same) (fed_fails o es r is)
 
-  pub fed_as : (o m : LineSink L) (es fs : List Event) (r : Outcome) → Fed takes breaks o es r m → fs ≡ es → Fed takes breaks o fs r m
+  pub fed_as : (o m : LineSink L) (es fs : List Event) (r : FeedResult) → Fed takes breaks o es r m → fs ≡ es → Fed takes breaks o fs r m
   fed_as o m es fs r fed same = subst (λ es. Fed takes breaks o es r m) (sym same) fed
 
   -- ---- a loop
@@ -226,12 +226,12 @@ module _ {L : Type 0} (takes breaks : Takes L) where
   goes_stopped o m all rest goes h =
       subst (λ es. Fed takes breaks o es (Ok (tt {0})) m) (sym goes.split) (fed_then o m m goes.done rest (Ok (tt {0})) goes.fed (fed_stopped m rest h))
 
-  pub goes_fails : (o m : LineSink L) (all rest : List Event) (r : Outcome) → Goes o all rest m → IsErr r → Fed takes breaks o all r m
+  pub goes_fails : (o m : LineSink L) (all rest : List Event) (r : FeedResult) → Goes o all rest m → IsErr r → Fed takes breaks o all r m
   goes_fails o m all rest (Ok u) goes is = cc
   goes_fails o m all rest (Err error) goes is =
       subst (λ es. Fed takes breaks o es (Err error) m) (sym goes.split) (fed_then o m m goes.done rest (Err error) goes.fed (fed_fails m rest (Err error) is))
 
-  pub goes_broken : (o m n : LineSink L) (all rest next after : List Event) (error : SinkError) (r : Outcome) → Goes o all rest m → rest ≡ next ++ after → Fed takes breaks m next (Err error) n → IsErr r → Fed takes breaks o all r n
+  pub goes_broken : (o m n : LineSink L) (all rest next after : List Event) (error : SinkError) (r : FeedResult) → Goes o all rest m → rest ≡ next ++ after → Fed takes breaks m next (Err error) n → IsErr r → Fed takes breaks o all r n
   goes_broken o m n all rest next after error (Ok v) goes split fed is = cc
   goes_broken o m n all rest next after error (Err other) goes split fed is =
       subst (λ es. Fed takes breaks o es (Err other) n) (sym (goes.split ∙ ap (λ es. goes.done ++ es) split))

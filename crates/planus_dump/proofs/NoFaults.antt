@@ -31,7 +31,7 @@ use Rattle.planus_dump.specs.Tests.{table_tests}
 use Rattle.planus_dump.specs.Answers.{lone_tag, Seen, SeenItems, SeenUnion, SeenUnions, table_at, union_at, unions_at, tagged_union, union_vector_by, union_vector_at, some_of}
 use Rattle.planus_dump.specs.Events.{Event, field_label, absent_events, no_union_events, wrong_tag, TableEvents, stride_of, variant_of, member_events, item_events, items_events, list_events, place_events, variant_events, union_events, union_field_events, union_items_events, unions_events, present, kind_events, fields_events, table_events, shape_events, events, leaf_events}
 use Rattle.planus_dump.specs.Faults.{HaveNoFault, IsNoFault}
-use Rattle.planus_dump.specs.Describes.{plain_size, plain_field_size, IsText, IsByteList, held_at, IsItem, IsListOf, IsReferred, IsField, IsMember, IsVariant, IsTagged, IsUnion, IsVectorOfUnions, IsUnionVector, HasKind, IsTableOf, Describes}
+use Rattle.planus_dump.specs.Describes.{plain_size, plain_field_size, IsTextStep, IsByteListStep, held_at, IsItem, IsListOf, IsReferred, IsFieldOf, IsMember, IsVariantOf, IsTagged, IsUnion, IsVectorOfUnions, IsUnionVector, HasKind, IsTableOf, Describes}
 use Rattle.planus_dump.specs.declared.schemas.Schema.{Schema}
 use Rattle.planus_dump.specs.declared.schemas.TableSchema.{TableSchema}
 use Rattle.planus_dump.specs.declared.schemas.FieldSchema.{FieldSchema}
@@ -98,7 +98,7 @@ plain_list_no_fault E item size S f path is v =
 module _ (steps : List Step) (given : Finish) (values : AllByRecursion (ValueHolds steps given) given.places) (E : TableEvents) (IsTable : ℕ → ℕ → Type 0)
     (tables : (index n d start f : ℕ) (path : List ℕ) → IsTable index n → value_at given.places n ≡ Some d → Leads given.bytes (start + f) (position_of given.bytes d)
     → HaveNoFault (E index (drop start given.bytes) f path)) where
-  text_by : (d start f : ℕ) (path : List ℕ) (step : Step) (v : Value) → IsText (Some step) → value_of given.places step ≡ Some v → ReadsBack given.bytes (at (position_of given.bytes d)) v
+  text_by : (d start f : ℕ) (path : List ℕ) (step : Step) (v : Value) → IsTextStep (Some step) → value_of given.places step ≡ Some v → ReadsBack given.bytes (at (position_of given.bytes d)) v
       → Leads given.bytes (start + f) (position_of given.bytes d) → HaveNoFault (leaf_events LeafText (drop start given.bytes) f path)
   text_by d start f path (text content) v is e reads leads =
       let same : value.text content ≡ v = cc in
@@ -106,11 +106,11 @@ module _ (steps : List Step) (given : Finish) (values : AllByRecursion (ValueHol
       text_event (drop start given.bytes) f content path (back start f leads).there
   text_by d start f path _ v is e reads leads = absurd is
 
-  text_no_fault : (n d start f : ℕ) (path : List ℕ) → IsText (slice_get steps n) → value_at given.places n ≡ Some d → Leads given.bytes (start + f) (position_of given.bytes d)
+  text_no_fault : (n d start f : ℕ) (path : List ℕ) → IsTextStep (slice_get steps n) → value_at given.places n ≡ Some d → Leads given.bytes (start + f) (position_of given.bytes d)
       → HaveNoFault (leaf_events LeafText (drop start given.bytes) f path)
   text_no_fault n d start f path is e leads =
       let held : Held steps given.places given.bytes (at (position_of given.bytes d)) n = value_held steps given values n d e in
-      text_by d start f path held.step held.value (subst IsText held.there is) held.is_value held.reads_back leads
+      text_by d start f path held.step held.value (subst IsTextStep held.there is) held.is_value held.reads_back leads
 
   item_no_fault : (item : Item) (n d start f : ℕ) (path : List ℕ) → IsItem steps IsTable item n → value_at given.places n ≡ Some d → Leads given.bytes (start + f) (position_of given.bytes d)
       → HaveNoFault (item_events E item (drop start given.bytes) f path)
@@ -118,7 +118,7 @@ module _ (steps : List Step) (given : Finish) (values : AllByRecursion (ValueHol
   item_no_fault (Table index) n d start f path is e leads = tables index n d start f path is e leads
   item_no_fault _ n d start f path is e leads = absurd is
 
-  byte_list_by : (d start f : ℕ) (path : List ℕ) (step : Step) (v : Value) → IsByteList (Some step) → value_of given.places step ≡ Some v → ReadsBack given.bytes (at (position_of given.bytes d)) v
+  byte_list_by : (d start f : ℕ) (path : List ℕ) (step : Step) (v : Value) → IsByteListStep (Some step) → value_of given.places step ≡ Some v → ReadsBack given.bytes (at (position_of given.bytes d)) v
       → Leads given.bytes (start + f) (position_of given.bytes d) → HaveNoFault (leaf_events LeafBytes (drop start given.bytes) f path)
   byte_list_by d start f path (bytes content) v is e reads leads =
       let same : value.byte_list content ≡ v = cc in
@@ -126,11 +126,11 @@ module _ (steps : List Step) (given : Finish) (values : AllByRecursion (ValueHol
       byte_list_event (drop start given.bytes) f content path (back start f leads).there
   byte_list_by d start f path _ v is e reads leads = absurd is
 
-  byte_list_no_fault : (n d start f : ℕ) (path : List ℕ) → IsByteList (slice_get steps n) → value_at given.places n ≡ Some d → Leads given.bytes (start + f) (position_of given.bytes d)
+  byte_list_no_fault : (n d start f : ℕ) (path : List ℕ) → IsByteListStep (slice_get steps n) → value_at given.places n ≡ Some d → Leads given.bytes (start + f) (position_of given.bytes d)
       → HaveNoFault (leaf_events LeafBytes (drop start given.bytes) f path)
   byte_list_no_fault n d start f path is e leads =
       let held : Held steps given.places given.bytes (at (position_of given.bytes d)) n = value_held steps given values n d e in
-      byte_list_by d start f path held.step held.value (subst IsByteList held.there is) held.is_value held.reads_back leads
+      byte_list_by d start f path held.step held.value (subst IsByteListStep held.there is) held.is_value held.reads_back leads
 
   items_here : (start k position items : ℕ) → start + position ≡ k + 4 → position ≡ items → drop items (drop start given.bytes) ≡ drop (k + 4) given.bytes
   items_here start k position items first is = drop-drop items start given.bytes ∙ ap (λ p. drop p given.bytes) (omega arith)
@@ -191,7 +191,7 @@ module _ (steps : List Step) (given : Finish) (values : AllByRecursion (ValueHol
       list_by item d start f path held.step held.value (subst (IsListOf steps IsTable item) held.there is) held.is_value held.reads_back leads
   referred_no_fault _ n d start f path is e leads = absurd is
 
-  field_no_fault : (required : Bool) (kind : Kind) (content : FieldStep) (field : Field) (k q : ℕ) (path : List ℕ) → IsField steps IsTable required kind (Some content) → field_of given.places content ≡ Some field
+  field_no_fault : (required : Bool) (kind : Kind) (content : FieldStep) (field : Field) (k q : ℕ) (path : List ℕ) → IsFieldOf steps IsTable required kind (Some content) → field_of given.places content ≡ Some field
       → FieldStands given.bytes (k + q) field → HaveNoFault (place_events E kind (drop k given.bytes) q path)
   field_no_fault required kind (number_field size number) field k q path is e stands =
       let one : IsNumber size number field = field_number given.places size number field e in
@@ -205,7 +205,7 @@ module _ (steps : List Step) (given : Finish) (values : AllByRecursion (ValueHol
   field_no_fault required kind (tags_field n) field k q path is e stands = absurd is
   field_no_fault required kind (values_field n) field k q path is e stands = absurd is
 
-  present_no_fault : (schema : Schema) (required : Bool) (kind : Kind) (o : Option FieldStep) (p : Option Field) (k q : ℕ) (path : List ℕ) → IsField steps IsTable required kind o → SameSlot given.places o p
+  present_no_fault : (schema : Schema) (required : Bool) (kind : Kind) (o : Option FieldStep) (p : Option Field) (k q : ℕ) (path : List ℕ) → IsFieldOf steps IsTable required kind o → SameSlot given.places o p
       → SlotReads given.bytes k q p → HaveNoFault (present E schema required path q (place_events E kind (drop k given.bytes) q path))
   present_no_fault schema required kind None p k q path is same reads =
       let zero_here : q ≡ 0 = subst (SlotReads given.bytes k q) same reads in
@@ -222,7 +222,7 @@ module _ (steps : List Step) (given : Finish) (values : AllByRecursion (ValueHol
   member_no_fault schema (member.Struct index) n d start f path is e leads = absurd is
   member_no_fault schema member.Text n d start f path is e leads = text_no_fault n d start f path is e leads
 
-  variant_no_fault : (schema : Schema) (o : Option VariantSchema) (tag n d start f : ℕ) (path : List ℕ) → IsVariant steps IsTable o n → value_at given.places n ≡ Some d → Leads given.bytes (start + f) (position_of given.bytes d)
+  variant_no_fault : (schema : Schema) (o : Option VariantSchema) (tag n d start f : ℕ) (path : List ℕ) → IsVariantOf steps IsTable o n → value_at given.places n ≡ Some d → Leads given.bytes (start + f) (position_of given.bytes d)
       → HaveNoFault (variant_events E schema tag (drop start given.bytes) f path o)
   variant_no_fault schema (Some variant) tag n d start f path is e leads = (refl, member_no_fault schema variant.kind n d start f path is e leads)
   variant_no_fault schema None tag n d start f path is e leads = absurd is
@@ -390,14 +390,14 @@ module _ (steps : List Step) (given : Finish) (values : AllByRecursion (ValueHol
     → HaveNoFault (E index (drop start given.bytes) f path))
     (schema : Schema) (k : ℕ) (entries : List (ℕ × Field)) (seen : Seen) (sees : Sees given.bytes k entries seen) (path : List ℕ) (i : ℕ) (required : Bool)
     (tags_are : AllByRecursion HasTags schema.unions.items) where
-  place_no_fault : (kind : Kind) (o : Option FieldStep) → IsField steps IsTable required kind o → SameSlot given.places o (field_at entries i)
+  place_no_fault : (kind : Kind) (o : Option FieldStep) → IsFieldOf steps IsTable required kind o → SameSlot given.places o (field_at entries i)
       → HaveNoFault (present E schema required path (Slot seen.slots i) (place_events E kind seen.object (Slot seen.slots i) path))
   place_no_fault kind o is same =
       subst (λ bytes. HaveNoFault (present E schema required path (Slot seen.slots i) (place_events E kind bytes (Slot seen.slots i) path))) (sym sees.object)
       (present_no_fault steps given values E IsTable tables schema required kind o (field_at entries i) k (Slot seen.slots i) path is same (sees.slots i))
 
   absent_no_fault : (kind : Kind) (o : Option FieldStep) (es : List Event) → plain_field_size kind ≡ None → ((n : ℕ) → IsReferred steps IsTable kind n → ⊥)
-      → IsField steps IsTable required kind o → SameSlot given.places o (field_at entries i) → HaveNoFault (present E schema required path (Slot seen.slots i) es)
+      → IsFieldOf steps IsTable required kind o → SameSlot given.places o (field_at entries i) → HaveNoFault (present E schema required path (Slot seen.slots i) es)
   absent_no_fault kind None es none refers is same =
       let zero_here : Slot seen.slots i ≡ 0 = subst (SlotReads given.bytes k (Slot seen.slots i)) same (sees.slots i) in
       let test : (Slot seen.slots i == 0) ≡ true = eq-eqb (Slot seen.slots i) 0 zero_here in rw test (absent_is required path is)
@@ -411,7 +411,7 @@ module _ (steps : List Step) (given : Finish) (values : AllByRecursion (ValueHol
     where
       by_union : (o : Option (Vec VariantSchema Global)) → ((variants : Vec VariantSchema Global) → o ≡ Some variants → HasTags variants) → IsTagged steps IsTable o 0 n → ⊥
       by_union None tagged is = is
-      by_union (Some variants) tagged is = subst (λ (v : Option VariantSchema). IsVariant steps IsTable v n) (tagged variants refl) is
+      by_union (Some variants) tagged is = subst (λ (v : Option VariantSchema). IsVariantOf steps IsTable v n) (tagged variants refl) is
 
   union_no_fault : (index : ℕ) (o p : Option FieldStep) → IsUnion steps IsTable required (slice_get schema.unions.items index) o p → SameSlot given.places o (field_at entries i)
       → SameSlot given.places p (field_at entries (i + 1)) → HaveNoFault (kind_events E schema required (Union index) i seen path)

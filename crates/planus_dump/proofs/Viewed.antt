@@ -21,7 +21,7 @@ use Rattle.planus_dump.specs.declared.end.End.{End}
 use Rattle.planus_dump.specs.declared.view_error.ViewError.{ViewError}
 use Rattle.planus_dump.specs.declared.view_error.ViewError.TheVariants.{OutOfMemory, BadSchema, Write}
 use Rattle.planus_dump.specs.inner.Shown.{begin, feed}
-use Rattle.planus_dump.specs.inner.Feeding.{Outcome, Shows, Fed}
+use Rattle.planus_dump.specs.inner.Feeding.{FeedResult, Shows, Fed}
 use Rattle.planus_dump.specs.inner.Writes.{WritesOn, BeginsOn, Writes, WritesPart}
 use Rattle.planus_dump.proofs.Ending.{ends_by, are_lines, lines_after}
 use Rattle.planus_dump.proofs.Feeds.{AreLines, Answered, walked, some_line, some_lines_shown}
@@ -105,7 +105,7 @@ module _ {W : Type 0} (contents : W → Option (List ℕ)) where
       by_end front rest split (inl did) = of_front start out.lines es front rest most size split did.lines did.shown (on_begun contents start out.lines (lines_text did.lines) did.written) out refl
       by_end front rest split (inr did) = of_front start out.lines es front rest most size split did.lines did.shown did.begun out refl
 
-  pub whole : (schema : Schema) (bytes : List ℕ) (most size : ℕ) (start : LineWriter W) (old out : LineSink (LineWriter W)) (r : Outcome) (mid last : W) (end : End)
+  pub whole : (schema : Schema) (bytes : List ℕ) (most size : ℕ) (start : LineWriter W) (old out : LineSink (LineWriter W)) (r : FeedResult) (mid last : W) (end : End)
       → is_good schema ≡ true → Starts start
       → (Writes contents start [] start → Shows (Writes contents) (WritesPart contents) start old (begin most (Some size)))
       → Fed (Writes contents) (WritesPart contents) old (events_of schema bytes) r out → IsOk r → end ≡ out.end
@@ -126,7 +126,7 @@ module _ {W : Type 0} (contents : W → Option (List ℕ)) where
       }
 
   -- the same of what was lent, by what ends the loan
-  pub whole_lent : (schema : Schema) (bytes : List ℕ) (most size : ℕ) (start : LineWriter W) (old out : LineSink (LineWriter W)) (r : Outcome) (mid lent : W)
+  pub whole_lent : (schema : Schema) (bytes : List ℕ) (most size : ℕ) (start : LineWriter W) (old out : LineSink (LineWriter W)) (r : FeedResult) (mid lent : W)
       (end : End) → is_good schema ≡ true → Starts start
       → (Writes contents start [] start → Shows (Writes contents) (WritesPart contents) start old (begin most (Some size)))
       → Fed (Writes contents) (WritesPart contents) old (events_of schema bytes) r out → IsOk r → end ≡ out.end
@@ -137,7 +137,7 @@ module _ {W : Type 0} (contents : W → Option (List ℕ)) where
       subst (λ w. WritesView schema bytes most size (record { end = end; has_fault = out.lines.has_fault; lines_left = out.left; bytes_left = unwrap_or out.room 0 }) (contents w) (contents last)) from
       (whole schema bytes most size start old out r mid last end good new begun fed is ended rest there)
 
-  pub part : (schema : Schema) (bytes : List ℕ) (most size : ℕ) (start : LineWriter W) (old out : LineSink (LineWriter W)) (r : Outcome) (mid last : W)
+  pub part : (schema : Schema) (bytes : List ℕ) (most size : ℕ) (start : LineWriter W) (old out : LineSink (LineWriter W)) (r : FeedResult) (mid last : W)
       → is_good schema ≡ true → Starts start
       → (Writes contents start [] start → Shows (Writes contents) (WritesPart contents) start old (begin most (Some size)))
       → Fed (Writes contents) (WritesPart contents) old (events_of schema bytes) r out
@@ -170,7 +170,7 @@ module _ {W : Type 0} (contents : W → Option (List ℕ)) where
       }
 
   -- the same of what was lent, by what ends the loan
-  pub part_lent : (schema : Schema) (bytes : List ℕ) (most size : ℕ) (start : LineWriter W) (old out : LineSink (LineWriter W)) (r : Outcome) (mid lent : W)
+  pub part_lent : (schema : Schema) (bytes : List ℕ) (most size : ℕ) (start : LineWriter W) (old out : LineSink (LineWriter W)) (r : FeedResult) (mid lent : W)
       (error : ViewError) → error ≢ BadSchema → is_good schema ≡ true → Starts start
       → (Writes contents start [] start → Shows (Writes contents) (WritesPart contents) start old (begin most (Some size)))
       → Fed (Writes contents) (WritesPart contents) old (events_of schema bytes) r out

@@ -38,13 +38,13 @@ plain_field_size U8 = Some 1
 plain_field_size I8 = Some 1
 plain_field_size _ = None
 
-abbrev pub IsText : Option Step → Type 0
-IsText (Some (text content)) = ⊤
-IsText _ = ⊥
+abbrev pub IsTextStep : Option Step → Type 0
+IsTextStep (Some (text content)) = ⊤
+IsTextStep _ = ⊥
 
-abbrev pub IsByteList : Option Step → Type 0
-IsByteList (Some (bytes content)) = ⊤
-IsByteList _ = ⊥
+abbrev pub IsByteListStep : Option Step → Type 0
+IsByteListStep (Some (bytes content)) = ⊤
+IsByteListStep _ = ⊥
 
 abbrev pub held_at : List (ℕ × FieldStep) → ℕ → Option FieldStep
 held_at [] slot = None
@@ -53,7 +53,7 @@ held_at (field ∷ fields) slot = if field.0 == slot then Some field.1 else held
 -- IsTable index n: the schema's table with this index describes step n.
 module _ (steps : List Step) (IsTable : ℕ → ℕ → Type 0) where
   abbrev pub IsItem : Item → ℕ → Type 0
-  IsItem Text n = IsText (slice_get steps n)
+  IsItem Text n = IsTextStep (slice_get steps n)
   IsItem (Table index) n = IsTable index n
   IsItem _ n = ⊥
 
@@ -67,31 +67,31 @@ module _ (steps : List Step) (IsTable : ℕ → ℕ → Type 0) where
 
   abbrev pub IsReferred : Kind → ℕ → Type 0
   IsReferred (One item) n = IsItem item n
-  IsReferred Bytes n = IsByteList (slice_get steps n)
+  IsReferred Bytes n = IsByteListStep (slice_get steps n)
   IsReferred (ListOf item) n = IsListOf item (slice_get steps n)
   IsReferred _ n = ⊥
 
   -- the field isn't required and is absent, a number of its size, or a reference to a value of the
   -- kind
-  abbrev pub IsField : Truth → Kind → Option FieldStep → Type 0
-  IsField required kind None = required ≡ false
-  IsField required kind (Some (number_field width value)) = plain_field_size kind ≡ Some width
-  IsField required kind (Some (ref_field n)) = IsReferred kind n
-  IsField required kind (Some (tags_field n)) = ⊥
-  IsField required kind (Some (values_field n)) = ⊥
+  abbrev pub IsFieldOf : Truth → Kind → Option FieldStep → Type 0
+  IsFieldOf required kind None = required ≡ false
+  IsFieldOf required kind (Some (number_field width value)) = plain_field_size kind ≡ Some width
+  IsFieldOf required kind (Some (ref_field n)) = IsReferred kind n
+  IsFieldOf required kind (Some (tags_field n)) = ⊥
+  IsFieldOf required kind (Some (values_field n)) = ⊥
 
   -- of structs nothing is said
   abbrev pub IsMember : VariantKind → ℕ → Type 0
   IsMember (member.Table index) n = IsTable index n
   IsMember (member.Struct index) n = ⊥
-  IsMember member.Text n = IsText (slice_get steps n)
+  IsMember member.Text n = IsTextStep (slice_get steps n)
 
-  abbrev pub IsVariant : Option VariantSchema → ℕ → Type 0
-  IsVariant (Some variant) n = IsMember variant.kind n
-  IsVariant None n = ⊥
+  abbrev pub IsVariantOf : Option VariantSchema → ℕ → Type 0
+  IsVariantOf (Some variant) n = IsMember variant.kind n
+  IsVariantOf None n = ⊥
 
   abbrev pub IsTagged : Option (Vec VariantSchema Global) → ℕ → ℕ → Type 0
-  IsTagged (Some variants) tag n = IsVariant (variant_of variants.items tag) n
+  IsTagged (Some variants) tag n = IsVariantOf (variant_of variants.items tag) n
   IsTagged None tag n = ⊥
 
   -- both slots are absent, or hold a tag of one byte and a reference to its table
@@ -123,7 +123,7 @@ module _ (steps : List Step) (IsTable : ℕ → ℕ → Type 0) where
     HasKind fields i required (UnionVector index) =
         IsUnionVector required (slice_get schema.unions.items index) (held_at fields i)
         (held_at fields (i + 1))
-    HasKind fields i required kind = IsField required kind (held_at fields i)
+    HasKind fields i required kind = IsFieldOf required kind (held_at fields i)
 
     abbrev pub IsTableOf : Option TableSchema → Option Step → Type 0
     IsTableOf (Some shape) (Some (table fields)) =

@@ -43,20 +43,20 @@ pub record Begin (es : List Event) (lines : List (List ℕ)) (rest : List Event)
 
 -- The lines, if they fit the budget and no table is too deep; else the error that comes first. Out
 -- of memory is allowed unless the budget is 0.
-abbrev pub Answers : List Event → ℕ → Result (Vec (String Global) Global) DumpError → Type 0
-Answers es budget (Ok lines) =
+abbrev pub AnswersEvents : List Event → ℕ → Result (Vec (String Global) Global) DumpError → Type 0
+AnswersEvents es budget (Ok lines) =
     Begin es (map string_bytes lines.items) [] × (length lines.items ≤ budget)
-Answers es budget (Err TooDeep) =
+AnswersEvents es budget (Err TooDeep) =
     (lines : List (List ℕ)) × (rest : List Event) × Begin es lines (deep ∷ rest)
     × (length lines ≤ budget)
-Answers es budget (Err TooManyLines) =
+AnswersEvents es budget (Err TooManyLines) =
     (lines : List (List ℕ)) × (next : Event) × (rest : List Event)
     × Begin es lines (next ∷ rest) × (next ≢ deep) × (length lines ≡ budget)
-Answers es budget (Err BadSchema) = ⊥
-Answers es budget (Err OutOfMemory) = 0 < budget
+AnswersEvents es budget (Err BadSchema) = ⊥
+AnswersEvents es budget (Err OutOfMemory) = 0 < budget
 
 -- `BadSchema` exactly for a bad schema, else the result for the events.
 abbrev pub Dumped : Schema → List ℕ → ℕ → Result (Vec (String Global) Global) DumpError → Type 0
 Dumped schema bytes budget (Err BadSchema) = is_good schema ≡ false
 Dumped schema bytes budget result =
-    (is_good schema ≡ true) × Answers (events_of schema bytes) budget result
+    (is_good schema ≡ true) × AnswersEvents (events_of schema bytes) budget result

@@ -51,20 +51,20 @@ abbrev pub IsFault : List ℕ → Bool → List ℕ → Type 0
 IsFault words clean printed = (clean ≡ false) × (printed ≡ line_of words)
 
 -- what is printed for a dump's result: its lines, or its error
-abbrev pub PrintsAnswer :
+abbrev pub PrintsDumpAnswer :
     Result (Vec (String Global) Global) DumpError → Bool → List ℕ → Type 0
-PrintsAnswer (Ok lines) clean printed =
+PrintsDumpAnswer (Ok lines) clean printed =
     (clean ≡ true) × (printed ≡ flat_map line_of (map string_bytes lines.items))
-PrintsAnswer (Err OutOfMemory) clean printed = IsFault (codes "out of memory") clean printed
-PrintsAnswer (Err BadSchema) clean printed = IsFault (codes "bad schema") clean printed
-PrintsAnswer (Err TooDeep) clean printed = IsFault (codes "too deep") clean printed
-PrintsAnswer (Err TooManyLines) clean printed = IsFault (codes "too many lines") clean printed
+PrintsDumpAnswer (Err OutOfMemory) clean printed = IsFault (codes "out of memory") clean printed
+PrintsDumpAnswer (Err BadSchema) clean printed = IsFault (codes "bad schema") clean printed
+PrintsDumpAnswer (Err TooDeep) clean printed = IsFault (codes "too deep") clean printed
+PrintsDumpAnswer (Err TooManyLines) clean printed = IsFault (codes "too many lines") clean printed
 
 abbrev pub PrintsBytes : Schema → Option (List ℕ) → Bool → List ℕ → Type 0
 PrintsBytes schema None clean printed = IsFault (codes "bad hex") clean printed
 PrintsBytes schema (Some bytes) clean printed =
     (answer : Result (Vec (String Global) Global) DumpError) × Dumped schema bytes budget answer
-    × PrintsAnswer answer clean printed
+    × PrintsDumpAnswer answer clean printed
 
 abbrev pub PrintsDump : Schema → List ℕ → Bool → List ℕ → Type 0
 PrintsDump schema input clean printed =

@@ -6,7 +6,7 @@ ghost use Rattle.planus_script.specs.Printed.{line_of};
 ghost use Rattle.planus_script.specs.inner.Outputs.{is_clean, printed_text};
 ghost use Rattle.planus_script.specs.Runner.{LeavesUnwritten};
 ghost use Rattle.planus_script.specs.DumpRuns.{spaced_bytes, input_bytes, vec_bytes};
-ghost use Rattle.planus_script.specs.DumpRuns.{IsFault, PrintsAnswer, PrintsDump, WritesDump};
+ghost use Rattle.planus_script.specs.DumpRuns.{IsFault, PrintsDumpAnswer, PrintsDump, WritesDump};
 ghost use Rattle.planus_script.specs.DumpRuns.{BeginsDump};
 
 use crate::output::Output;
@@ -86,7 +86,7 @@ fn answer_of_dump(
     alloc: Global,
     answer: &Result<Vec<String>, DumpError>,
 ) -> Result<Output, AllocError>
-    ensures { IfOk result (λ output. PrintsAnswer answer.now
+    ensures { IfOk result (λ output. PrintsDumpAnswer answer.now
         (is_clean output) (printed_text output)) }
 {
     match answer {

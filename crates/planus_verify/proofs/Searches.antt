@@ -8,7 +8,8 @@ use Rattle.planus_read.specs.Tables.{table_object, table_slots, table_start}
 use Rattle.planus_read.specs.declared.errors.ErrorKind.{ErrorKind}
 use Rattle.planus_read.specs.declared.table_reader.Table.{Table}
 use Rattle.planus_verify.specs.Schemas.{Shapes, fields_of}
-use Rattle.planus_verify.specs.Searches.{Answers, LeadsWithin, Through, SearchesTable, SearchesSteps}
+use Rattle.planus_verify.specs.Searches.{AnswersSearch, LeadsWithin, Through, SearchesTable}
+use Rattle.planus_verify.specs.Searches.{SearchesSteps}
 use Rattle.planus_verify.specs.Searches.{SearchesField, SearchesFields, Puts, Extends}
 use Rattle.planus_verify.specs.Steps.{Step, Tests, items_from, reference_steps, variant_steps}
 use Rattle.planus_verify.specs.Steps.{field_steps, fields_steps}
@@ -33,14 +34,14 @@ either first second (inr b) = second b
 
 pub none_wanted :
     (A : Wanted) (tables left : ℕ) → ((trail : List FieldPlace) → A trail → ⊥)
-    → Answers A tables left (Ok left)
+    → AnswersSearch A tables left (Ok left)
 none_wanted A tables left none = (none, omega arith)
 
 -- where a search stops
 pub stops :
     (A B : Wanted) (m n left : ℕ) (end : SearchEnd)
-    → ((trail : List FieldPlace) → A trail → B trail) → m ≤ n → Answers A m left (Err end)
-    → Answers B n left (Err end)
+    → ((trail : List FieldPlace) → A trail → B trail) → m ≤ n → AnswersSearch A m left (Err end)
+    → AnswersSearch B n left (Err end)
 stops A B m n left (Found trail) there more h = there (reverse trail.items) h
 stops A B m n left TooMany there more h = omega (arith, more, h)
 stops A B m n left NoMemory there more h = (h.0, there h.0 h.1)
@@ -49,8 +50,8 @@ stops A B m n left NoMemory there more h = (h.0, there h.0 h.1)
 pub continues :
     (A B C : Wanted) (m n k left next : ℕ) (r : Result ℕ SearchEnd)
     → ((trail : List FieldPlace) → C trail → A trail ⊎ B trail)
-    → ((trail : List FieldPlace) → B trail → C trail) → m + n ≤ k → Answers A m left (Ok next)
-    → Answers B n next r → Answers C k left r
+    → ((trail : List FieldPlace) → B trail → C trail) → m + n ≤ k → AnswersSearch A m left (Ok next)
+    → AnswersSearch B n next r → AnswersSearch C k left r
 continues A B C m n k left next (Ok rest) part there more first second = (
   λ trail wanted. either (first.0 trail) (second.0 trail) (part trail wanted),
   let one = first.1 in let two = second.1 in omega (arith, more, one, two),
@@ -66,16 +67,16 @@ continues A B C m n k left next (Err NoMemory) part there more first second =
 pub answers_as :
     (A B : Wanted) (m n left : ℕ) (r : Result ℕ SearchEnd)
     → ((trail : List FieldPlace) → A trail → B trail)
-    → ((trail : List FieldPlace) → B trail → A trail) → m ≤ n → Answers A m left r
-    → Answers B n left r
+    → ((trail : List FieldPlace) → B trail → A trail) → m ≤ n → AnswersSearch A m left r
+    → AnswersSearch B n left r
 answers_as A B m n left (Ok rest) there back more h =
     ((λ trail wanted. h.0 trail (back trail wanted)), let one = h.1 in omega (arith, more, one))
 answers_as A B m n left (Err end) there back more h = stops A B m n left end there more h
 
 -- a table more
 one_more :
-    (A : Wanted) (m left : ℕ) (r : Result ℕ SearchEnd) → Answers A m left r
-    → Answers A (1 + m) (suc left) r
+    (A : Wanted) (m left : ℕ) (r : Result ℕ SearchEnd) → AnswersSearch A m left r
+    → AnswersSearch A (1 + m) (suc left) r
 one_more A m left (Ok rest) h = (h.0, let one = h.1 in omega (arith, one))
 one_more A m left (Err (Found trail)) h = h
 one_more A m left (Err TooMany) h = omega (arith, h)
@@ -83,7 +84,7 @@ one_more A m left (Err NoMemory) h = h
 
 pub put_alone :
     (A : Wanted) (m left : ℕ) (places : List FieldPlace) (place : FieldPlace) (end : SearchEnd)
-    → places ≡ [] → A (place ∷ []) → Puts places place end → Answers A m left (Err end)
+    → places ≡ [] → A (place ∷ []) → Puts places place end → AnswersSearch A m left (Err end)
 put_alone A m left places place (Found trail) none h puts =
     let same : trail.items ≡ place ∷ [] = puts ∙ ap (λ l. l ++ place ∷ []) none in
     subst A (sym (ap reverse same)) h
@@ -189,7 +190,7 @@ module _ (schema : Shapes) (Ends : OfPlace) (n : ℕ) where
 
     reference_extended :
         (left : ℕ) (r s : Result ℕ SearchEnd)
-        → Answers Here (tables t (drop (target S f) S) (slots_of S (target S f)) (start + target S f))
+        → AnswersSearch Here (tables t (drop (target S f) S) (slots_of S (target S f)) (start + target S f))
         left r → Extends at r s
         → SearchesSteps schema Ends n (reference_steps (fault.Field at) t S start f) left s
     reference_extended left (Ok rest) s h same =

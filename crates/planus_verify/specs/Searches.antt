@@ -14,12 +14,12 @@ use Rattle.planus_verify.specs.declared.search_end.SearchEnd.TheVariants.{Found,
 -- Of the trails that are wanted, and so many tables that may be reached: there is none, and so many
 -- more tables may be reached; or there is one, which is returned in reverse if memory is there; or
 -- the tables are too many.
-abbrev pub Answers : (List FieldPlace → Type 0) → ℕ → ℕ → Result ℕ SearchEnd → Type 0
-Answers IsWanted tables left (Ok rest) =
+abbrev pub AnswersSearch : (List FieldPlace → Type 0) → ℕ → ℕ → Result ℕ SearchEnd → Type 0
+AnswersSearch IsWanted tables left (Ok rest) =
     ((trail : List FieldPlace) → IsWanted trail → ⊥) × (left ≤ rest + tables)
-Answers IsWanted tables left (Err (Found trail)) = IsWanted (reverse trail.items)
-Answers IsWanted tables left (Err TooMany) = left < tables
-Answers IsWanted tables left (Err NoMemory) = (trail : List FieldPlace) × IsWanted trail
+AnswersSearch IsWanted tables left (Err (Found trail)) = IsWanted (reverse trail.items)
+AnswersSearch IsWanted tables left (Err TooMany) = left < tables
+AnswersSearch IsWanted tables left (Err NoMemory) = (trail : List FieldPlace) × IsWanted trail
 
 -- The trail begins at this table, and has at most n places.
 abbrev pub LeadsWithin : Shapes → OfPlace → ℕ → List FieldPlace → OfTable
@@ -38,27 +38,29 @@ Through schema Ends n RefersTo (first ∷ rest) =
 abbrev pub SearchesTable :
     Shapes → OfPlace → ℕ → ℕ → List ℕ → List ℕ → ℕ → ℕ → Result ℕ SearchEnd → Type 0
 SearchesTable schema Ends n t S V start =
-    Answers (λ trail. LeadsWithin schema Ends n trail t S V start) (tables_in schema n t S V start)
+    AnswersSearch (λ trail. LeadsWithin schema Ends n trail t S V start)
+    (tables_in schema n t S V start)
 
 -- all references in some steps
 abbrev pub SearchesSteps :
     Shapes → OfPlace → ℕ → List Step → ℕ → Result ℕ SearchEnd → Type 0
 SearchesSteps schema Ends n steps =
-    Answers (Through schema Ends n (λ at. EntersAfter (fault.Field at) steps))
+    AnswersSearch (Through schema Ends n (λ at. EntersAfter (fault.Field at) steps))
     (steps_tables (tables_in schema n) steps)
 
 -- those of a field, by its steps
 abbrev pub SearchesField :
     Shapes → OfPlace → ℕ → List Step → ℕ → Result ℕ SearchEnd → Type 0
 SearchesField schema Ends n steps =
-    Answers (Through schema Ends n (FieldRefers steps)) (steps_tables (tables_in schema n) steps)
+    AnswersSearch (Through schema Ends n (FieldRefers steps))
+    (steps_tables (tables_in schema n) steps)
 
 -- those of some fields of the table t
 abbrev pub SearchesFields :
     Shapes → OfPlace → ℕ → ℕ → List ℕ → List ℕ → ℕ → List FieldShape → ℕ → Result ℕ SearchEnd
     → Type 0
 SearchesFields schema Ends n t S V start fields =
-    Answers (Through schema Ends n (FieldsRefer schema.variants t S V start fields))
+    AnswersSearch (Through schema Ends n (FieldsRefer schema.variants t S V start fields))
     (steps_tables (tables_in schema n) (fields_steps schema.variants t S V start fields))
 
 -- a place after those of a trail in reverse

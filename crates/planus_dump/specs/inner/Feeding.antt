@@ -27,8 +27,8 @@ abbrev pub IsStopped : {L : Type 0} → LineSink L → Bool → Type 0
 IsStopped out true = out.end ≢ Whole
 IsStopped out false = out.end ≡ Whole
 
-abbrev pub Outcome : Type 0
-Outcome = Result (Unit {0}) SinkError
+abbrev pub FeedResult : Type 0
+FeedResult = Result (Unit {0}) SinkError
 
 module _ {L : Type 0} (takes breaks : Takes L) where
   -- since the start, these lines were taken
@@ -46,12 +46,12 @@ module _ {L : Type 0} (takes breaks : Takes L) where
     pub broken : takes start front now ⊎ breaks start front now
 
   -- The events were fed to the lines so far, or a beginning of them was.
-  unfoldable pub Fed : LineSink L → List Event → Outcome → LineSink L → Type 0
+  unfoldable pub Fed : LineSink L → List Event → FeedResult → LineSink L → Type 0
   Fed old es (Ok u) new = (start : L) (s : Shown) → Shows start old s → Shows start new (feed s es)
   Fed old es (Err error) new =
       (start : L) (s : Shown) → Shows start old s → Breaks start (feed s es).lines new.lines
 
-  abbrev pub Feeds : LineSink L → List Event → Outcome → LineSink L → Type 0
+  abbrev pub Feeds : LineSink L → List Event → FeedResult → LineSink L → Type 0
   Feeds old given result new = (es : List Event) → es ≡ given → Fed old es result new
 
   -- the same where nothing can fail
