@@ -21,7 +21,7 @@ use Rattle.planus.specs.Accessors.{FieldKind, SameIf, IsField, IsRequired}
 use Rattle.planus.specs.Accessors.{plains_kind, texts_kind}
 use Rattle.planus.specs.Accessors.{tables_kind, table_kind, TableIsThere, IsViewOf}
 use Rattle.planus.specs.ReadBack.{ContentsReadBack, FieldHolds, SlotHolds, AllStand}
-use Rattle.planus.specs.ReadBack.{TableStands, TableHolds}
+use Rattle.planus.specs.ReadBack.{ContentsStand, TableHolds}
 use Rattle.planus.specs.ReadVectors.{reads_vector, ArePlainItems, AreReferences}
 use Rattle.planus.specs.Views.{reads_as}
 use Rattle.planus.proofs.ReadBack.{absent_fields_read_back, contents_read_back, holds_at}
@@ -147,7 +147,7 @@ module _ (T : Type 0) {R : Type 0} (kind : PlainGhosts R) where
 
 module _ {T : Type 0} (table_of : T → Table) where
   pub view_led : (B : List ℕ) (contents : List (ℕ × Option Content)) (distance : ℕ)
-      → TableStands B contents distance → (start f : ℕ)
+      → ContentsStand B contents distance → (start f : ℕ)
       → Leads B (start + f) (position_of B distance) → (r : Result T ErrorKind)
       → reads_as table_of (drop start B) start f r
       → IsOkAnd r (λ view. TableHolds B contents (table_of view))

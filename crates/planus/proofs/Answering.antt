@@ -21,9 +21,9 @@ use Rattle.planus_write.specs.lemmas.PartBytes.{finish_size, sized_finish_size}
 use Rattle.planus.specs.Steps.{Step, text, bytes, numbers, refs, unions, struct, table, finish, clear}
 use Rattle.planus.specs.Steps.{root_first, size_first}
 use Rattle.planus.specs.Slots.{greatest_field}
-use Rattle.planus.specs.Kinds.{Kind, a_value, a_union_vector, kind_of, kind_named, naming_fault}
+use Rattle.planus.specs.Kinds.{StepKind, a_value, a_union_vector, kind_of, kind_named, naming_fault}
 use Rattle.planus.specs.Runs.{struct_width, struct_value, fits_alignment}
-use Rattle.planus.specs.Runs.{State, nothing_written, cleared, Advances, LeadsTo, Writes, StepTooLarge}
+use Rattle.planus.specs.Runs.{RunState, nothing_written, cleared, Advances, LeadsTo, Writes, StepTooLarge}
 use Rattle.planus.specs.Runs.{named_at, value_at, union_of, all_of, width_of, fits_width, numbers_value, value_of}
 use Rattle.planus.specs.Runs.{entries_put, finish_of, values_added, finishes_added}
 use Rattle.planus.specs.Replays.{is_clear, named_step, fault_of, first_fault, union_fault, numbers_fault, struct_fault}
@@ -88,7 +88,7 @@ all_or_not settings (entry ∷ entries) got history fit h =
           ]
     ]
 
-is_of_kind : (kind : Kind) (of : Option Kind) → naming_fault kind (Some of) ≡ None → of ≡ Some kind
+is_of_kind : (kind : StepKind) (of : Option StepKind) → naming_fault kind (Some of) ≡ None → of ≡ Some kind
 is_of_kind kind None e = (cc)
 is_of_kind a_value (Some a_value) e = refl
 is_of_kind a_value (Some a_union_vector) e = (cc)
@@ -126,11 +126,11 @@ all_are is_there fault made (x ∷ xs) e =
     let rest = all_are is_there fault made xs both.1 in
     (here.0 ∷ rest.0, rw (here.1, rest.1) refl)
 
-module _ (settings : CacheSettings) (cs : List Step) (state : State) (run : LeadsTo settings nothing_written cs state) where
+module _ (settings : CacheSettings) (cs : List Step) (state : RunState) (run : LeadsTo settings nothing_written cs state) where
   kept : Kept settings cs cs state
   kept = run_kept settings cs state run
 
-  abbrev fault_here : Kind → ℕ → Option Why
+  abbrev fault_here : StepKind → ℕ → Option Why
   fault_here kind number = fault_of kind (named_step cs number)
 
   good : GoodAreNamed state.listed fault_here
@@ -193,8 +193,8 @@ module _ (settings : CacheSettings) (cs : List Step) (state : State) (run : Lead
       )
   puts clear kind e = (cc)
 
-  written_or_not : (step : Step) → PutsFit step → StepTooLarge settings state step ⊎ ((after : State) × Writes settings state step after)
-  written_or_not step put = elim (all_or_not settings put.0 [] state.history put.2 kept.placed) as (λ _. StepTooLarge settings state step ⊎ ((after : State) × Writes settings state step after)) [
+  written_or_not : (step : Step) → PutsFit step → StepTooLarge settings state step ⊎ ((after : RunState) × Writes settings state step after)
+  written_or_not step put = elim (all_or_not settings put.0 [] state.history put.2 kept.placed) as (λ _. StepTooLarge settings state step ⊎ ((after : RunState) × Writes settings state step after)) [
     | inl far ↦ inl (record { entries = put.0; are = put.1; too_large = far })
     | inr all ↦ inr (
       record {
@@ -207,7 +207,7 @@ module _ (settings : CacheSettings) (cs : List Step) (state : State) (run : Lead
     )
   ]
 
-  pub on_or_too_large : (step : Step) → broken_check cs step ≡ None → StepTooLarge settings state step ⊎ ((after : State) × Advances settings state step after)
+  pub on_or_too_large : (step : Step) → broken_check cs step ≡ None → StepTooLarge settings state step ⊎ ((after : RunState) × Advances settings state step after)
   on_or_too_large (text content) e = written_or_not (text content) (puts (text content) refl e)
   on_or_too_large (bytes content) e = written_or_not (bytes content) (puts (bytes content) refl e)
   on_or_too_large (numbers width items) e = written_or_not (numbers width items) (puts (numbers width items) refl e)
@@ -219,7 +219,7 @@ module _ (settings : CacheSettings) (cs : List Step) (state : State) (run : Lead
   on_or_too_large clear e = inr (cleared state, refl)
 
 module _ (settings : CacheSettings) (all : List Step) where
-  answer_from : (cs rest : List Step) → all ≡ cs ++ rest → (state : State) → LeadsTo settings nothing_written cs state → first_bad cs ≡ None → IsAnswered settings all
+  answer_from : (cs rest : List Step) → all ≡ cs ++ rest → (state : RunState) → LeadsTo settings nothing_written cs state → first_bad cs ≡ None → IsAnswered settings all
   answer_from cs [] whole state run clean =
       let same : all ≡ cs = whole ∙ append-nil cs in
       (Ok state.finished, (ap first_bad same ∙ clean, (state, subst (λ steps. LeadsTo settings nothing_written steps state) (sym same) run, refl)), λ wants. wants)
@@ -227,7 +227,7 @@ module _ (settings : CacheSettings) (all : List Step) where
       (λ after on. answer_from (cs ++ step ∷ []) rest (whole ∙ sym (append_assoc cs (step ∷ []) rest)) after
       (leads_on settings nothing_written state after cs step run on) (still_clean settings all cs step rest whole state run clean after on))
     where
-      by_check : (check : Option Why) → broken_check cs step ≡ check → ((after : State) → Advances settings state step after → IsAnswered settings all) → IsAnswered settings all
+      by_check : (check : Option Why) → broken_check cs step ≡ check → ((after : RunState) → Advances settings state step after → IsAnswered settings all) → IsAnswered settings all
       by_check (Some why) is further = (Err (BadStep (length cs) why), bad_step settings all cs step rest whole state run clean (length cs) why refl is, λ wants. wants)
       by_check None is further = elim (on_or_too_large settings cs state run step is) as (λ _. IsAnswered settings all) [
         | inl far ↦ (Err TooLarge, too_large settings all cs step rest whole state run clean far, λ wants. wants)

@@ -3,13 +3,13 @@ use Rattle.std.proofs.Common.{◌≡◌, ℕ, List, [], ◌∷◌, ◌++◌, ref
 use Rattle.std.proofs.Common.{append_assoc, append-nil, sym}
 use Rattle.std.specs.Option.{option_or}
 use Rattle.planus.specs.Steps.{FieldStep, number_field, ref_field, tags_field, values_field}
-use Rattle.planus.specs.Kinds.{Kind, a_value, a_union_vector}
+use Rattle.planus.specs.Kinds.{StepKind, a_value, a_union_vector}
 use Rattle.planus.specs.Slots.{slot_fault, rising_fault, alignment_of}
 use Rattle.planus.specs.TableChecks.{content_fault, field_fault, fields_fault}
 use Rattle.planus.specs.inner.Declaring.{slots_of}
 use Rattle.planus.specs.declared.replaying.faults.Why.{Why}
 
-module _ (f g : Kind → ℕ → Option Why) (same : (kind : Kind) (n : ℕ) → f kind n ≡ g kind n) where
+module _ (f g : StepKind → ℕ → Option Why) (same : (kind : StepKind) (n : ℕ) → f kind n ≡ g kind n) where
   same_content : (content : FieldStep) → content_fault f content ≡ content_fault g content
   same_content (number_field width n) = refl
   same_content (ref_field step) = same a_value step
@@ -30,7 +30,7 @@ abbrev pub last_alignment : ℕ → List (ℕ × FieldStep) → ℕ
 last_alignment before [] = before
 last_alignment before (entry ∷ fields) = last_alignment (alignment_of entry.1) fields
 
-module _ (fault : Kind → ℕ → Option Why) where
+module _ (fault : StepKind → ℕ → Option Why) where
   pub faults_behind : (slots : List ℕ) (before : ℕ) (xs rest : List (ℕ × FieldStep)) → fields_fault fault slots before xs ≡ None
       → fields_fault fault slots before (xs ++ rest) ≡ fields_fault fault (slots ++ slots_of xs) (last_alignment before xs) rest
   faults_behind slots before [] rest none = ap (λ all. fields_fault fault all before rest) (sym (append-nil slots))

@@ -19,7 +19,7 @@ use Rattle.planus.specs.ReadBack.{SlotHolds, TableHolds, content_at, is_other, a
 use Rattle.planus.specs.FieldLines.{FieldLine, holds_first, holds_last, all_first, all_last}
 use Rattle.planus.specs.FieldLines.{contents_of, Returns, ReturnsGiven, AllReturnGiven}
 use Rattle.planus.specs.KeptValues.{ValuesStandIn}
-use Rattle.planus.specs.FieldLines.{KeptTablesStandIn, RootIsRead, ReadsBack}
+use Rattle.planus.specs.FieldLines.{KeptTablesStandIn, RootIsRead, LinesReadBack}
 use Rattle.planus.specs.FieldLines.FieldLine.{optional, required, plain_if, plain_or, number_or, signed_or, union, union_required, unions, unions_required}
 
 -- each entry is what a function has for its slot
@@ -123,7 +123,7 @@ module _ (B : List ℕ) (table : Table) where
 -- Where the table holds what the lines say, each method returns what was given.
 pub reads_back : (builder : State) (lines : List FieldLine) (B : List ℕ) (table : Table)
     → KeptTablesStandIn B builder → ValuesStandIn B builder → TableHolds B (contents_of lines) table
-    → are_apart (contents_of lines) ≡ true → ReadsBack builder lines table
+    → are_apart (contents_of lines) ≡ true → LinesReadBack builder lines table
 reads_back builder lines B table keeps keeps_values holds apart =
     let hold = all_hold B table (content_at (contents_of lines)) (contents_of lines) holds
     (agree (contents_of lines) apart) in record {
@@ -147,9 +147,9 @@ pub written_reads_back
     → IfOk r (RootIsRead table_of root identifier builder) → (history : History) × IsHistoryOf before history
     → WritesContents (contents_of lines) before root.distance builder
     → are_apart (contents_of lines) ≡ true
-    → IfOk r (λ read. IsOkAnd read (λ view. ReadsBack before lines (table_of view)))
+    → IfOk r (λ read. IsOkAnd read (λ view. LinesReadBack before lines (table_of view)))
 written_reads_back table_of before builder lines root identifier (Err e) is history writes apart = tt
 written_reads_back table_of before builder lines root identifier (Ok read) is history writes apart =
-    ok_also _ (λ view. ReadsBack before lines (table_of view)) read
+    ok_also _ (λ view. LinesReadBack before lines (table_of view)) read
     (λ view found. reads_back before lines found.0 (table_of view) found.2 found.3 found.4 apart)
     (is before (contents_of lines) history writes apart)

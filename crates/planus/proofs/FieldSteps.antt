@@ -15,7 +15,7 @@ use Rattle.planus_write.specs.lemmas.Staying.{kept_stays}
 use Rattle.planus_write.specs.Contents.{Content, Comes}
 use Rattle.planus.specs.Contents.{FieldsAre, there_of, TableIsKept, WritesRest}
 use Rattle.planus.specs.lemmas.ContentLaws.{fields_stay, contents_both}
-use Rattle.planus.specs.Preparing.{WritesFields, Fields, PreparesAfter, Turn, take_turns, next_turn, AreTaken, OneFails}
+use Rattle.planus.specs.Preparing.{WritesFields, FieldsInTurn, PreparesAfter, Turn, take_turns, next_turn, AreTaken, OneFails}
 use Rattle.planus.specs.TableFields.{all_of, field_in}
 
 pub if_ok : {T E : Type 0} {P Q : T → Type 0} (r : Result T E) → ((x : T) → P x → Q x) → IfOk r P
@@ -42,28 +42,28 @@ then_comes first second old a between (Ok b) new done rest = (a, between, done, 
 then_comes first second old a between (Err error) new done rest = inr (a, between, done, rest)
 
 -- turns that were taken, and then others
-pub taken_then : (turns : List Turn) (others : PreparesAfter) (before : Fields) (old between : State)
-    (fields : Fields) → AreTaken turns old fields between
-    → (answer : Result Fields BuildError) (new : State)
+pub taken_then : (turns : List Turn) (others : PreparesAfter) (before : FieldsInTurn) (old between : State)
+    (fields : FieldsInTurn) → AreTaken turns old fields between
+    → (answer : Result FieldsInTurn BuildError) (new : State)
     → others (before ++ fields) between answer new → take_turns turns others before old answer new
 unfolding next_turn
 taken_then [] others before old between fields taken answer new rest =
     subst (λ (state : State). others before state answer new) taken.1
-    (subst (λ (some : Fields). others some between answer new)
-    (ap (λ (some : Fields). before ++ some) taken.0 ∙ append-nil before) rest)
+    (subst (λ (some : FieldsInTurn). others some between answer new)
+    (ap (λ (some : FieldsInTurn). before ++ some) taken.0 ∙ append-nil before) rest)
 taken_then (turn ∷ turns) others before old between fields taken answer new rest =
     let one = field_in turn.slot turn.as_field taken.0 in
     let more = taken_then turns others (before ++ one ∷ []) taken.1 between taken.3.0 taken.3.2 answer
     new
-    (subst (λ (some : Fields). others some between answer new)
-    (ap (λ (some : Fields). before ++ some) taken.3.1 ∙ sym (append_assoc before (one ∷ []) taken.3.0))
+    (subst (λ (some : FieldsInTurn). others some between answer new)
+    (ap (λ (some : FieldsInTurn). before ++ some) taken.3.1 ∙ sym (append_assoc before (one ∷ []) taken.3.0))
     rest) in
     then_comes turn.outcome
     (λ value. take_turns turns others (before ++ field_in turn.slot turn.as_field value ∷ [])) old
     taken.0 taken.1 answer new taken.2 more
 
 -- turns of which one fails
-pub fails_then : (turns : List Turn) (others : PreparesAfter) (before : Fields) (old : State)
+pub fails_then : (turns : List Turn) (others : PreparesAfter) (before : FieldsInTurn) (old : State)
     (error : BuildError) (new : State) → OneFails turns old error new
     → take_turns turns others before old (Err error) new
 unfolding next_turn

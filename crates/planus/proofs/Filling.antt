@@ -13,7 +13,7 @@ use Rattle.planus.specs.declared.replaying.steps.Field as code
 use Rattle.planus.specs.Slots.{slot_fault, rising_fault, place_fault, alignment_of, greatest_field}
 use Rattle.planus.specs.Runs.{Listed, named_at, field_of, with_field, fields_of}
 use Rattle.planus.specs.TableChecks.{content_fault, field_fault, fields_fault, table_fault}
-use Rattle.planus.specs.Kinds.{Kind, a_value, a_union_vector, kind_named, naming_fault}
+use Rattle.planus.specs.Kinds.{StepKind, a_value, a_union_vector, kind_named, naming_fault}
 use Rattle.planus.specs.inner.Names.{name_of, listed_from, written_at, fault_since}
 use Rattle.planus.specs.declared.replaying.faults.Why.{Why}
 use Rattle.planus.specs.inner.Prepared.{field_reach}
@@ -83,7 +83,7 @@ reach_inside (first ∷ front) x back = let rest = reach_inside front x back in 
 named_good : (first : ℕ) (since : List (Option Named)) → GoodAreNamed (listed_from first since) (fault_since first since)
 named_good first since kind step none = by_case (written_at first since step) refl none
   where
-    by_kind : (wanted found : Kind) → naming_fault wanted (Some (Some found)) ≡ None → found ≡ wanted
+    by_kind : (wanted found : StepKind) → naming_fault wanted (Some (Some found)) ≡ None → found ≡ wanted
     by_kind a_value a_value e = refl
     by_kind a_value a_union_vector e = (cc)
     by_kind a_union_vector a_value e = (cc)
@@ -93,17 +93,17 @@ named_good first since kind step none = by_case (written_at first since step) re
         → (of : Named) × (named_at (listed_from first since) step ≡ Some of) × (kind_named of ≡ kind)
     by_case None is e = absurd (none_good kind e)
       where
-        none_good : (wanted : Kind) → naming_fault wanted None ≡ None → ⊥
+        none_good : (wanted : StepKind) → naming_fault wanted None ≡ None → ⊥
         none_good a_value e = (cc)
         none_good a_union_vector e = (cc)
     by_case (Some None) is e = absurd (finish_good kind e)
       where
-        finish_good : (wanted : Kind) → naming_fault wanted (Some None) ≡ None → ⊥
+        finish_good : (wanted : StepKind) → naming_fault wanted (Some None) ≡ None → ⊥
         finish_good a_value e = (cc)
         finish_good a_union_vector e = (cc)
     by_case (Some (Some name)) is e = (name, named_value first since step name is, by_kind kind (kind_named name) e)
 
-content_apart : (fault : Kind → ℕ → Option Why) (slots : List ℕ) (before : ℕ) (xs : List (ℕ × FieldStep)) (x : ℕ × FieldStep) (rest : List (ℕ × FieldStep))
+content_apart : (fault : StepKind → ℕ → Option Why) (slots : List ℕ) (before : ℕ) (xs : List (ℕ × FieldStep)) (x : ℕ × FieldStep) (rest : List (ℕ × FieldStep))
     → fields_fault fault slots before (xs ++ x ∷ rest) ≡ None → content_fault fault x.1 ≡ None
 content_apart fault slots before [] x rest e =
     let both = none_of (field_fault fault slots before x) (fields_fault fault (slots ++ x.0 ∷ []) (alignment_of x.1) rest) e in

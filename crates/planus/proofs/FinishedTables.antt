@@ -19,7 +19,7 @@ use Rattle.planus_write.specs.lemmas.Staying.{kept_stays}
 use Rattle.planus_write.specs.Contents.{Content, named_at}
 use Rattle.planus.specs.Contents.{TableIsKept, there_of}
 use Rattle.planus.specs.lemmas.ContentLaws.{fields_stay}
-use Rattle.planus.specs.ReadBack.{TableStands, are_apart, KeptTablesStay}
+use Rattle.planus.specs.ReadBack.{ContentsStand, are_apart, KeptTablesStay}
 use Rattle.planus.specs.ReadBack.{FinishesKeepTables, SizedFinishesKeepTables}
 use Rattle.planus.specs.ReadBack.{FinishedTablesStand, SizedFinishedTablesStand}
 use Rattle.planus.proofs.ReadBack.{kept_tables_stand}
@@ -33,7 +33,7 @@ tables_stay before after contents distance extends is = record {
 
 stands_behind : (history : History) (front : List ℕ) (contents : List (ℕ × Option Content)) (distance : ℕ)
     → TableIsKept history contents distance → are_apart contents ≡ true
-    → TableStands (front ++ history.written.bytes) contents distance
+    → ContentsStand (front ++ history.written.bytes) contents distance
 stands_behind history front contents distance kept apart =
     let behind : History = record history {
       written = record { bytes = front ++ history.written.bytes; promises = history.written.promises };
@@ -62,17 +62,17 @@ module _ (size : ℕ) (words : ℕ → List ℕ) (old : State) (history : Histor
 
   module _ (contents : List (ℕ × Option Content)) (distance : ℕ)
       (kept : TableIsKept history contents distance) (apart : are_apart contents ≡ true) where
-    stands_whole : TableStands new.bytes contents distance
+    stands_whole : ContentsStand new.bytes contents distance
     stands_whole =
-        subst (λ (B : List ℕ). TableStands B contents distance) (sym new_bytes)
+        subst (λ (B : List ℕ). ContentsStand B contents distance) (sym new_bytes)
         (stands_behind history front contents distance kept apart)
 
     stands_from : (n : ℕ) → ((place : ℕ) (pad : List ℕ) → n ≤ length (words place ++ pad))
-        → TableStands (drop n new.bytes) contents distance
+        → ContentsStand (drop n new.bytes) contents distance
     stands_from n inside =
         let within : n ≤ length front
         = inside adds.placed.place (replicate adds.placed.padding 0) in
-        subst (λ (B : List ℕ). TableStands B contents distance)
+        subst (λ (B : List ℕ). ContentsStand B contents distance)
         (sym (ap (drop n) new_bytes ∙ drop-append-le n front history.written.bytes within))
         (stands_behind history (drop n front) contents distance kept apart)
 
@@ -87,7 +87,7 @@ module _ {X T : Type 0} (may : X → State → Type 0) (outcome : X → Outcome 
       let offset = gives.1.0 in
       let between = gives.1.1 in
       let prepared = (lawful.grows root state (Ok offset) between may_be gives.1.2).history history is_history in
-      subst (λ (B : List ℕ). TableStands B contents distance) (sym gives.2)
+      subst (λ (B : List ℕ). ContentsStand B contents distance) (sym gives.2)
       (stands_whole (length (identifier_bytes identifier) + 4) (root_words offset.distance identifier)
       between prepared.0 prepared.1 gives.0 gives.1.3 contents distance
       (tables_stay history prepared.0 contents distance prepared.2 kept) apart)
@@ -101,10 +101,10 @@ module _ {X T : Type 0} (may : X → State → Type 0) (outcome : X → Outcome 
       let words : ℕ → List ℕ = sized_words offset.distance identifier in
       let still : TableIsKept prepared.0 contents distance
       = tables_stay history prepared.0 contents distance prepared.2 kept in (
-        subst (λ (B : List ℕ). TableStands B contents distance) (sym gives.2)
+        subst (λ (B : List ℕ). ContentsStand B contents distance) (sym gives.2)
             (stands_whole size words between prepared.0 prepared.1 gives.0 gives.1.3 contents distance
             still apart),
-        subst (λ (B : List ℕ). TableStands (drop 4 B) contents distance) (sym gives.2)
+        subst (λ (B : List ℕ). ContentsStand (drop 4 B) contents distance) (sym gives.2)
             (stands_from size words between prepared.0 prepared.1 gives.0 gives.1.3 contents distance
             still apart 4 (four_inside offset.distance identifier)),
       )

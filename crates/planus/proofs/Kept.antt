@@ -37,10 +37,10 @@ use Rattle.planus_write.specs.lemmas.StandingLaws.{values_are_kept, finishes_lea
 use Rattle.planus_write.specs.lemmas.StandingLaws.{finishes_are_identified, sized_finishes_stand}
 use Rattle.planus.specs.Steps.{Step, text, bytes, numbers, refs, unions, struct, table, finish, clear}
 use Rattle.planus.specs.Steps.{Front, root_first, size_first}
-use Rattle.planus.specs.Kinds.{Kind, kind_of, kind_named}
+use Rattle.planus.specs.Kinds.{StepKind, kind_of, kind_named}
 use Rattle.planus.specs.inner.Names.{IsReached}
 use Rattle.planus.specs.Runs.{struct_width}
-use Rattle.planus.specs.Runs.{Listed, Finish, State, nothing_written, Advances, LeadsTo, cleared}
+use Rattle.planus.specs.Runs.{Listed, Finish, RunState, nothing_written, Advances, LeadsTo, cleared}
 use Rattle.planus.specs.Runs.{named_at, value_of, finish_of, Writes, values_added, finishes_added}
 use Rattle.planus.specs.Runs.{value_distance, value_at, union_of, all_of, width_of, fields_of}
 use Rattle.planus.specs.Slots.{greatest_field}
@@ -83,10 +83,10 @@ pub value_reaches : (all done : List Step) (history : History) (listed : List Li
 value_reaches all done history listed one h = record { distance = h.kept.reached; tags = h.kept.tags_reached }
 
 abbrev pub ListsAll : List Step → List Listed → Type 0
-ListsAll done listed = (n : ℕ) (step : Step) (kind : Kind) → named_step done n ≡ Some step → kind_of step ≡ Some kind
+ListsAll done listed = (n : ℕ) (step : Step) (kind : StepKind) → named_step done n ≡ Some step → kind_of step ≡ Some kind
     → (named : Named) × (named_at listed n ≡ Some named) × (kind_named named ≡ kind)
 
-pub record Kept (settings : CacheSettings) (all done : List Step) (state : State) : Type 0 where
+pub record Kept (settings : CacheSettings) (all done : List Step) (state : RunState) : Type 0 where
   pub numbered : state.next ≡ length done
   pub placed : IsPlacedInTurn state.history
   pub cached : AllCachedKept state.history
@@ -95,7 +95,7 @@ pub record Kept (settings : CacheSettings) (all done : List Step) (state : State
   pub run : LeadsTo settings nothing_written done state
   pub finished : AllUtf8 all → AreFinishesOf settings all (finishes_of done) state.finished
 
-pub leads_on : (settings : CacheSettings) (before between after : State) (steps : List Step) (step : Step) → LeadsTo settings before steps between → Advances settings between step after
+pub leads_on : (settings : CacheSettings) (before between after : RunState) (steps : List Step) (step : Step) → LeadsTo settings before steps between → Advances settings between step after
     → LeadsTo settings before (steps ++ step ∷ []) after
 leads_on settings before between after [] step leads advances = (after, subst (λ s. Advances settings s step after) leads advances, refl)
 leads_on settings before between after (first ∷ steps) step leads advances = (leads.0, leads.1, leads_on settings leads.0 between after steps step leads.2 advances)
@@ -133,7 +133,7 @@ value_moves all done step before after listed more kind extends one v = record {
   kept = kept_stays before after v.value one.named extends v.kept;
 }
 
-module _ (settings : CacheSettings) (all done : List Step) (step : Step) (v : Value) (before after : State) (kind : is_clear step ≡ false) (there : slice_get all (length done) ≡ Some step)
+module _ (settings : CacheSettings) (all done : List Step) (step : Step) (v : Value) (before after : RunState) (kind : is_clear step ≡ false) (there : slice_get all (length done) ≡ Some step)
     (is_value : value_of before.listed step ≡ Some v) (written : IsWritten (length before.history.written.bytes) v) (well_formed : AllUtf8 all → WellFormed v) (got : List ℕ)
     (puts : PutsAll settings (entries_of v) [] before.history got after.history) (listed : after.listed ≡ before.listed ++ record { step = before.next; named = named_by v got } ∷ [])
     (next : after.next ≡ before.next + 1) (finished : after.finished ≡ before.finished ++ []) (run : LeadsTo settings nothing_written (done ++ step ∷ []) after)
@@ -202,7 +202,7 @@ greatest_rises : (promises : List Promise) → greatest_alignment 1 promises ≤
 greatest_rises [] = lit≤ tt
 greatest_rises (p ∷ promises) = let rest = greatest_rises promises in omega (arith, rest)
 
-pub root_behind : (all done : List Step) (before : State) (root to : ℕ) → AllByRecursion (ValueKept all done before.history before.listed) before.listed → value_at before.listed root ≡ Some to
+pub root_behind : (all done : List Step) (before : RunState) (root to : ℕ) → AllByRecursion (ValueKept all done before.history before.listed) before.listed → value_at before.listed root ≡ Some to
     → to ≤ length before.history.written.bytes
 root_behind all done before root to values found =
     value_behind (ValueKept all done before.history before.listed) (length before.history.written.bytes) (value_reaches all done before.history before.listed) before.listed values root to found
@@ -211,7 +211,7 @@ abbrev pub FrontHolds : Front → List Step → ℕ → ℕ → Option (List ℕ
 FrontHolds front all root to identifier given =
     ReferenceStands given.bytes (root_at front) to × BytesStand given.bytes (root_at front + 4) (identifier_bytes identifier) × HoldsBySize front all root identifier given
 
-module _ (all done : List Step) (root to : ℕ) (identifier : Option (List ℕ)) (before after : State) (found : value_at before.listed root ≡ Some to)
+module _ (all done : List Step) (root to : ℕ) (identifier : Option (List ℕ)) (before after : RunState) (found : value_at before.listed root ≡ Some to)
     (distance : ℕ) (adds : Adds (sized_finish_part to identifier before.history.written.promises) None before.history distance after.history)
     (values : AllByRecursion (ValueKept all done before.history before.listed) before.listed) where
   abbrev whole : List ℕ
@@ -259,7 +259,7 @@ module _ (all done : List Step) (root to : ℕ) (identifier : Option (List ℕ))
         },
       )
 
-module _ (settings : CacheSettings) (all done : List Step) (front : Front) (root to : ℕ) (identifier : Option (List ℕ)) (before after : State) (found : value_at before.listed root ≡ Some to)
+module _ (settings : CacheSettings) (all done : List Step) (front : Front) (root to : ℕ) (identifier : Option (List ℕ)) (before after : RunState) (found : value_at before.listed root ≡ Some to)
     (size : ℕ) (words : ℕ → List ℕ) (as_many : (place : ℕ) → length (words place) ≡ size)
     (distance : ℕ) (adds : Adds (front_part size words before.history.written.promises) None before.history distance after.history)
     (in_front : AllUtf8 all → FrontHolds front all root to identifier (record { bytes = after.history.written.bytes; places = before.listed }))
@@ -372,7 +372,7 @@ module _ (settings : CacheSettings) (all done : List Step) (front : Front) (root
         (are_push settings all (finishes_of done) before.finished (0 + length done) (record { bytes = new.bytes; places = before.listed }) (h.finished utf8) (is_finish_of utf8)));
   }
 
-clear_kept : (settings : CacheSettings) (all done : List Step) (before : State) → Kept settings all done before → Kept settings all (done ++ clear ∷ []) (cleared before)
+clear_kept : (settings : CacheSettings) (all done : List Step) (before : RunState) → Kept settings all done before → Kept settings all (done ++ clear ∷ []) (cleared before)
 clear_kept settings all done before h = record {
   numbered = counted done clear before.next (before.next + 1) refl h.numbered;
   placed = nothing_in_turn;
@@ -383,7 +383,7 @@ clear_kept settings all done before h = record {
   finished = λ utf8. subst (λ numbers. AreFinishesOf settings all numbers before.finished) (sym (as_many 0 done clear refl)) (h.finished utf8);
 }
 
-pub values_are_written : (settings : CacheSettings) (all done : List Step) (step : Step) (before : State) → Kept settings all done before
+pub values_are_written : (settings : CacheSettings) (all done : List Step) (step : Step) (before : RunState) → Kept settings all done before
     → (v : Value) → value_of before.listed step ≡ Some v → IsWritten (length before.history.written.bytes) v × (TextIsUtf8 step → WellFormed v)
 values_are_written settings all done (text content) before h v e =
     let same : value.text content ≡ v = cc in
@@ -410,8 +410,8 @@ values_are_written settings all done (table fields) before h v e =
 values_are_written settings all done (finish front root identifier) before h v e = (cc)
 values_are_written settings all done clear before h v e = (cc)
 
-written_kept : (settings : CacheSettings) (all done : List Step) (step : Step) (before after : State) → is_clear step ≡ false
-    → ((s : State) (history : History) → finishes_added step s history ≡ []) → (writes : Writes settings before step after) → Advances settings before step after
+written_kept : (settings : CacheSettings) (all done : List Step) (step : Step) (before after : RunState) → is_clear step ≡ false
+    → ((s : RunState) (history : History) → finishes_added step s history ≡ []) → (writes : Writes settings before step after) → Advances settings before step after
     → option_map entries_of (value_of before.listed step) ≡ Some writes.entries → slice_get all (length done) ≡ Some step
     → Kept settings all done before → Kept settings all (done ++ step ∷ []) after
 written_kept settings all done step before after kind gives writes advances are there h =
@@ -423,7 +423,7 @@ written_kept settings all done step before after kind gives writes advances are 
     (writes.listed ∙ ap (λ v. before.listed ++ values_added v before.next writes.got) made.1) writes.next
     (writes.finished ∙ ap (λ fs. before.finished ++ fs) (gives before after.history)) run h
 
-pub step_kept : (settings : CacheSettings) (all done : List Step) (step : Step) (before after : State) → slice_get all (length done) ≡ Some step → take (length done + 1) all ≡ done ++ step ∷ []
+pub step_kept : (settings : CacheSettings) (all done : List Step) (step : Step) (before after : RunState) → slice_get all (length done) ≡ Some step → take (length done + 1) all ≡ done ++ step ∷ []
     → Advances settings before step after → Kept settings all done before → Kept settings all (done ++ step ∷ []) after
 step_kept settings all done (text content) before after there up_to writes h =
     written_kept settings all done (text content) before after refl (λ s history. refl) writes writes writes.are there h
@@ -467,7 +467,7 @@ step_kept settings all done (finish size_first root identifier) before after the
     writes.listed writes.next writes.finished there up_to run h
 step_kept settings all done clear before after there up_to is_clear h = subst (λ s. Kept settings all (done ++ clear ∷ []) s) (sym is_clear) (clear_kept settings all done before h)
 
-leads_kept : (settings : CacheSettings) (all done rest : List Step) → all ≡ done ++ rest → (before after : State) → LeadsTo settings before rest after → Kept settings all done before
+leads_kept : (settings : CacheSettings) (all done rest : List Step) → all ≡ done ++ rest → (before after : RunState) → LeadsTo settings before rest after → Kept settings all done before
     → Kept settings all all after
 leads_kept settings all done [] e before after leads h = subst (λ s. Kept settings all all s) (sym leads) (subst (λ d. Kept settings all d before) (sym (e ∙ append-nil done)) h)
 leads_kept settings all done (step ∷ rest) e before after leads h =
@@ -481,10 +481,10 @@ leads_kept settings all done (step ∷ rest) e before after leads h =
 pub nothing_kept : (settings : CacheSettings) (all : List Step) → Kept settings all [] nothing_written
 nothing_kept settings all = record { numbered = refl; placed = nothing_in_turn; cached = tt; values = tt; lists = λ n c of named is_kind. absurd (none_named n c named); run = refl; finished = λ _. tt }
 
-pub run_kept : (settings : CacheSettings) (steps : List Step) (end : State) → LeadsTo settings nothing_written steps end → Kept settings steps steps end
+pub run_kept : (settings : CacheSettings) (steps : List Step) (end : RunState) → LeadsTo settings nothing_written steps end → Kept settings steps steps end
 run_kept settings steps end leads = leads_kept settings steps [] steps refl nothing_written end leads (nothing_kept settings steps)
 
-pub run_value : (settings : CacheSettings) (steps : List Step) (end : State) → LeadsTo settings nothing_written steps end → (n : ℕ) (named : Named) → named_at end.listed n ≡ Some named
+pub run_value : (settings : CacheSettings) (steps : List Step) (end : RunState) → LeadsTo settings nothing_written steps end → (n : ℕ) (named : Named) → named_at end.listed n ≡ Some named
     → ValueKept steps steps end.history end.listed (record { step = n; named = named })
 run_value settings steps end leads n named found =
     all_named (ValueKept steps steps end.history end.listed) end.listed n named (run_kept settings steps end leads).values found

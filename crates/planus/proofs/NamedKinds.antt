@@ -11,7 +11,7 @@ use Rattle.planus_write.specs.Parts.{Named, named_by}
 use Rattle.planus_write.specs.Kept.{TagsReached}
 use Rattle.planus.specs.Steps.{Step, text, bytes, numbers, refs, unions, struct, table, finish, clear}
 use Rattle.planus.specs.Slots.{greatest_field}
-use Rattle.planus.specs.Kinds.{Kind, a_value, a_union_vector, kind_of, kind_by_tags, kind_named}
+use Rattle.planus.specs.Kinds.{StepKind, a_value, a_union_vector, kind_of, kind_by_tags, kind_named}
 use Rattle.planus.specs.inner.Names.{IsReached}
 use Rattle.planus.specs.Runs.{Listed, named_at, value_distance, tags_distance, references_distance}
 use Rattle.planus.specs.Runs.{distance_at, value_at, union_of, all_of, width_of, fits_width}
@@ -62,11 +62,11 @@ kind_references named e = by_tags named.tags e
     by_tags None e = (cc)
     by_tags (Some tags) e = (named.distance, refl)
 
-abbrev pub NamedAreGood : List Listed → (Kind → ℕ → Option Why) → Type 0
+abbrev pub NamedAreGood : List Listed → (StepKind → ℕ → Option Why) → Type 0
 NamedAreGood listed fault = (step : ℕ) (named : Named) → named_at listed step ≡ Some named → fault (kind_named named) step ≡ None
 
-module _ (listed : List Listed) (fault : Kind → ℕ → Option Why) (good : NamedAreGood listed fault) where
-  good_as : (kind : Kind) (which : Named → Option ℕ) → ((named : Named) (distance : ℕ) → which named ≡ Some distance → kind_named named ≡ kind)
+module _ (listed : List Listed) (fault : StepKind → ℕ → Option Why) (good : NamedAreGood listed fault) where
+  good_as : (kind : StepKind) (which : Named → Option ℕ) → ((named : Named) (distance : ℕ) → which named ≡ Some distance → kind_named named ≡ kind)
       → (step distance : ℕ) → distance_at which listed step ≡ Some distance → fault kind step ≡ None
   good_as kind which is_kind step distance e =
       let made = made_after which (named_at listed step) distance e in
@@ -81,11 +81,11 @@ module _ (listed : List Listed) (fault : Kind → ℕ → Option Why) (good : Na
   pub references_good : (step distance : ℕ) → distance_at references_distance listed step ≡ Some distance → fault a_union_vector step ≡ None
   references_good = good_as a_union_vector references_distance references_kind
 
-abbrev pub GoodAreNamed : List Listed → (Kind → ℕ → Option Why) → Type 0
-GoodAreNamed listed fault = (kind : Kind) (step : ℕ) → fault kind step ≡ None → (named : Named) × (named_at listed step ≡ Some named) × (kind_named named ≡ kind)
+abbrev pub GoodAreNamed : List Listed → (StepKind → ℕ → Option Why) → Type 0
+GoodAreNamed listed fault = (kind : StepKind) (step : ℕ) → fault kind step ≡ None → (named : Named) × (named_at listed step ≡ Some named) × (kind_named named ≡ kind)
 
-module _ (listed : List Listed) (fault : Kind → ℕ → Option Why) (good : GoodAreNamed listed fault) where
-  named_as : (kind : Kind) (which : Named → Option ℕ) → ((named : Named) → kind_named named ≡ kind → (distance : ℕ) × (which named ≡ Some distance))
+module _ (listed : List Listed) (fault : StepKind → ℕ → Option Why) (good : GoodAreNamed listed fault) where
+  named_as : (kind : StepKind) (which : Named → Option ℕ) → ((named : Named) → kind_named named ≡ kind → (distance : ℕ) × (which named ≡ Some distance))
       → (step : ℕ) → fault kind step ≡ None → (distance : ℕ) × (distance_at which listed step ≡ Some distance)
   named_as kind which has step e =
       let of = good kind step e in
@@ -149,7 +149,7 @@ kind_written listed (text content) v got e =
 kind_written listed (bytes content) v got e =
     let same : value.byte_list content ≡ v = cc in
     subst (λ w. Some a_value ≡ Some (kind_named (named_by w got))) same refl
-kind_written listed (numbers width items) v got e = ap (λ (k : Kind). Some k) (sym (numbers_kind (width_of width) items v got e))
+kind_written listed (numbers width items) v got e = ap (λ (k : StepKind). Some k) (sym (numbers_kind (width_of width) items v got e))
 kind_written listed (refs steps) v got e =
     let made = made_of value.reference_list (all_of (value_at listed) steps) v e in
     subst (λ w. Some a_value ≡ Some (kind_named (named_by w got))) made.2 refl
@@ -157,7 +157,7 @@ kind_written listed (unions items) v got e =
     let made = made_of value.union_vector (all_of (union_of listed) items) v e in
     subst (λ w. Some a_union_vector ≡ Some (kind_named (named_by w got))) made.2 refl
 kind_written listed (struct alignment content) v got e =
-    ap (λ (k : Kind). Some k) (sym (struct_kind (struct_width alignment) content v got e))
+    ap (λ (k : StepKind). Some k) (sym (struct_kind (struct_width alignment) content v got e))
 kind_written listed (table fields) v got e =
     let made = made_of value.table (fields_of listed [] greatest_field fields) v e in
     subst (λ w. Some a_value ≡ Some (kind_named (named_by w got))) made.2 refl

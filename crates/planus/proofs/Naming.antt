@@ -11,7 +11,7 @@ use Rattle.std.proofs.lemmas.List.{map_push}
 use Rattle.std.proofs.Math.Seq.{drop-length}
 use Rattle.planus_write.specs.Parts.{Named}
 use Rattle.planus.specs.Steps.{Step, text, bytes, numbers, refs, unions, struct, table, finish, clear}
-use Rattle.planus.specs.Kinds.{Kind, a_value, kind_of, kind_named, naming_fault}
+use Rattle.planus.specs.Kinds.{StepKind, a_value, kind_of, kind_named, naming_fault}
 use Rattle.planus.specs.inner.Names.{name_of}
 use Rattle.planus.specs.Replays.{is_clear, named_step, fault_of, first_fault, union_fault, check_by}
 use Rattle.planus.specs.Replays.{broken_check}
@@ -138,7 +138,7 @@ none_clear (x ∷ steps) (d ∷ ds) zero h = rw h.0.0 (none_clear steps ds zero 
 
 same_kind : (steps : List Step) (ds : List (Option Named)) (i : ℕ) → AllWrote steps ds → option_map (option_map kind_named) (slice_get ds i) ≡ option_map kind_of (slice_get steps i)
 same_kind [] [] i h = refl
-same_kind (x ∷ steps) (d ∷ ds) zero h = ap (λ (k : Option Kind). Some k) (sym h.0.1)
+same_kind (x ∷ steps) (d ∷ ds) zero h = ap (λ (k : Option StepKind). Some k) (sym h.0.1)
 same_kind (x ∷ steps) (d ∷ ds) (suc i) h = same_kind steps ds i h.1
 same_kind [] (d ∷ ds) i h = absurd h
 same_kind (x ∷ steps) [] i h = absurd h
@@ -159,7 +159,7 @@ drop_dropped zero k steps = ap (λ m. drop m steps) (let e : k ≡ 0 + k = omega
 drop_dropped (suc n) k [] = drop_none k (suc n + k)
 drop_dropped (suc n) k (x ∷ steps) = drop_dropped n k steps ∙ ap (λ m. drop m (x ∷ steps)) (let e : suc (n + k) ≡ suc n + k = omega arith in e)
 
-module _ (replay : ReplayState) (steps : List Step) (h : HasTaken replay steps) (kind : Kind) (root : ℕ) where
+module _ (replay : ReplayState) (steps : List Step) (h : HasTaken replay steps) (kind : StepKind) (root : ℕ) where
   before : root + 1 ≤ replay.first → None ≡ named_step steps root
   before le = elim h.behind_clear as (λ _. None ≡ named_step steps root) [
     | inl none ↦ absurd (omega (arith, none, le))
@@ -192,7 +192,7 @@ same_first f g same (x ∷ xs) = ap (λ o. option_or o (first_fault f xs)) (same
 same_union : (f g : ℕ → Option Why) → ((n : ℕ) → f n ≡ g n) → (item : ℕ × ℕ) → union_fault f item ≡ union_fault g item
 same_union f g same item = ap (λ o. if item.0 == 0 then Some ZeroTag else o) (same item.1)
 
-same_check : (f g : Kind → ℕ → Option Why) → ((kind : Kind) (n : ℕ) → f kind n ≡ g kind n) → (step : Step) → check_by f step ≡ check_by g step
+same_check : (f g : StepKind → ℕ → Option Why) → ((kind : StepKind) (n : ℕ) → f kind n ≡ g kind n) → (step : Step) → check_by f step ≡ check_by g step
 same_check f g same (text content) = refl
 same_check f g same (bytes content) = refl
 same_check f g same (numbers width items) = refl

@@ -7,12 +7,12 @@ use Rattle.std.specs.Option.{is_none, option_and_then}
 use Rattle.std.proofs.lemmas.Slice.Eq.{bytes_eq-Decides}
 use Rattle.planus_back.specs.Parts.{Part}
 use Rattle.planus_read.specs.Values.{Value}
-use Rattle.planus_write.specs.Shared.{Kind, texts, byte_lists, vtables, same_kind, Contents, same_contents, CacheSettings, is_on, shared_as}
+use Rattle.planus_write.specs.Shared.{ContentsKind, texts, byte_lists, vtables, same_kind, Contents, same_contents, CacheSettings, is_on, shared_as}
 use Rattle.planus_write.specs.Shared.{Cached, distance_cached, earlier_distance, and_cached}
 use Rattle.planus_write.specs.History.{History, Entry, PutsAfter, PutsAll, part_after, found_before}
 use Rattle.planus_write.specs.Parts.{Named, last_of, text_entry, byte_list_entry}
 use Rattle.planus.specs.Steps.{Step, text, bytes, numbers, refs, unions, struct, table, finish, clear}
-use Rattle.planus.specs.Runs.{Finish, Listed, State, nothing_written, Writes, Advances, LeadsTo, value_distance, value_of, values_added}
+use Rattle.planus.specs.Runs.{Finish, Listed, RunState, nothing_written, Writes, Advances, LeadsTo, value_distance, value_of, values_added}
 use Rattle.planus.specs.Runs.{named_at, finishes_added}
 use Rattle.planus.specs.Replays.{is_clear}
 use Rattle.planus.specs.Once.{contents_of, contents_at, AreOnce, EqualContentsHaveOneDistance, Gets, EqualEntriesGetOneDistance}
@@ -22,12 +22,12 @@ both_true : (a b : Bool) → (a && b) ≡ true → (a ≡ true) × (b ≡ true)
 both_true true b e = (refl, e)
 both_true false b e = (cc)
 
-kind_itself : (kind : Kind) → same_kind kind kind ≡ true
+kind_itself : (kind : ContentsKind) → same_kind kind kind ≡ true
 kind_itself texts = refl
 kind_itself byte_lists = refl
 kind_itself vtables = refl
 
-one_kind : (a b : Kind) → same_kind a b ≡ true → a ≡ b
+one_kind : (a b : ContentsKind) → same_kind a b ≡ true → a ≡ b
 one_kind texts texts e = refl
 one_kind texts byte_lists e = (cc)
 one_kind texts vtables e = (cc)
@@ -117,12 +117,12 @@ module _ (settings : CacheSettings) (all : List Step) where
       let same : a.0.distance ≡ b.0.distance = cc in
       sym (distance_of a.0 d a.2) ∙ same ∙ distance_of b.0 e b.2
 
-  record Once (done : List Step) (state : State) : Type 0 where
+  record Once (done : List Step) (state : RunState) : Type 0 where
     numbered : state.next ≡ length done
     found : AllByRecursion (IsFound state.history.cached) state.listed
     finished : AllByRecursion (λ (given : Finish). AreOnce settings all given.places) state.finished
 
-  module _ (done : List Step) (step : Step) (before after : State) (there : slice_get all (length done) ≡ Some step) (writes : Writes settings before step after) (h : Once done before) where
+  module _ (done : List Step) (step : Step) (before after : RunState) (there : slice_get all (length done) ≡ Some step) (writes : Writes settings before step after) (h : Once done before) where
     contents_there : contents_at all before.next ≡ contents_of step
     contents_there = ap (λ n. contents_at all n) h.numbered ∙ ap (λ o. option_and_then contents_of o) there
 
@@ -153,7 +153,7 @@ module _ (settings : CacheSettings) (all : List Step) where
         single_found settings entry contents before.history writes.got after.history (in_entry ∙ ap (λ (c : Contents). Some c) same) on
         (subst (λ es. PutsAll settings es [] before.history writes.got after.history) (sym entries) writes.puts)
 
-  step_once : (done : List Step) (step : Step) (before after : State) → slice_get all (length done) ≡ Some step → Advances settings before step after → Once done before
+  step_once : (done : List Step) (step : Step) (before after : RunState) → slice_get all (length done) ≡ Some step → Advances settings before step after → Once done before
       → Once (done ++ step ∷ []) after
   step_once done (text content) before after there writes h =
       let entries : text_entry content ∷ [] ≡ writes.entries = (let are : Some (text_entry content ∷ []) ≡ Some writes.entries = writes.are in cc) in
@@ -179,10 +179,10 @@ module _ (settings : CacheSettings) (all : List Step) where
       subst (Once (done ++ clear ∷ [])) (sym is_clear)
       (record { numbered = let counted = h.numbered in omega (arith, counted, length-append done (clear ∷ [])); found = tt; finished = h.finished })
 
-  leads_once : (done rest : List Step) → all ≡ done ++ rest → (before after : State) → LeadsTo settings before rest after → Once done before
+  leads_once : (done rest : List Step) → all ≡ done ++ rest → (before after : RunState) → LeadsTo settings before rest after → Once done before
       → AllByRecursion (λ (given : Finish). AreOnce settings all given.places) after.finished
   leads_once done [] e before after leads h =
-      subst (λ (s : State). AllByRecursion (λ (given : Finish). AreOnce settings all given.places) s.finished) (sym leads) h.finished
+      subst (λ (s : RunState). AllByRecursion (λ (given : Finish). AreOnce settings all given.places) s.finished) (sym leads) h.finished
   leads_once done (step ∷ rest) e before after leads h =
       let there : slice_get all (length done) ≡ Some step = ap (λ xs. slice_get xs (length done)) e ∙ get_last done step rest in
       leads_once (done ++ step ∷ []) rest (e ∙ sym (append_assoc done (step ∷ []) rest)) leads.0 after leads.2 (step_once done step before leads.0 there leads.1 h)
@@ -227,7 +227,7 @@ both_false true b e = (cc)
 both_false false b e = (refl, e)
 
 module _ (settings : CacheSettings) where
-  step_stays : (before : State) (step : Step) (after : State) → is_clear step ≡ false → Advances settings before step after → Stays before.history.cached after.history.cached
+  step_stays : (before : RunState) (step : Step) (after : RunState) → is_clear step ≡ false → Advances settings before step after → Stays before.history.cached after.history.cached
   step_stays before (text content) after kind w = all_stays settings w.entries [] before.history w.got after.history w.puts
   step_stays before (bytes content) after kind w = all_stays settings w.entries [] before.history w.got after.history w.puts
   step_stays before (numbers width items) after kind w = all_stays settings w.entries [] before.history w.got after.history w.puts
@@ -238,8 +238,8 @@ module _ (settings : CacheSettings) where
   step_stays before (finish front root identifier) after kind w = all_stays settings w.entries [] before.history w.got after.history w.puts
   step_stays before clear after kind w = (cc)
 
-  leads_stay : (before : State) (steps : List Step) (after : State) → LeadsTo settings before steps after → list_any is_clear steps ≡ false → Stays before.history.cached after.history.cached
-  leads_stay before [] after leads none = subst (λ (s : State). Stays before.history.cached s.history.cached) (sym leads) (λ contents d h. h)
+  leads_stay : (before : RunState) (steps : List Step) (after : RunState) → LeadsTo settings before steps after → list_any is_clear steps ≡ false → Stays before.history.cached after.history.cached
+  leads_stay before [] after leads none = subst (λ (s : RunState). Stays before.history.cached s.history.cached) (sym leads) (λ contents d h. h)
   leads_stay before (step ∷ steps) after leads none =
       let both = both_false (is_clear step) (list_any is_clear steps) none in
       λ contents d h. leads_stay leads.0 steps after leads.2 both.1 contents d (step_stays before step leads.0 both.0 leads.1 contents d h)

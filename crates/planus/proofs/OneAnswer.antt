@@ -10,7 +10,7 @@ use Rattle.planus_write.specs.History.{History, Entry, Adds, PutsAfter, Puts, Pu
 use Rattle.planus_write.specs.History.{ComesToTooLarge as ComesToTooLargeEntry, part_after}
 use Rattle.planus_write.specs.History.{found_before}
 use Rattle.planus.specs.Steps.{Step, text, bytes, numbers, refs, unions, struct, table, finish, clear}
-use Rattle.planus.specs.Runs.{Finish, State, Writes, Advances, LeadsTo, StepTooLarge}
+use Rattle.planus.specs.Runs.{Finish, RunState, Writes, Advances, LeadsTo, StepTooLarge}
 use Rattle.planus.specs.Runs.{nothing_written, value_of, values_added}
 use Rattle.planus.specs.Runs.{finishes_added}
 use Rattle.planus.specs.Replays.{first_bad, first_bad_after, first_bad_or, broken_check, Replays}
@@ -98,7 +98,7 @@ not_all settings (entry ∷ entries) got before ds after far puts = elim far as 
       (subst (λ n. ComesToTooLargeEntry settings entries (got ++ n ∷ []) puts.1) first.0 (subst (λ history. ComesToTooLargeEntry settings entries (got ++ later.0 ∷ []) history) first.1 later.3)) puts.3
 ]
 
-state_of : (a b : State) → a.history ≡ b.history → a.listed ≡ b.listed → a.next ≡ b.next → a.finished ≡ b.finished → a ≡ b
+state_of : (a b : RunState) → a.history ≡ b.history → a.listed ≡ b.listed → a.next ≡ b.next → a.finished ≡ b.finished → a ≡ b
 state_of a b history listed next finished =
     ap (λ p. record { history = p; listed = a.listed; next = a.next; finished = a.finished }) history
     ∙ ap (λ l. record { history = b.history; listed = l; next = a.next; finished = a.finished }) listed
@@ -109,7 +109,7 @@ module _ (settings : CacheSettings) where
   same_entries : (xs ys : List Entry) (o : Option (List Entry)) → o ≡ Some xs → o ≡ Some ys → xs ≡ ys
   same_entries xs ys o e f = (let g : Some xs ≡ Some ys = sym e ∙ f in cc)
 
-  written_once : (before : State) (step : Step) (a b : State) → Writes settings before step a → Writes settings before step b → a ≡ b
+  written_once : (before : RunState) (step : Step) (a b : RunState) → Writes settings before step a → Writes settings before step b → a ≡ b
   written_once before step a b x y =
       let entries : x.entries ≡ y.entries = same_entries x.entries y.entries _ x.are y.are in
       let same = all_once settings y.entries [] before.history x.got y.got a.history b.history (subst (λ es. PutsAll settings es [] before.history x.got a.history) entries x.puts) y.puts in
@@ -118,7 +118,7 @@ module _ (settings : CacheSettings) where
       (x.next ∙ sym y.next)
       (x.finished ∙ ap (λ history. before.finished ++ finishes_added step before history) same.1 ∙ sym y.finished)
 
-  advanced_once : (before : State) (step : Step) (a b : State) → Advances settings before step a → Advances settings before step b → a ≡ b
+  advanced_once : (before : RunState) (step : Step) (a b : RunState) → Advances settings before step a → Advances settings before step b → a ≡ b
   advanced_once before (text content) a b x y = written_once before (text content) a b x y
   advanced_once before (bytes content) a b x y = written_once before (bytes content) a b x y
   advanced_once before (numbers width items) a b x y = written_once before (numbers width items) a b x y
@@ -129,17 +129,17 @@ module _ (settings : CacheSettings) where
   advanced_once before (finish front root identifier) a b x y = written_once before (finish front root identifier) a b x y
   advanced_once before clear a b x y = x ∙ sym y
 
-  led_once : (before : State) (steps : List Step) (a b : State) → LeadsTo settings before steps a → LeadsTo settings before steps b → a ≡ b
+  led_once : (before : RunState) (steps : List Step) (a b : RunState) → LeadsTo settings before steps a → LeadsTo settings before steps b → a ≡ b
   led_once before [] a b x y = x ∙ sym y
   led_once before (step ∷ steps) a b x y =
       led_once x.0 steps a b x.2 (subst (λ s. LeadsTo settings s steps b) (sym (advanced_once before step x.0 y.0 x.1 y.1)) y.2)
 
-  stuck : (before : State) (step : Step) (after : State) → StepTooLarge settings before step → Writes settings before step after → ⊥
+  stuck : (before : RunState) (step : Step) (after : RunState) → StepTooLarge settings before step → Writes settings before step after → ⊥
   stuck before step after far writes =
       not_all settings writes.entries [] before.history writes.got after.history
       (subst (λ es. ComesToTooLargeEntry settings es [] before.history) (same_entries far.entries writes.entries _ far.are writes.are) far.too_large) writes.puts
 
-  leads_nowhere : (before : State) (step : Step) (after : State) → StepTooLarge settings before step → Advances settings before step after → ⊥
+  leads_nowhere : (before : RunState) (step : Step) (after : RunState) → StepTooLarge settings before step → Advances settings before step after → ⊥
   leads_nowhere before (text content) after far h = stuck before (text content) after far h
   leads_nowhere before (bytes content) after far h = stuck before (bytes content) after far h
   leads_nowhere before (numbers width items) after far h = stuck before (numbers width items) after far h
@@ -150,7 +150,7 @@ module _ (settings : CacheSettings) where
   leads_nowhere before (finish front root identifier) after far h = stuck before (finish front root identifier) after far h
   leads_nowhere before clear after far h = (let e : None ≡ Some far.entries = far.are in cc)
 
-  passed : (start : State) (steps : List Step) (n m : ℕ) (step : Step) (before end : State) → n < m → slice_get steps n ≡ Some step → LeadsTo settings start (take n steps) before
+  passed : (start : RunState) (steps : List Step) (n m : ℕ) (step : Step) (before end : RunState) → n < m → slice_get steps n ≡ Some step → LeadsTo settings start (take n steps) before
       → StepTooLarge settings before step → LeadsTo settings start (take m steps) end → ⊥
   passed start [] n m step before end lt there leads far run = (cc)
   passed start (first ∷ steps) n zero step before end lt there leads far run = absurd (omega (arith, lt))

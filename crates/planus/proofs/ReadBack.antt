@@ -25,7 +25,7 @@ use Rattle.planus.specs.Contents.{there_of, TableIsKept}
 use Rattle.planus_write.specs.Contents.{Unions, no_unions, union_and, UnionsAre}
 use Rattle.planus.specs.ReadBack.{AllStand, UnionsHold, FieldHolds, FieldHoldsIf}
 use Rattle.planus.specs.ReadBack.{FieldsHold, is_other}
-use Rattle.planus.specs.ReadBack.{are_apart, content_at, TableStands, SlotHolds, TableHolds}
+use Rattle.planus.specs.ReadBack.{are_apart, content_at, ContentsStand, SlotHolds, TableHolds}
 use Rattle.planus.specs.ReadBack.{ReferencesReadBack, ContentsReadBack, AbsentFieldsReadBack}
 use Rattle.planus.specs.Views.{ShowsView}
 use Rattle.planus.specs.declared.tables.kind.table_ref.TableRef.{TableRef}
@@ -74,7 +74,7 @@ fields_hold history (content ∷ contents) [] are = are
 
 pub kept_tables_stand : (history : History) (contents : List (ℕ × Option Content)) (distance : ℕ)
     → TableIsKept history contents distance → are_apart contents ≡ true
-    → TableStands history.written.bytes contents distance
+    → ContentsStand history.written.bytes contents distance
 kept_tables_stand history contents distance is apart = record {
   fields = is.fields;
   hold = fields_hold history (there_of contents) is.fields is.are;
@@ -135,7 +135,7 @@ module _ (B : List ℕ) where
       (λ same. hold.1) (λ differs. holds_at contents fields parts.1 hold.2 slot))
 
   pub table_led : {K : Type 0} (contents : List (ℕ × Option Content)) (distance : ℕ)
-      → TableStands B contents distance → (start f : ℕ)
+      → ContentsStand B contents distance → (start f : ℕ)
       → Leads B (start + f) (position_of B distance) → (r : Result (TableRef K) ErrorKind)
       → Answer (shown (ShowsView (drop start B) start) (table_reading (drop start B) f)) r
       → IsOkAnd r (λ view. TableHolds B contents view.table)
@@ -154,7 +154,7 @@ module _ (B : List ℕ) where
       read.fields (Err e) h
 
   pub table_read : {K : Type 0} (contents : List (ℕ × Option Content)) (distance : ℕ)
-      → TableStands B contents distance → (start f : ℕ) → ReferenceStands B (start + f) distance
+      → ContentsStand B contents distance → (start f : ℕ) → ReferenceStands B (start + f) distance
       → (r : Result (TableRef K) ErrorKind)
       → Answer (shown (ShowsView (drop start B) start) (table_reading (drop start B) f)) r
       → IsOkAnd r (λ view. TableHolds B contents view.table)
@@ -167,7 +167,7 @@ references_read_back {K} B start f contents distance stands referred r h =
     table_read B {K = K} contents distance stands start f referred r h
 
 pub items_read_back : {K : Type 0} (B : List ℕ) (start f : ℕ) (contents : List (ℕ × Option Content))
-    (distance : ℕ) → TableStands B contents distance → ReferenceStands B (start + f) distance
+    (distance : ℕ) → ContentsStand B contents distance → ReferenceStands B (start + f) distance
     → (type_ method : List ℕ) (offset : ℕ) (r : Result (TableRef K) Error)
     → Located (Answer (shown (ShowsView (drop start B) start) (table_reading (drop start B) f)))
     type_ method offset r
@@ -178,7 +178,7 @@ items_read_back {K} B start f contents distance stands referred type_ method off
     table_read B {K = K} contents distance stands start f referred (Err e.error_kind) h.0
 
 pub roots_read_back : {K : Type 0} (B : List ℕ) (contents : List (ℕ × Option Content)) (distance : ℕ)
-    → TableStands B contents distance → ReferenceStands B 0 distance
+    → ContentsStand B contents distance → ReferenceStands B 0 distance
     → (type_ method : List ℕ) (offset : ℕ) (r : Result (TableRef K) Error)
     → Located (Answer (shown (ShowsView B 0) (table_reading B 0))) type_ method offset r
     → IsOkAnd r (λ view. TableHolds B contents view.table)

@@ -7,7 +7,7 @@ use Rattle.planus_read.specs.Located.{Located}
 use Rattle.planus_read.specs.Stands.{ReferenceStands}
 use Rattle.planus_read.proofs.SliceLaws.{references_lead}
 use Rattle.planus_write.specs.Contents.{Content}
-use Rattle.planus.specs.ReadBack.{TableStands, TableHolds}
+use Rattle.planus.specs.ReadBack.{ContentsStand, TableHolds}
 use Rattle.planus.specs.ReadKinds.{reads_view}
 use Rattle.planus.specs.Roots.{IsRoot}
 use Rattle.planus.specs.Views.{reads_as, IsSameView}
@@ -16,7 +16,7 @@ use Rattle.planus.proofs.Accessors.{view_led}
 use Rattle.planus.proofs.FinishedTables.{finished_tables_stand}
 
 module _ {V : Type 0} (name : List ℕ) (table_of : V → Table) (bytes : List ℕ) where
-  stood : (contents : List (ℕ × Option Content)) (distance : ℕ) → TableStands bytes contents distance
+  stood : (contents : List (ℕ × Option Content)) (distance : ℕ) → ContentsStand bytes contents distance
       → ReferenceStands bytes 0 distance → (r : Result V Error)
       → Located (reads_as table_of bytes 0 0) name (codes "read_as_root") 0 r
       → IsOkAnd r (λ view. TableHolds bytes contents (table_of view))

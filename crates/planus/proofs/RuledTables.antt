@@ -10,7 +10,7 @@ use Rattle.planus_write.specs.History.{History}
 use Rattle.planus_write.specs.Preparing.{WritesEntries}
 use Rattle.planus_write.specs.Parts.{entries_of}
 use Rattle.planus_write.specs.State.{State}
-use Rattle.planus_write.specs.Tables.{Declared, declared_of, total_size, body_bytes, slots_used, object_entries, IsField, IsTable, Falling, SlotsOnce}
+use Rattle.planus_write.specs.Tables.{Declared, declared_of, total_size, body_bytes, slots_used, object_entries, IsFieldAfter, IsTable, Falling, SlotsOnce}
 use Rattle.planus_write.specs.TableWriting.{Writer, WritesTable, slot_position, blank}
 use Rattle.planus_write.specs.declared.offset.Offset.{Offset}
 use Rattle.planus_write.specs.lemmas.PutEntries.{entries_put}
@@ -230,7 +230,7 @@ falling bound (first ∷ second ∷ fields) h =
     (h.1.0, falling (field_alignment first.1) (second ∷ fields) h.1)
 
 is_table : (n before : ℕ) (fields : List (ℕ × Field)) (all : List Declared) → Holds n all
-    → Among (declared_of fields) all → AllByRecursion (λ entry. IsField before entry.1) fields
+    → Among (declared_of fields) all → AllByRecursion (λ entry. IsFieldAfter before entry.1) fields
     → IsTable before fields
 is_table n before fields all rules among stand =
     let slots = some_slots n fields all rules.enough among rules.slots in
@@ -252,7 +252,7 @@ slots_counted (entry ∷ fields) = ap (max (entry.0 + 1)) (slots_counted fields)
 pub contents_kept : {T : Type 0} (n : ℕ) (all : List Declared) (fields : List (ℕ × Field))
     (contents : List (ℕ × Option Content)) (between : State) → Holds n all
     → Among (declared_of fields) all
-    → AllByRecursion (λ entry. IsField (length between.bytes) entry.1) fields
+    → AllByRecursion (λ entry. IsFieldAfter (length between.bytes) entry.1) fields
     → (unit : Unit {0}) (offset : Offset T) (new : State)
     → WritesTable (declared_of fields) (λ place. body_bytes place fields) between (Ok unit) new
     → offset.distance ≡ length new.bytes → (history : History)
@@ -270,7 +270,7 @@ contents_kept n all fields contents between rules among stand unit offset new wr
     let placed = entries_put (entries_of (table fields)) [] between written.0 new mid entries
     is_history in
     let stand_history = subst
-    (λ (bytes : List ℕ). AllByRecursion (λ entry. IsField (length bytes) entry.1) fields)
+    (λ (bytes : List ℕ). AllByRecursion (λ entry. IsFieldAfter (length bytes) entry.1) fields)
     (sym is_history.bytes) stand in
     let kept = values_are_kept between.settings (table fields) mid written.0 placed.0
     (is_table n (length mid.written.bytes) fields all rules among stand_history) is_history.kept
@@ -293,8 +293,8 @@ contents_kept n all fields contents between rules among stand unit offset new wr
 pub fields_kept : {T : Type 0} (n : ℕ) (all others : List Declared) (fields last : List (ℕ × Field))
     (between : State) → Holds n (all ++ others)
     → Among (declared_of fields) all → Among (declared_of last) others
-    → AllByRecursion (λ entry. IsField (length between.bytes) entry.1) fields
-    → AllByRecursion (λ entry. IsField (length between.bytes) entry.1) last
+    → AllByRecursion (λ entry. IsFieldAfter (length between.bytes) entry.1) fields
+    → AllByRecursion (λ entry. IsFieldAfter (length between.bytes) entry.1) last
     → (unit : Unit {0}) (offset : Offset T) (new : State)
     → WritesTable (declared_of (fields ++ last)) (λ place. body_bytes place (fields ++ last)) between
     (Ok unit) new

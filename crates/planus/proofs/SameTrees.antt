@@ -20,7 +20,7 @@ use Rattle.planus.specs.Steps.{Front, root_first, size_first}
 use Rattle.planus.specs.FinishHolds.{root_at}
 use Rattle.planus.specs.Steps.{FieldStep, number_field, ref_field, tags_field, values_field}
 use Rattle.planus.specs.Slots.{greatest_field, place_fault, alignment_of}
-use Rattle.planus.specs.Runs.{Listed, State, cleared, Writes, Advances, LeadsTo, nothing_written, value_of}
+use Rattle.planus.specs.Runs.{Listed, RunState, cleared, Writes, Advances, LeadsTo, nothing_written, value_of}
 use Rattle.planus.specs.Runs.{value_at, distance_at, value_distance, tags_distance, references_distance}
 use Rattle.planus.specs.Runs.{union_of, all_of, width_of, fits_width, numbers_value, field_width, plain_field}
 use Rattle.planus.specs.Runs.{field_of, fields_of, values_added, finishes_added, finish_of}
@@ -190,13 +190,13 @@ module _ (all done : List Step) (history other_history : History) (ones others :
   places_same (x ∷ xs) [] same h k = (cc)
 
 -- Both runs are at the same step, list the same steps, and gave the same trees.
-record Alike (all : List Step) (one other : State) : Type 0 where
+record Alike (all : List Step) (one other : RunState) : Type 0 where
   pub next : one.next ≡ other.next
   pub listed : steps_in one.listed ≡ steps_in other.listed
   pub finished : AllPairs (SameTrees all) one.finished other.finished
 
-module _ (settings others : CacheSettings) (all done : List Step) (a b : State) (h : Kept settings all done a) (k : Kept others all done b) (alike : Alike all a b) where
-  value_alike : (step : Step) (c d : State) (x : Writes settings a step c) (y : Writes others b step d) → ((s : State) (history : History) → finishes_added step s history ≡ [])
+module _ (settings others : CacheSettings) (all done : List Step) (a b : RunState) (h : Kept settings all done a) (k : Kept others all done b) (alike : Alike all a b) where
+  value_alike : (step : Step) (c d : RunState) (x : Writes settings a step c) (y : Writes others b step d) → ((s : RunState) (history : History) → finishes_added step s history ≡ [])
       → option_map entries_of (value_of a.listed step) ≡ Some x.entries → option_map entries_of (value_of b.listed step) ≡ Some y.entries → Alike all c d
   value_alike step c d x y none are also =
       let v = made_of entries_of (value_of a.listed step) x.entries are in
@@ -213,7 +213,7 @@ module _ (settings others : CacheSettings) (all done : List Step) (a b : State) 
         finished = subst (λ fs. AllPairs (SameTrees all) fs d.finished) (sym finished) (subst (λ fs. AllPairs (SameTrees all) a.finished fs) (sym finished_too) alike.finished);
       }
 
-  leads : (sw : CacheSettings) (s after : State) (front : Front) (root : ℕ) (identifier : Option (List ℕ)) → Kept sw all done s → (x : Writes sw s (finish front root identifier) after)
+  leads : (sw : CacheSettings) (s after : RunState) (front : Front) (root : ℕ) (identifier : Option (List ℕ)) → Kept sw all done s → (x : Writes sw s (finish front root identifier) after)
       → (to : ℕ) × (value_at s.listed root ≡ Some to) × ReferenceStands after.history.written.bytes (root_at front) to
   leads sw s after root_first root identifier kept x =
       let made = made_of (finish_of root_first identifier) (value_at s.listed root) x.entries x.are in
@@ -230,7 +230,7 @@ module _ (settings others : CacheSettings) (all done : List Step) (a b : State) 
       = subst (Adds (sized_finish_part made.0 identifier s.history.written.promises) None s.history puts.0) (sym puts.3.1) puts.2 in
       (made.0, made.1, (sized_finishes_stand made.0 identifier s.history.written after.history.written adds.placed).leads (root_behind all done s root made.0 kept.values made.1))
 
-  finish_alike : (front : Front) (root : ℕ) (identifier : Option (List ℕ)) (c d : State) → slice_get all (length done) ≡ Some (finish front root identifier)
+  finish_alike : (front : Front) (root : ℕ) (identifier : Option (List ℕ)) (c d : RunState) → slice_get all (length done) ≡ Some (finish front root identifier)
       → Writes settings a (finish front root identifier) c → Writes others b (finish front root identifier) d → Alike all c d
   finish_alike front root identifier c d there x y =
       let one = leads settings a c front root identifier h x in
@@ -257,7 +257,7 @@ module _ (settings others : CacheSettings) (all done : List Step) (a b : State) 
             (pairs_push (SameTrees all) a.finished b.finished (record { bytes = c.history.written.bytes; places = a.listed }) (record { bytes = d.history.written.bytes; places = b.listed }) alike.finished given));
       }
 
-  step_alike : (step : Step) (c d : State) → slice_get all (length done) ≡ Some step → Advances settings a step c → Advances others b step d → Alike all c d
+  step_alike : (step : Step) (c d : RunState) → slice_get all (length done) ≡ Some step → Advances settings a step c → Advances others b step d → Alike all c d
   step_alike (text content) c d there x y = value_alike (text content) c d x y (λ s history. refl) x.are y.are
   step_alike (bytes content) c d there x y = value_alike (bytes content) c d x y (λ s history. refl) x.are y.are
   step_alike (numbers width items) c d there x y = value_alike (numbers width items) c d x y (λ s history. refl) x.are y.are
@@ -270,7 +270,7 @@ module _ (settings others : CacheSettings) (all done : List Step) (a b : State) 
       subst (λ s. Alike all s d) (sym x) (subst (λ s. Alike all (cleared a) s) (sym y)
       (record { next = ap (λ n. n + 1) alike.next; listed = refl; finished = alike.finished }))
 
-stay_alike : (settings others : CacheSettings) (all done rest : List Step) → all ≡ done ++ rest → (a b c d : State) → LeadsTo settings a rest c → LeadsTo others b rest d → Kept settings all done a → Kept others all done b
+stay_alike : (settings others : CacheSettings) (all done rest : List Step) → all ≡ done ++ rest → (a b c d : RunState) → LeadsTo settings a rest c → LeadsTo others b rest d → Kept settings all done a → Kept others all done b
     → Alike all a b → Alike all c d
 stay_alike settings others all done [] whole a b c d x y h k alike = subst (λ s. Alike all s d) (sym x) (subst (λ s. Alike all a s) (sym y) alike)
 stay_alike settings others all done (step ∷ rest) whole a b c d x y h k alike =

@@ -13,7 +13,7 @@ use Rattle.planus_read.specs.Stands.{ReferenceStands}
 use Rattle.planus_read.proofs.SizePrefixed.{buffers_are_read}
 use Rattle.planus_read.proofs.SliceLaws.{references_lead}
 use Rattle.planus_write.specs.Contents.{Content}
-use Rattle.planus.specs.ReadBack.{TableStands, TableHolds}
+use Rattle.planus.specs.ReadBack.{ContentsStand, TableHolds}
 use Rattle.planus.specs.SizedRoots.{IsSizedRoot, ReadsSized}
 use Rattle.planus.specs.Views.{reads_as}
 use Rattle.planus.proofs.Accessors.{view_led}
@@ -27,7 +27,7 @@ located_as P read name method offset h (Err e) is = (subst P (sym is.0) h, is.1)
 module _ {V : Type 0} (table_of : V → Table) (B : List ℕ) where
   module _ (buffer rest : List ℕ) (contents : List (ℕ × Option Content)) (distance : ℕ)
       (is : B ≡ buffer ++ rest) (sized : IsPrefixed buffer)
-      (stands : TableStands buffer contents distance)
+      (stands : ContentsStand buffer contents distance)
       (referred : ReferenceStands buffer 4 distance) where
     same : (prefixed : Prefixed) → PrefixedThere B prefixed.content prefixed.rest
         → prefixed ≡ record { content = drop 4 buffer; rest = rest }
@@ -57,7 +57,7 @@ module _ {V : Type 0} (table_of : V → Table) (B : List ℕ) where
     back (Err e) (inr (prefixed, there, reads)) = read prefixed there (Err e) reads
 
   located : (name : List ℕ) (buffer rest : List ℕ) (contents : List (ℕ × Option Content))
-      (distance : ℕ) → B ≡ buffer ++ rest → IsPrefixed buffer → TableStands buffer contents distance
+      (distance : ℕ) → B ≡ buffer ++ rest → IsPrefixed buffer → ContentsStand buffer contents distance
       → ReferenceStands buffer 4 distance → (r : Result (V × Bor (List ℕ)) Error)
       → Located (ReadsSized table_of B) name (codes "read_as_root") 0 r
       → IsOkAnd r (λ found. TableHolds buffer contents (table_of found.0) × (found.1.now ≡ rest))

@@ -19,7 +19,7 @@ use Rattle.planus.specs.Slots.{greatest_field}
 use Rattle.planus.specs.Kinds.{kind_named}
 use Rattle.planus.specs.Runs.{value_of, entries_put, fields_of}
 use Rattle.planus_write.specs.declared.errors.BuildError.TheVariants as build
-use Rattle.planus_write.specs.Tables.{IsField, body_size}
+use Rattle.planus_write.specs.Tables.{IsFieldAfter, body_size}
 use Rattle.planus_write.specs.TableWriting.{Writer, WasTold}
 use Rattle.planus.specs.Replays.{replay_error}
 use Rattle.planus.specs.inner.Prepared.{field_reach}
@@ -82,12 +82,12 @@ pub table_stopped : (fields : List (ℕ × FieldStep)) (all : List (ℕ × Field
 table_stopped fields all old made build.OutOfMemory new h = table_advanced fields all old made (Unit {0}) (Err ReplayOutOfMemory) new (inl (new.builder, h))
 table_stopped fields all old made build.TooLarge new h = table_advanced fields all old made (Unit {0}) (Err ReplayTooLarge) new (new.builder, h)
 
-reach_within : (bytes : ℕ) (all : List (ℕ × Field)) → AllByRecursion (λ entry. IsField bytes entry.1) all → fields_reach all ≤ bytes
+reach_within : (bytes : ℕ) (all : List (ℕ × Field)) → AllByRecursion (λ entry. IsFieldAfter bytes entry.1) all → fields_reach all ≤ bytes
 reach_within bytes [] fields = omega arith
 reach_within bytes (entry ∷ all) fields =
     let first = by_field entry.1 fields.0 in let rest = reach_within bytes all fields.1 in omega (arith, first, rest)
   where
-    by_field : (field : Field) → IsField bytes field → field_reach field ≤ bytes
+    by_field : (field : Field) → IsFieldAfter bytes field → field_reach field ≤ bytes
     by_field (value.plain item) is = omega arith
     by_field (value.reference distance) is = is
     by_field (value.tags distance) is = is

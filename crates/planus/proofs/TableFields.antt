@@ -8,7 +8,7 @@ use Rattle.planus_read.specs.Values as value
 use Rattle.planus_read.specs.Values.{Field}
 use Rattle.planus.specs.Steps.{FieldStep, number_field, ref_field, tags_field, values_field}
 use Rattle.planus_write.specs.Parts.{Named}
-use Rattle.planus.specs.Kinds.{Kind}
+use Rattle.planus.specs.Kinds.{StepKind}
 use Rattle.planus.specs.Slots.{place_fault, slot_fault, rising_fault, alignment_of}
 use Rattle.planus.specs.Runs.{Listed, tags_distance, references_distance, value_distance, distance_at}
 use Rattle.planus.specs.Runs.{value_at, field_width, fits_width, plain_field}
@@ -76,7 +76,7 @@ both_none : (first second : Option Why) → option_or first second ≡ None → 
 both_none first second e None none = e
 both_none first second e (Some why) none = (cc)
 
-module _ (listed : List Listed) (fault : Kind → ℕ → Option Why) (good : NamedAreGood listed fault) where
+module _ (listed : List Listed) (fault : StepKind → ℕ → Option Why) (good : NamedAreGood listed fault) where
   content_good : (content : FieldStep) (field : Field) → field_of listed content ≡ Some field → content_fault fault content ≡ None
   content_good (number_field width n) field e = number_good (field_width width) n field e
   content_good (ref_field step) field e =
@@ -95,7 +95,7 @@ module _ (listed : List Listed) (fault : Kind → ℕ → Option Why) (good : Na
       = both_none (slot_fault slots entry.0) (rising_fault before (alignment_of entry.1)) made.0 (content_fault fault entry.1) (content_good entry.1 made.1 made.2) in
       rw here (fields_good (slots ++ entry.0 ∷ []) (alignment_of entry.1) fields made.3 made.4)
 
-module _ (listed : List Listed) (fault : Kind → ℕ → Option Why) (good : GoodAreNamed listed fault) where
+module _ (listed : List Listed) (fault : StepKind → ℕ → Option Why) (good : GoodAreNamed listed fault) where
   number_made : (width : Option Width) (n : ℕ) → number_fault width n ≡ None → (field : Field) × (plain_field width n ≡ Some field)
   number_made None n e = (cc)
   number_made (Some width) n e = by_test (fits_width width n) e

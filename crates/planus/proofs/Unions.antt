@@ -19,11 +19,11 @@ use Rattle.planus_read.proofs.ReadingLaws.{broken, is_shown, lawful_text}
 use Rattle.planus_read.proofs.ReadsBack.{what_stands_reads_back}
 use Rattle.planus_write.specs.Contents.{Content, item, value, values, written, union_tags}
 use Rattle.planus_write.specs.Contents.{union_values, written_tags, written_values}
-use Rattle.planus.specs.ReadBack.{FieldHolds, TableStands}
+use Rattle.planus.specs.ReadBack.{FieldHolds, ContentsStand}
 use Rattle.planus.specs.ReadKinds.{reads_text}
 use Rattle.planus.specs.ReadUnions.{IsReference, ReadsUnion}
 use Rattle.planus.specs.Unions.{UnionVariant, table_variant, text_variant, struct_variant}
-use Rattle.planus.specs.Unions.{IsTable, IsText, IsApart, reads_struct}
+use Rattle.planus.specs.Unions.{IsTableIn, IsTextIn, IsApart, reads_struct}
 use Rattle.planus.specs.Unions.{ReadsVariant, ReadsTagged, ReadsVariants}
 use Rattle.planus.specs.Unions.{IsKnown, IsUnknown, HasVariants, VariantStands, EachStands}
 use Rattle.planus.specs.Unions.{UnionStands, IsVariant, IsUnion}
@@ -84,10 +84,10 @@ distance_of (reference distance) = distance
 distance_of _ = 0
 
 table_stands : (B : List ℕ) (content : Content) (contents : List (ℕ × Option Content)) (distance : ℕ)
-    → IsTable B content contents → FieldHolds B content (reference distance)
-    → TableStands B contents distance
+    → IsTableIn B content contents → FieldHolds B content (reference distance)
+    → ContentsStand B contents distance
 table_stands B (written d) contents distance is holds =
-    subst (TableStands B contents) (sym (ap distance_of holds)) is
+    subst (ContentsStand B contents) (sym (ap distance_of holds)) is
 table_stands B (item _) contents distance is holds = elim is [ ]
 table_stands B (value _) contents distance is holds = elim is [ ]
 table_stands B (values _) contents distance is holds = elim is [ ]
@@ -97,7 +97,7 @@ table_stands B (written_tags _) contents distance is holds = elim is [ ]
 table_stands B (written_values _) contents distance is holds = elim is [ ]
 
 text_stands : (B : List ℕ) (content : Content) (bytes : List ℕ) (distance : ℕ)
-    → IsText B content bytes → FieldHolds B content (reference distance)
+    → IsTextIn B content bytes → FieldHolds B content (reference distance)
     → Stands B (at (position_of B distance)) (text bytes)
 text_stands B (written d) bytes distance is holds =
     subst (λ (d : ℕ). Stands B (at (position_of B d)) (text bytes)) (sym (ap distance_of holds)) is
@@ -191,7 +191,7 @@ known_or_not (variant ∷ variants) tag (inl same) unknown = unknown.0 same
 known_or_not (variant ∷ variants) tag (inr known) unknown = known_or_not variants tag known unknown.1
 
 table_refers : (B : List ℕ) (content : Content) (contents : List (ℕ × Option Content))
-    → IsTable B content contents → IsReference content
+    → IsTableIn B content contents → IsReference content
 table_refers B (written d) contents is = tt
 table_refers B (item _) contents is = is
 table_refers B (value _) contents is = tt
@@ -201,7 +201,7 @@ table_refers B (union_values _) contents is = is
 table_refers B (written_tags _) contents is = is
 table_refers B (written_values _) contents is = is
 
-text_refers : (B : List ℕ) (content : Content) (bytes : List ℕ) → IsText B content bytes
+text_refers : (B : List ℕ) (content : Content) (bytes : List ℕ) → IsTextIn B content bytes
     → IsReference content
 text_refers B (written d) bytes is = tt
 text_refers B (item _) bytes is = is

@@ -8,11 +8,11 @@ use Rattle.std.specs.String.{string_bytes}
 use Rattle.std.proofs.lemmas.Str.{IsUtf8-string_bytes}
 use Rattle.planus.specs.Steps.{Step, text, bytes, numbers, refs, unions, struct, table, finish, clear}
 use Rattle.planus.specs.Steps.{bare_step}
-use Rattle.planus.specs.Kinds.{Kind, a_value, a_union_vector, kind_named, naming_fault}
+use Rattle.planus.specs.Kinds.{StepKind, a_value, a_union_vector, kind_named, naming_fault}
 use Rattle.planus_read.specs.Values.{Value}
 use Rattle.planus_write.specs.Shared.{CacheSettings}
 use Rattle.planus_write.specs.History.{Entry}
-use Rattle.planus.specs.Runs.{State, Advances, LeadsTo, StepTooLarge, nothing_written}
+use Rattle.planus.specs.Runs.{RunState, Advances, LeadsTo, StepTooLarge, nothing_written}
 use Rattle.planus.specs.Runs.{value_at, union_of, all_of, entries_put, finish_of}
 use Rattle.planus.specs.Runs.{width_of, fits_width, numbers_value, fields_of}
 use Rattle.planus.specs.Runs.{struct_width, fits_alignment, struct_value}
@@ -69,7 +69,7 @@ all_utf8 [] i content e = (cc)
 all_utf8 (step ∷ steps) zero content e = is_utf8 step content (let same : bare_step step ≡ text content = cc in same)
 all_utf8 (step ∷ steps) (suc i) content e = all_utf8 steps i content e
 
-no_wrong_kind : (kind : Kind) → naming_fault kind (Some (Some kind)) ≡ None
+no_wrong_kind : (kind : StepKind) → naming_fault kind (Some (Some kind)) ≡ None
 no_wrong_kind a_value = refl
 no_wrong_kind a_union_vector = refl
 
@@ -89,7 +89,7 @@ struct_good (Some width) content v h = by_test (fits_alignment (byte_len width) 
     by_test true h = refl
     by_test false h = (cc)
 
-module _ (settings : CacheSettings) (all cs : List Step) (c : Step) (rest : List Step) (whole : all ≡ cs ++ c ∷ rest) (state : State)
+module _ (settings : CacheSettings) (all cs : List Step) (c : Step) (rest : List Step) (whole : all ≡ cs ++ c ∷ rest) (state : RunState)
     (run : LeadsTo settings nothing_written cs state) (clean : first_bad cs ≡ None) where
   there : slice_get all (length cs) ≡ Some c
   there = ap (λ xs. slice_get xs (length cs)) whole ∙ get_last cs c rest
@@ -97,7 +97,7 @@ module _ (settings : CacheSettings) (all cs : List Step) (c : Step) (rest : List
   before_is : take (length cs) all ≡ cs
   before_is = ap (take (length cs)) whole ∙ take-append_seam cs (c ∷ rest)
 
-  abbrev fault_here : Kind → ℕ → Option Why
+  abbrev fault_here : StepKind → ℕ → Option Why
   fault_here kind number = fault_of kind (named_step cs number)
 
   name_good : NamedAreGood state.listed fault_here
@@ -146,7 +146,7 @@ module _ (settings : CacheSettings) (all cs : List Step) (c : Step) (rest : List
       value_named root made.0 made.1
   put_fault clear entries h = refl
 
-  no_fault : (step : Step) (after : State) → Advances settings state step after → broken_check cs step ≡ None
+  no_fault : (step : Step) (after : RunState) → Advances settings state step after → broken_check cs step ≡ None
   no_fault (text content) after h = refl
   no_fault (bytes content) after h = refl
   no_fault (numbers width items) after h = put_fault (numbers width items) h.entries h.are
@@ -157,7 +157,7 @@ module _ (settings : CacheSettings) (all cs : List Step) (c : Step) (rest : List
   no_fault (finish front root identifier) after h = put_fault (finish front root identifier) h.entries h.are
   no_fault clear after h = refl
 
-  pub still_clean : (after : State) → Advances settings state c after → first_bad (cs ++ c ∷ []) ≡ None
+  pub still_clean : (after : RunState) → Advances settings state c after → first_bad (cs ++ c ∷ []) ≡ None
   still_clean after h = next_check [] cs c [] clean ∙ ap (λ check. first_bad_or (0 + length cs) check None) (no_fault c after h)
 
   up_to : take (length cs + 1) all ≡ cs ++ c ∷ []

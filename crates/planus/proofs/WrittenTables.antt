@@ -12,7 +12,7 @@ use Rattle.std.proofs.lemmas.Nat.Gcd.{dvd_refl}
 use Rattle.planus_read.specs.Values as value
 use Rattle.planus_read.specs.Values.{Field, field_at, slot_count}
 use Rattle.planus_read.specs.Aligned.{field_alignment}
-use Rattle.planus_write.specs.Tables.{IsField, IsTable, Falling, SlotsOnce, field_size, body_size}
+use Rattle.planus_write.specs.Tables.{IsFieldAfter, IsTable, Falling, SlotsOnce, field_size, body_size}
 use Rattle.planus.specs.Steps.{FieldStep, number_field, ref_field, tags_field, values_field}
 use Rattle.planus.specs.Slots.{slot_fault, rising_fault, place_fault, alignment_of}
 use Rattle.planus.specs.Slots.{greatest_field}
@@ -43,7 +43,7 @@ width_known size w e =
     (chosen size 8 w64 w None refl (λ e. (cc)) (size == 8) refl) (size == 4) refl) (size == 2) refl) (size == 1) refl e
 
 abbrev pub HasSize : ℕ → ℕ → Field → Type 0
-HasSize before size field = IsField before field × (field_alignment field ≡ size) × (field_size field ≡ size)
+HasSize before size field = IsFieldAfter before field × (field_alignment field ≡ size) × (field_size field ≡ size)
 
 number_written : (before size : ℕ) (width : Option Width) (n : ℕ) (field : Field) → ((w : Width) → width ≡ Some w → byte_len w ≡ size) → plain_field width n ≡ Some field
     → HasSize before size field
@@ -112,7 +112,7 @@ Headed before [] = ⊤
 Headed before (entry ∷ all) = field_alignment entry.1 ≤ before
 
 record AreBehind (bytes : ℕ) (slots : List ℕ) (before : ℕ) (all : List (ℕ × Field)) : Type 0 where
-  pub fields : AllByRecursion (λ entry. IsField bytes entry.1) all
+  pub fields : AllByRecursion (λ entry. IsFieldAfter bytes entry.1) all
   pub headed : Headed before all
   pub falling : Falling all
   pub apart : (slot : ℕ) → list_any (λ other. other == slot) slots ≡ true → IsNone slot (slots_in all)

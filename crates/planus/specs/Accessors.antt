@@ -23,7 +23,7 @@ use Rattle.planus_write.specs.declared.offset.List.{List as ListOf}
 use Rattle.planus_write.specs.declared.offset.Offset.{Offset}
 use Rattle.planus_write.specs.declared.offset.Text.{Text}
 use Rattle.planus_fields.specs.Contents.{holds_if}
-use Rattle.planus.specs.ReadBack.{SlotHolds, TableStands, TableHolds}
+use Rattle.planus.specs.ReadBack.{SlotHolds, ContentsStand, TableHolds}
 use Rattle.planus.specs.ReadKinds.{reads_text, reads_bytes}
 use Rattle.planus.specs.ReadPlain.{reads_plain, plain_content, ArePlain}
 use Rattle.planus.specs.ReadVectors.{reads_vector, ItemsAreTexts, ItemsAreTables}
@@ -206,12 +206,12 @@ module _ {T R : Type 0} {kind : PlainGhosts R} where
   IsTableVectorRequired K = IsRequired (tables_kind K)
 
 abbrev pub TableIsThere : List ℕ → ℕ → Type 0
-TableIsThere B distance = (contents : List (ℕ × Option Content)) × TableStands B contents distance
+TableIsThere B distance = (contents : List (ℕ × Option Content)) × ContentsStand B contents distance
 
 -- a view of the table at the distance, with all its contents
 abbrev pub IsViewOf : {T : Type 0} → (T → Table) → List ℕ → ℕ → T → Type 0
 IsViewOf table_of B distance view =
-    (contents : List (ℕ × Option Content)) → TableStands B contents distance
+    (contents : List (ℕ × Option Content)) → ContentsStand B contents distance
     → TableHolds B contents (table_of view)
 
 abbrev pub table_kind : {T : Type 0} → (K : Type 0) → (T → Table) → FieldKind ℕ (Offset K) T

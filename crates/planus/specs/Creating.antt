@@ -15,13 +15,13 @@ use Rattle.planus.specs.FieldLines.FieldLine.{optional, required, plain_if, plai
 use Rattle.planus.specs.FieldLines.FieldLine.{signed_or, union, union_required, unions}
 use Rattle.planus.specs.FieldLines.FieldLine.{unions_required}
 use Rattle.planus.specs.Holds.{as_signed}
-use Rattle.planus.specs.Preparing.{Fields, WritesInTurn, next_turn}
+use Rattle.planus.specs.Preparing.{FieldsInTurn, WritesInTurn, next_turn}
 use Rattle.planus.specs.TableFields.{field_in, union_value_in, union_tag_in, list_tags_in}
 use Rattle.planus.specs.TableFields.{list_values_in}
 
 -- After these fields, and these that are written last, others are prepared; all are returned.
 abbrev pub PreparesOthers : Type 1
-PreparesOthers = Fields → Fields → Outcome Fields
+PreparesOthers = FieldsInTurn → FieldsInTurn → Outcome FieldsInTurn
 
 -- One field is prepared, and then the others.
 abbrev pub in_turn : FieldLine → PreparesOthers → PreparesOthers

@@ -28,7 +28,7 @@ use Rattle.planus.specs.Holds.{holds_any_union_tags, holds_any_union_values, hol
 use Rattle.planus.specs.Holds.{holds_union_values, as_signed}
 use Rattle.planus.specs.Contents.{TableIsKept, WritesContents}
 use Rattle.planus.specs.KeptValues.{ValuesStandIn}
-use Rattle.planus.specs.ReadBack.{TableStands, TableHolds, are_apart}
+use Rattle.planus.specs.ReadBack.{ContentsStand, TableHolds, are_apart}
 use Rattle.planus.specs.ReadPlain.{IsPlainField, IsPlainFieldOr}
 use Rattle.planus.specs.UnionAccessors.{IsUnionField, IsUnionRequired, IsUnionVector}
 use Rattle.planus.specs.UnionAccessors.{IsUnionVectorRequired, AreAnyUnions, AreUnionsOf}
@@ -173,7 +173,7 @@ KeptTablesStandIn B builder =
     (history : History) (contents : List (ℕ × Option Content)) (distance : ℕ)
     → IsHistoryOf builder history
     → TableIsKept history contents distance → IsTrue (are_apart contents)
-    → TableStands B contents distance
+    → ContentsStand B contents distance
 
 -- What is read of a root that a builder finishes: a view with all contents with which its table was
 -- written. The buffer has all tables that the builder had before, with all that they refer to, and
@@ -191,7 +191,7 @@ RootIsRead table_of root identifier builder read =
 
 -- A table was written with these fields over what a builder had, and is read: each method returns
 -- what was given for its field.
-pub record ReadsBack (builder : State) (lines : List FieldLine) (table : Table) : Type 0 where
+pub record LinesReadBack (builder : State) (lines : List FieldLine) (table : Table) : Type 0 where
   pub bytes : List ℕ
   pub keeps : KeptTablesStandIn bytes builder
   pub keeps_values : ValuesStandIn bytes builder

@@ -15,7 +15,8 @@ use Rattle.planus_write.specs.Shared.{CacheSettings}
 use Rattle.planus_write.specs.Parts.{identifier_bytes, position_in}
 use Rattle.planus_write.specs.Kept.{TagsReached}
 use Rattle.planus.specs.Steps.{Step, Front, root_first, size_first, finish}
-use Rattle.planus.specs.Runs.{Finish, Listed, State, nothing_written, LeadsTo, value_at, value_of}
+use Rattle.planus.specs.Runs.{Finish, Listed, RunState, nothing_written, LeadsTo, value_at}
+use Rattle.planus.specs.Runs.{value_of}
 
 -- a step's value is encoded at its distances, aligned, and reads back
 pub record ValueHolds (steps : List Step) (given : Finish) (one : Listed) : Type 0 where
@@ -76,7 +77,7 @@ pub record FinishHolds (settings : CacheSettings) (steps : List Step)
   pub root : ℕ
   pub identifier : Option (List ℕ)
   pub step : slice_get steps number ≡ Some (finish front root identifier)
-  pub state : State
+  pub state : RunState
   pub run : LeadsTo settings nothing_written (take (number + 1) steps) state
   pub bytes : given.bytes ≡ state.history.written.bytes
   pub places : given.places ≡ state.listed

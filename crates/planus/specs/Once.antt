@@ -5,7 +5,7 @@ use Rattle.std.specs.Option.{option_and_then}
 use Rattle.planus_write.specs.Shared.{Contents, CacheSettings, texts, byte_lists, is_on}
 use Rattle.planus_write.specs.History.{Entry}
 use Rattle.planus.specs.Steps.{Step, text, bytes}
-use Rattle.planus.specs.Runs.{Finish, Listed, State, Writes, LeadsTo, Runs, value_at}
+use Rattle.planus.specs.Runs.{Finish, Listed, RunState, Writes, LeadsTo, Runs, value_at}
 use Rattle.planus.specs.Replays.{is_clear}
 
 -- a string or a byte vector, with its kind
@@ -38,7 +38,7 @@ Gets contents entries got distance = (n : ℕ) × (entry : Entry) × (slice_get 
 -- In every run equal contents get one distance between clears, if cached.
 abbrev pub EqualEntriesGetOneDistance : Type 0
 EqualEntriesGetOneDistance =
-    (settings : CacheSettings) (before between next after : State) (step later : Step)
+    (settings : CacheSettings) (before between next after : RunState) (step later : Step)
     (steps : List Step)
     → (first : Writes settings before step between) → LeadsTo settings between steps next
     → list_any is_clear steps ≡ false → (second : Writes settings next later after)

@@ -29,13 +29,14 @@ PreparesBoth first second =
     then_does first (λ a. then_does second (λ b. Answers (a, b)))
 
 -- what is prepared of fields, each present or not, in the order written
-abbrev pub Fields : Type 0
-Fields = List (List (ℕ × Field))
+abbrev pub FieldsInTurn : Type 0
+FieldsInTurn = List (List (ℕ × Field))
 
 -- The fields are prepared in turn, after none and before none, and the table of those present is
 -- written; the first failure ends it. This is opaque, so that long lists of fields are compared and
 -- not computed.
-unfoldable pub WritesInTurn : {T : Type 0} → (Fields → Fields → Outcome Fields) → Outcome (Offset T)
+unfoldable pub WritesInTurn :
+    {T : Type 0} → (FieldsInTurn → FieldsInTurn → Outcome FieldsInTurn) → Outcome (Offset T)
 WritesInTurn in_turn = then_does (in_turn [] []) WritesFields
 
 -- One field is prepared, and then others that take what it was prepared to. This is opaque for the
@@ -45,7 +46,7 @@ next_turn one others = then_does one others
 
 -- after these fields, others are prepared, and all are returned
 abbrev pub PreparesAfter : Type 1
-PreparesAfter = Fields → Outcome Fields
+PreparesAfter = FieldsInTurn → Outcome FieldsInTurn
 
 -- How one field is prepared, by its slot.
 pub record Turn : Type 1 where
@@ -62,11 +63,11 @@ take_turns (turn ∷ turns) others before =
     (λ value. take_turns turns others (before ++ field_in turn.slot turn.as_field value ∷ []))
 
 -- All turns were taken, and prepared these.
-abbrev pub AreTaken : List Turn → State → Fields → State → Type 0
+abbrev pub AreTaken : List Turn → State → FieldsInTurn → State → Type 0
 AreTaken [] old fields new = (fields ≡ []) × (new ≡ old)
 AreTaken (turn ∷ turns) old fields new =
     (value : Option turn.Prepared) × (between : State) × turn.outcome old (Ok value) between
-    × ((rest : Fields) × (fields ≡ field_in turn.slot turn.as_field value ∷ rest)
+    × ((rest : FieldsInTurn) × (fields ≡ field_in turn.slot turn.as_field value ∷ rest)
     × AreTaken turns between rest new)
 
 -- A turn failed, after those before it.
@@ -81,8 +82,8 @@ OneFails (turn ∷ turns) old error new =
 pub record TakeTurns {X A : Type 0} (outcome : X → Outcome A) (turns : X → List Turn)
     (there : A → List (ℕ × Field)) : Type 0 where
   pub prepared :
-      (x : X) (old : State) (a : A) (new : State) → outcome x old (Ok a) new → (fields : Fields)
-      × AreTaken (turns x) old fields new × (all_of fields ≡ there a)
+      (x : X) (old : State) (a : A) (new : State) → outcome x old (Ok a) new
+      → (fields : FieldsInTurn) × AreTaken (turns x) old fields new × (all_of fields ≡ there a)
   pub failed :
       (x : X) (old : State) (error : BuildError) (new : State) → outcome x old (Err error) new
       → OneFails (turns x) old error new

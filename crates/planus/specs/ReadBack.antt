@@ -94,7 +94,7 @@ content_at [] slot = None
 content_at (one ∷ contents) slot = if one.0 == slot then one.1 else content_at contents slot
 
 -- A table with exactly these contents is in B, with what it refers to.
-pub record TableStands (B : List ℕ) (contents : List (ℕ × Option Content)) (distance : ℕ)
+pub record ContentsStand (B : List ℕ) (contents : List (ℕ × Option Content)) (distance : ℕ)
     : Type 0 where
   pub fields : List (ℕ × Field)
   pub hold : FieldsHold B (there_of contents) fields
@@ -118,7 +118,7 @@ abbrev pub KeptTablesStand : Type 0
 KeptTablesStand =
     (history : History) (contents : List (ℕ × Option Content)) (distance : ℕ)
     → TableIsKept history contents distance → IsTrue (are_apart contents)
-    → TableStands history.written.bytes contents distance
+    → ContentsStand history.written.bytes contents distance
 
 -- A stored table stays so, whatever is written later.
 abbrev pub KeptTablesStay : Type 0
@@ -135,7 +135,7 @@ FinishesKeepTables {X} may outcome =
     (root : X)
     (identifier : Option (List ℕ)) (bytes : List ℕ) → IsHistoryOf state history
     → TableIsKept history contents distance → IsTrue (are_apart contents) → may root state
-    → FinishGives (outcome root) identifier state bytes → TableStands bytes contents distance
+    → FinishGives (outcome root) identifier state bytes → ContentsStand bytes contents distance
 
 -- The same for a size-prefixed finish, also after its size.
 abbrev pub SizedFinishesKeepTables : {X T : Type 0} → (X → State → Type 0)
@@ -146,7 +146,7 @@ SizedFinishesKeepTables {X} may outcome =
     (identifier : Option (List ℕ)) (bytes : List ℕ) → IsHistoryOf state history
     → TableIsKept history contents distance → IsTrue (are_apart contents) → may root state
     → SizedFinishGives (outcome root) identifier state bytes
-    → TableStands bytes contents distance × TableStands (drop 4 bytes) contents distance
+    → ContentsStand bytes contents distance × ContentsStand (drop 4 bytes) contents distance
 
 -- The first reference of a finish leads to its root table.
 abbrev pub FinishedTablesStand : Type 0 → Type 0
@@ -155,7 +155,7 @@ FinishedTablesStand T =
     (identifier : Option (List ℕ)) (bytes : List ℕ) → IsHistoryOf state history
     → TableIsKept history contents offset.distance → IsTrue (are_apart contents)
     → offset.distance ≤ length state.bytes → FinishGives (IsPrepared offset) identifier state bytes
-    → TableStands bytes contents offset.distance × ReferenceStands bytes 0 offset.distance
+    → ContentsStand bytes contents offset.distance × ReferenceStands bytes 0 offset.distance
 
 -- The same after the size of a size-prefixed finish.
 abbrev pub SizedFinishedTablesStand : Type 0 → Type 0
@@ -165,14 +165,14 @@ SizedFinishedTablesStand T =
     → TableIsKept history contents offset.distance → IsTrue (are_apart contents)
     → offset.distance ≤ length state.bytes
     → SizedFinishGives (IsPrepared offset) identifier state bytes
-    → TableStands (drop 4 bytes) contents offset.distance
+    → ContentsStand (drop 4 bytes) contents offset.distance
     × ReferenceStands (drop 4 bytes) 0 offset.distance
 
 -- A table reads back by each reference to it.
 abbrev pub ReferencesReadBack : Type 0 → Type 0
 ReferencesReadBack K =
     (B : List ℕ) (start f : ℕ) (contents : List (ℕ × Option Content)) (distance : ℕ)
-    → TableStands B contents distance → ReferenceStands B (start + f) distance
+    → ContentsStand B contents distance → ReferenceStands B (start + f) distance
     → (r : Result (TableRef K) ErrorKind)
     → Answer (shown (ShowsView (drop start B) start) (table_reading (drop start B) f)) r
     → IsOkAnd r (λ view. TableHolds B contents view.table)
@@ -181,7 +181,7 @@ ReferencesReadBack K =
 abbrev pub RootsReadBack : Type 0 → Type 0
 RootsReadBack K =
     (B : List ℕ) (contents : List (ℕ × Option Content)) (distance : ℕ)
-    → TableStands B contents distance → ReferenceStands B 0 distance
+    → ContentsStand B contents distance → ReferenceStands B 0 distance
     → (type_ method : List ℕ) (offset : ℕ) (r : Result (TableRef K) Error)
     → Located (Answer (shown (ShowsView B 0) (table_reading B 0))) type_ method offset r
     → IsOkAnd r (λ view. TableHolds B contents view.table)
@@ -190,7 +190,7 @@ RootsReadBack K =
 abbrev pub ItemsReadBack : Type 0 → Type 0
 ItemsReadBack K =
     (B : List ℕ) (start f : ℕ) (contents : List (ℕ × Option Content)) (distance : ℕ)
-    → TableStands B contents distance → ReferenceStands B (start + f) distance
+    → ContentsStand B contents distance → ReferenceStands B (start + f) distance
     → (type_ method : List ℕ) (offset : ℕ) (r : Result (TableRef K) Error)
     → Located (Answer (shown (ShowsView (drop start B) start) (table_reading (drop start B) f)))
     type_ method offset r

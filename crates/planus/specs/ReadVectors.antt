@@ -17,7 +17,7 @@ use Rattle.planus_view.specs.VectorView.{ShowsVector, view_of, count_of}
 use Rattle.planus_view.specs.declared.vector.SliceView.{SliceView}
 use Rattle.planus_view.specs.declared.vector_of.VectorOf.{VectorOf}
 use Rattle.planus_write.specs.Contents.{Content, value, values}
-use Rattle.planus.specs.ReadBack.{AllStand, ContentsReadBack, TableStands, TableHolds}
+use Rattle.planus.specs.ReadBack.{AllStand, ContentsReadBack, ContentsStand, TableHolds}
 use Rattle.planus.specs.Views.{ShowsView}
 use Rattle.planus.specs.declared.tables.kind.table_ref.TableRef.{TableRef}
 
@@ -56,7 +56,7 @@ module _ {T R : Type 0} (kind : PlainGhosts R) where
     pub count : count_of vector ≡ length distances
     pub item :
         (i distance : ℕ) (contents : List (ℕ × Option Content))
-        → slice_get distances i ≡ Some distance → TableStands B contents distance
+        → slice_get distances i ≡ Some distance → ContentsStand B contents distance
         → (type_ method : List ℕ) (offset : ℕ) (r : Result (TableRef K) Error)
         → Located (Answer (shown (ShowsView (item_bytes vector) (view_of vector).start)
         (table_reading (item_bytes vector) (item_offset kind i))))

@@ -9,9 +9,9 @@ use Rattle.std.specs.Option.{option_or, option_map}
 use Rattle.std.specs.Int.{Width, byte_len}
 use Rattle.std.specs.declared.alloc.Global.{Global}
 use Rattle.planus.specs.Steps.{Step, numbers, refs, unions, struct, table, finish, clear}
-use Rattle.planus.specs.Kinds.{Kind, a_value, kind_of, naming_fault}
+use Rattle.planus.specs.Kinds.{StepKind, a_value, kind_of, naming_fault}
 use Rattle.planus_write.specs.Shared.{CacheSettings}
-use Rattle.planus.specs.Runs.{Finish, Listed, State, nothing_written, LeadsTo, Runs}
+use Rattle.planus.specs.Runs.{Finish, Listed, RunState, nothing_written, LeadsTo, Runs}
 use Rattle.planus.specs.Runs.{ComesToTooLarge, width_of, fits_width}
 use Rattle.planus.specs.Runs.{struct_width, fits_alignment}
 use Rattle.planus.specs.TableChecks.{table_fault}
@@ -34,7 +34,7 @@ abbrev pub named_step : List Step → ℕ → Option Step
 named_step earlier number =
     if list_any is_clear (drop number earlier) then None else slice_get earlier number
 
-abbrev pub fault_of : Kind → Option Step → Option Why
+abbrev pub fault_of : StepKind → Option Step → Option Why
 fault_of kind step = naming_fault kind (option_map kind_of step)
 
 -- the first error of these
@@ -57,7 +57,7 @@ struct_fault (Some width) content =
     if fits_alignment (byte_len width) content then None else Some WrongSize
 
 -- the first failed check of a step, by the errors of naming steps
-abbrev pub check_by : (Kind → ℕ → Option Why) → Step → Option Why
+abbrev pub check_by : (StepKind → ℕ → Option Why) → Step → Option Why
 check_by fault (numbers width items) = numbers_fault (width_of width) items
 check_by fault (refs steps) = first_fault (fault a_value) steps
 check_by fault (unions items) = first_fault (union_fault (fault a_value)) items
@@ -105,7 +105,7 @@ abbrev pub Replays : CacheSettings → List Step → Result (List Finish) Replay
 Replays settings steps (Ok finished) = (first_bad steps ≡ None) × Runs settings steps finished
 Replays settings steps (Err (BadStep step why)) =
     (first_bad steps ≡ Some (step, why))
-    × ((before : State) × LeadsTo settings nothing_written (take step steps) before)
+    × ((before : RunState) × LeadsTo settings nothing_written (take step steps) before)
 Replays settings steps (Err TooLarge) = (n : ℕ) × (first_bad (take (n + 1) steps) ≡ None)
     × ComesToTooLarge settings steps n
 Replays settings steps (Err OutOfMemory) = ⊤

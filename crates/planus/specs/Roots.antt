@@ -11,7 +11,7 @@ use Rattle.planus_write.specs.Preparing.{IsPrepared}
 use Rattle.planus_write.specs.State.{State, IsHistoryOf}
 use Rattle.planus_write.specs.declared.offset.Offset.{Offset}
 use Rattle.planus.specs.Contents.{WritesContents}
-use Rattle.planus.specs.ReadBack.{are_apart, TableStands, TableHolds}
+use Rattle.planus.specs.ReadBack.{are_apart, ContentsStand, TableHolds}
 use Rattle.planus.specs.Views.{reads_as}
 
 -- the root's view has the contents with which its table was written
@@ -19,7 +19,7 @@ pub record IsRoot {V : Type 0} (K : Type 0) (name : List ℕ) (table_of : V → 
     (r : Result V Error) : Type 0 where
   pub answer : Located (reads_as table_of bytes 0 0) name (codes "read_as_root") 0 r
   pub read_back :
-      (contents : List (ℕ × Option Content)) (distance : ℕ) → TableStands bytes contents distance
+      (contents : List (ℕ × Option Content)) (distance : ℕ) → ContentsStand bytes contents distance
       → ReferenceStands bytes 0 distance
       → IsOkAnd r (λ view. TableHolds bytes contents (table_of view))
   pub written :

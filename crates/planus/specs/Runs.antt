@@ -165,33 +165,33 @@ pub record Finish : Type 0 where
   pub places : List Listed
 
 -- what was written since the last clear, and all finishes
-pub record State : Type 0 where
+pub record RunState : Type 0 where
   pub history : History
   pub listed : List Listed
   pub next : ℕ
   pub finished : List Finish
 
 -- nothing is written before the step of this number
-abbrev pub nothing_since : ℕ → List Finish → State
+abbrev pub nothing_since : ℕ → List Finish → RunState
 nothing_since next finished =
     record { history = no_history; listed = []; next = next; finished = finished }
 
 -- the start of every run
-abbrev pub nothing_written : State
+abbrev pub nothing_written : RunState
 nothing_written = nothing_since 0 []
 
 abbrev pub values_added : Option Value → ℕ → List ℕ → List Listed
 values_added None number got = []
 values_added (Some value) number got = record { step = number; named = named_by value got } ∷ []
 
-abbrev pub finishes_added : Step → State → History → List Finish
+abbrev pub finishes_added : Step → RunState → History → List Finish
 finishes_added (finish front root identifier) before after =
     record { bytes = after.written.bytes; places = before.listed } ∷ []
 finishes_added _ before after = []
 
 -- a step that writes its entries
-pub record Writes (settings : CacheSettings) (before : State) (step : Step)
-    (after : State) : Type 0 where
+pub record Writes (settings : CacheSettings) (before : RunState) (step : Step)
+    (after : RunState) : Type 0 where
   pub entries : List Entry
   pub are : entries_put before.listed step ≡ Some entries
   pub got : List ℕ
@@ -202,25 +202,26 @@ pub record Writes (settings : CacheSettings) (before : State) (step : Step)
   pub finished : after.finished ≡ before.finished ++ finishes_added step before after.history
 
 -- nothing before a clear can be named
-abbrev pub cleared : State → State
+abbrev pub cleared : RunState → RunState
 cleared before = nothing_since (before.next + 1) before.finished
 
-abbrev pub Advances : CacheSettings → State → Step → State → Type 0
+abbrev pub Advances : CacheSettings → RunState → Step → RunState → Type 0
 Advances settings before clear after = after ≡ cleared before
 Advances settings before step after = Writes settings before step after
 
-abbrev pub LeadsTo : CacheSettings → State → List Step → State → Type 0
+abbrev pub LeadsTo : CacheSettings → RunState → List Step → RunState → Type 0
 LeadsTo settings before [] after = after ≡ before
 LeadsTo settings before (step ∷ steps) after =
-    (between : State) × Advances settings before step between × LeadsTo settings between steps after
+    (between : RunState) × Advances settings before step between
+    × LeadsTo settings between steps after
 
 -- from nothing, the steps give these finishes
 abbrev pub Runs : CacheSettings → List Step → List Finish → Type 0
-Runs settings steps finished = (end : State) × LeadsTo settings nothing_written steps end
+Runs settings steps finished = (end : RunState) × LeadsTo settings nothing_written steps end
     × (finished ≡ end.finished)
 
 -- one of the step's entries has a part that is too large
-pub record StepTooLarge (settings : CacheSettings) (before : State) (step : Step) : Type 0 where
+pub record StepTooLarge (settings : CacheSettings) (before : RunState) (step : Step) : Type 0 where
   pub entries : List Entry
   pub are : entries_put before.listed step ≡ Some entries
   pub too_large : ComesToTooLargeEntry settings entries [] before.history
@@ -229,7 +230,7 @@ pub record StepTooLarge (settings : CacheSettings) (before : State) (step : Step
 pub record ComesToTooLarge (settings : CacheSettings) (steps : List Step) (n : ℕ) : Type 0 where
   pub step : Step
   pub there : slice_get steps n ≡ Some step
-  pub before : State
+  pub before : RunState
   pub run : LeadsTo settings nothing_written (take n steps) before
   pub too_large : StepTooLarge settings before step
 
@@ -260,12 +261,13 @@ takes_list (unions items) = true
 takes_list _ = false
 
 -- memory may run out while the step's entries are written
-pub record EntriesRefused (settings : CacheSettings) (before : State) (step : Step) : Type 0 where
+pub record EntriesRefused (settings : CacheSettings) (before : RunState) (step : Step)
+    : Type 0 where
   pub entries : List Entry
   pub are : entries_put before.listed step ≡ Some entries
   pub refused : ComesToRefusedEntry settings entries [] before.history
 
 -- memory may run out in the step
-abbrev pub StepRefused : CacheSettings → State → Step → Type 0
+abbrev pub StepRefused : CacheSettings → RunState → Step → Type 0
 StepRefused settings before step =
     (takes_list step ≡ true) ⊎ EntriesRefused settings before step

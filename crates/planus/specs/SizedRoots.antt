@@ -9,7 +9,7 @@ use Rattle.planus_read.specs.Located.{Located}
 use Rattle.planus_read.specs.SizePrefixed.{Prefixed, PrefixedThere, prefixed_clauses, IsPrefixed}
 use Rattle.planus_read.specs.Stands.{ReferenceStands}
 use Rattle.planus_write.specs.Contents.{Content}
-use Rattle.planus.specs.ReadBack.{TableStands, TableHolds}
+use Rattle.planus.specs.ReadBack.{ContentsStand, TableHolds}
 use Rattle.planus.specs.Views.{reads_as}
 
 module _ {V : Type 0} (table_of : V → Table) (B : List ℕ) where
@@ -34,6 +34,6 @@ pub record IsSizedRoot {V : Type 0} (name : List ℕ) (table_of : V → Table) (
   pub answer : Located (ReadsSized table_of B) name (codes "read_as_root") 0 r
   pub read_back :
       (buffer rest : List ℕ) (contents : List (ℕ × Option Content)) (distance : ℕ)
-      → B ≡ buffer ++ rest → IsPrefixed buffer → TableStands buffer contents distance
+      → B ≡ buffer ++ rest → IsPrefixed buffer → ContentsStand buffer contents distance
       → ReferenceStands buffer 4 distance
       → IsOkAnd r (λ read. TableHolds buffer contents (table_of read.0) × (read.1.now ≡ rest))

@@ -4,7 +4,7 @@ use Rattle.std.specs.Option.{option_or}
 use Rattle.std.specs.Int.{Width}
 use Rattle.planus.specs.Steps.{FieldStep, number_field, ref_field, tags_field, values_field}
 use Rattle.planus.specs.Slots.{slot_fault, rising_fault, alignment_of, greatest_field}
-use Rattle.planus.specs.Kinds.{Kind, a_value, a_union_vector}
+use Rattle.planus.specs.Kinds.{StepKind, a_value, a_union_vector}
 use Rattle.planus.specs.Runs.{field_width, fits_width}
 use Rattle.planus.specs.declared.replaying.faults.Why.{Why}
 use Rattle.planus.specs.declared.replaying.faults.Why.TheVariants.{WidthUnknown, ValueTooBig}
@@ -15,19 +15,19 @@ number_fault (Some width) number =
     if fits_width width number then None else Some ValueTooBig
 
 -- a reference names a value, tags and values a union vector
-abbrev pub content_fault : (Kind → ℕ → Option Why) → FieldStep → Option Why
+abbrev pub content_fault : (StepKind → ℕ → Option Why) → FieldStep → Option Why
 content_fault fault (number_field width number) = number_fault (field_width width) number
 content_fault fault (ref_field step) = fault a_value step
 content_fault fault (tags_field step) = fault a_union_vector step
 content_fault fault (values_field step) = fault a_union_vector step
 
 -- the first failed check: of the slot, the content, the alignment
-abbrev pub field_fault : (Kind → ℕ → Option Why) → List ℕ → ℕ → ℕ × FieldStep → Option Why
+abbrev pub field_fault : (StepKind → ℕ → Option Why) → List ℕ → ℕ → ℕ × FieldStep → Option Why
 field_fault fault slots before entry =
     option_or (slot_fault slots entry.0)
     (option_or (content_fault fault entry.1) (rising_fault before (alignment_of entry.1)))
 
-abbrev pub fields_fault : (Kind → ℕ → Option Why) → List ℕ → ℕ → List (ℕ × FieldStep)
+abbrev pub fields_fault : (StepKind → ℕ → Option Why) → List ℕ → ℕ → List (ℕ × FieldStep)
     → Option Why
 fields_fault fault slots before [] = None
 fields_fault fault slots before (entry ∷ fields) =
@@ -35,5 +35,5 @@ fields_fault fault slots before (entry ∷ fields) =
     (fields_fault fault (slots ++ entry.0 ∷ []) (alignment_of entry.1) fields)
 
 -- the first failed check of a table
-abbrev pub table_fault : (Kind → ℕ → Option Why) → List (ℕ × FieldStep) → Option Why
+abbrev pub table_fault : (StepKind → ℕ → Option Why) → List (ℕ × FieldStep) → Option Why
 table_fault fault fields = fields_fault fault [] greatest_field fields

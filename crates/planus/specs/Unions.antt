@@ -15,7 +15,7 @@ use Rattle.planus_read.specs.Tables.{Reads, ReadsBoth}
 use Rattle.planus_read.specs.Values.{text, apart}
 use Rattle.planus_view.specs.PlainRefs.{reads_plain_ref}
 use Rattle.planus_write.specs.Contents.{Content, value, written}
-use Rattle.planus.specs.ReadBack.{TableStands, TableHolds}
+use Rattle.planus.specs.ReadBack.{ContentsStand, TableHolds}
 use Rattle.planus.specs.ReadKinds.{reads_text}
 use Rattle.planus.specs.Views.{reads_as}
 
@@ -32,14 +32,14 @@ tag_of (text_variant tag text_of) = tag
 tag_of (struct_variant tag size slice_of) = tag
 
 -- the value is this table, written before, this string, or the struct of these bytes
-abbrev pub IsTable : List ℕ → Content → List (ℕ × Option Content) → Type 0
-IsTable B (written distance) contents = TableStands B contents distance
-IsTable B _ contents = ⊥
+abbrev pub IsTableIn : List ℕ → Content → List (ℕ × Option Content) → Type 0
+IsTableIn B (written distance) contents = ContentsStand B contents distance
+IsTableIn B _ contents = ⊥
 
-abbrev pub IsText : List ℕ → Content → List ℕ → Type 0
-IsText B (value content) bytes = content ≡ text bytes
-IsText B (written distance) bytes = Stands B (at (position_of B distance)) (text bytes)
-IsText B _ bytes = ⊥
+abbrev pub IsTextIn : List ℕ → Content → List ℕ → Type 0
+IsTextIn B (value content) bytes = content ≡ text bytes
+IsTextIn B (written distance) bytes = Stands B (at (position_of B distance)) (text bytes)
+IsTextIn B _ bytes = ⊥
 
 abbrev pub IsApart : List ℕ → Content → List ℕ → Type 0
 IsApart B (value content) bytes =
@@ -104,9 +104,9 @@ module _ {U : Type 0} where
 
   abbrev pub VariantStands : UnionVariant U → List ℕ → Content → Type 0
   VariantStands (table_variant tag table_of) B content =
-      (contents : List (ℕ × Option Content)) × IsTable B content contents
+      (contents : List (ℕ × Option Content)) × IsTableIn B content contents
   VariantStands (text_variant tag text_of) B content =
-      (bytes : List ℕ) × IsUtf8 bytes × IsText B content bytes
+      (bytes : List ℕ) × IsUtf8 bytes × IsTextIn B content bytes
   VariantStands (struct_variant tag size slice_of) B content =
       (bytes : List ℕ) × (length bytes ≡ size) × IsApart B content bytes
 
@@ -127,11 +127,11 @@ module _ {U : Type 0} where
   abbrev pub IsVariant : UnionVariant U → List ℕ → Content → U → Type 0
   IsVariant (table_variant tag table_of) B content union =
       IsSomeAnd (table_of union)
-      (λ table. (contents : List (ℕ × Option Content)) → IsTable B content contents
+      (λ table. (contents : List (ℕ × Option Content)) → IsTableIn B content contents
       → TableHolds B contents table)
   IsVariant (text_variant tag text_of) B content union =
       IsSomeAnd (text_of union)
-      (λ lent. (bytes : List ℕ) → IsUtf8 bytes → IsText B content bytes → lent.now ≡ bytes)
+      (λ lent. (bytes : List ℕ) → IsUtf8 bytes → IsTextIn B content bytes → lent.now ≡ bytes)
   IsVariant (struct_variant tag size slice_of) B content union =
       IsSomeAnd (slice_of union)
       (λ slice. (bytes : List ℕ) → length bytes ≡ size → IsApart B content bytes

@@ -9,7 +9,7 @@ use Rattle.planus_read.specs.Bytes.{Num, position_of}
 use Rattle.planus_read.specs.Clauses.{AllHold, FirstBroken}
 use Rattle.planus_read.specs.Reading.{Leads, target, slots_of, table_clauses, TableThere, vtable_at}
 use Rattle.planus_read.specs.Reading.{vtable_size_at}
-use Rattle.planus_read.specs.Stands.{at, Stands, ReferenceStands, TableStands as Encoded}
+use Rattle.planus_read.specs.Stands.{at, Stands, ReferenceStands, TableStands}
 use Rattle.planus_read.specs.TableReading.{SlotReads}
 use Rattle.planus_read.specs.Tables.{Slot}
 use Rattle.planus_read.specs.Values.{Field, field_at, slot_count, table, vtable_size}
@@ -78,7 +78,7 @@ read_at B k entries stands start f leads = record {
         let word = number_of_signed (Num B k w32) (pos k -ℤ pos stands.vtable) stands.word in
         num_inside B k w32 word.0 word.1
 
-    stands_here : Encoded S object entries
+    stands_here : TableStands S object entries
     stands_here = stands_in_slices B start (at object) (table entries) inside
         (subst (λ (n : ℕ). Stands B (at n) (table entries)) whole stands)
 

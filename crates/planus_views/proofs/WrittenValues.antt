@@ -20,7 +20,7 @@ use Rattle.planus_read.proofs.ReadsBack.{what_stands_reads_back}
 use Rattle.planus_read.proofs.SliceLaws.{references_lead, bytes_in_slice, leads_in_slices}
 use Rattle.planus_write.specs.Contents.{Content, item, value, values, written}
 use Rattle.planus.specs.ReadBack.{FieldHolds, AllStand}
-use Rattle.planus.specs.Unions.{IsApart, IsText as IsTextIn}
+use Rattle.planus.specs.Unions.{IsApart, IsTextIn}
 use Rattle.planus_read.specs.Reading.{plain_ref_clauses}
 use Rattle.planus_verify.specs.Steps.{Step, Faults, items_from, value_steps, text_steps}
 use Rattle.planus_verify.specs.Steps.{plain_clauses, reference_steps, vector_steps}

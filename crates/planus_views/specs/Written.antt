@@ -7,8 +7,8 @@ use Rattle.planus_read.specs.Reading.{target, slots_of}
 use Rattle.planus_read.specs.Stands.{ReferenceStands}
 use Rattle.planus_read.specs.Values.{Plain, Value, text, byte_list, plain_list, reference_list}
 use Rattle.planus_write.specs.Contents.{Content, item, value, values, written}
-use Rattle.planus.specs.ReadBack.{TableStands, content_at}
-use Rattle.planus.specs.Unions.{IsApart, IsText as IsTextIn}
+use Rattle.planus.specs.ReadBack.{ContentsStand, content_at}
+use Rattle.planus.specs.Unions.{IsApart, IsTextIn}
 use Rattle.planus_verify.specs.Schemas.{Shapes, fields_of, variant_in}
 use Rattle.planus_verify.specs.Verified.{tables_in}
 use Rattle.planus_verify.specs.Walks.{RootWalks}
@@ -134,7 +134,7 @@ FieldsFit Written B variants at (field ∷ fields) =
 abbrev pub IsWritten : Shapes → List ℕ → ℕ → OfWritten
 IsWritten schema B zero t distance = ⊥
 IsWritten schema B (suc n) t distance =
-    (contents : List (ℕ × Option Content)) × TableStands B contents distance
+    (contents : List (ℕ × Option Content)) × ContentsStand B contents distance
     × FieldsFit (IsWritten schema B n) B schema.variants (content_at contents) (fields_of schema t)
 
 -- It is verified to that depth by each reference that leads to it.

@@ -9,7 +9,7 @@ use Rattle.planus_back.specs.CacheKeys.{key_at, bytes_in, vtable_in}
 use Rattle.planus_back.specs.Promises.{Promise, Keep, greatest_alignment}
 use Rattle.planus_back.specs.Padding.{greatest_place, promise_of}
 use Rattle.planus_back.specs.Parts.{Part, Placed}
-use Rattle.planus_write.specs.Shared.{Kind, Contents, CacheSettings, Cached, texts, byte_lists, vtables, same_kind, is_on}
+use Rattle.planus_write.specs.Shared.{ContentsKind, Contents, CacheSettings, Cached, texts, byte_lists, vtables, same_kind, is_on}
 use Rattle.planus_write.specs.Shared.{shared_as, earlier_distance, distance_cached, and_cached}
 use Rattle.planus_write.specs.History.{History, Entry, unshared_entry, part_after, Adds, PutsAfter, Puts}
 use Rattle.planus_write.specs.History.{found_before, no_history}
@@ -55,7 +55,7 @@ module _ (entry : Entry) (got : List ℕ) (size alignment place : ℕ) (b mid n 
     (bytes_are : (history : History) → IsHistoryOf (state_from b settings holdings) history → (part_after entry got history).bytes_at place ≡ bytes)
     (length_is : length bytes ≡ size) (put : PutsBytes bytes mid n)
     (is_new : (history : History) → IsHistoryOf (state_from b settings holdings) history → found_before settings entry history ≡ None)
-    (cached : (history : History) → IsHistoryOf (state_from b settings holdings) history → (kind : Kind)
+    (cached : (history : History) → IsHistoryOf (state_from b settings holdings) history → (kind : ContentsKind)
     → FindsCached (state_from n settings holdings_after) (and_cached (shared_as settings entry.contents) place history.cached) kind)
     (stays_kept : (history : History) → IsHistoryOf (state_from b settings holdings) history → (after : History)
     → Adds (part_after entry got history) (shared_as settings entry.contents) history place after → AllCachedKept after) where
@@ -161,17 +161,17 @@ module _ (part_from : List ℕ → List Promise → Part) (got : List ℕ) (size
     cause = refused_memory alone got size alignment b settings holdings sized (λ history h. refl) refl lacks;
   }
 
-abbrev pub holding : Kind → Holdings → Holding → Holdings
+abbrev pub holding : ContentsKind → Holdings → Holding → Holdings
 holding texts holdings x = record holdings { held_texts = x }
 holding byte_lists holdings x = record holdings { held_byte_lists = x }
 holding vtables holdings x = record holdings { held_vtables = x }
 
-holding_it : (kind : Kind) (holdings : Holdings) (x : Holding) → holding_of (holding kind holdings x) kind ≡ x
+holding_it : (kind : ContentsKind) (holdings : Holdings) (x : Holding) → holding_of (holding kind holdings x) kind ≡ x
 holding_it texts holdings x = refl
 holding_it byte_lists holdings x = refl
 holding_it vtables holdings x = refl
 
-holding_others : (kind other : Kind) (holdings : Holdings) (x : Holding) → same_kind kind other ≡ false → holding_of (holding kind holdings x) other ≡ holding_of holdings other
+holding_others : (kind other : ContentsKind) (holdings : Holdings) (x : Holding) → same_kind kind other ≡ false → holding_of (holding kind holdings x) other ≡ holding_of holdings other
 holding_others texts texts holdings x e = cc
 holding_others byte_lists byte_lists holdings x e = cc
 holding_others vtables vtables holdings x e = cc
@@ -182,7 +182,7 @@ holding_others byte_lists vtables holdings x e = refl
 holding_others vtables texts holdings x e = refl
 holding_others vtables byte_lists holdings x e = refl
 
-held_again : (kind other : Kind) (holdings : Holdings) (x : Holding) → x ≡ holding_of holdings kind → holding_of (holding kind holdings x) other ≡ holding_of holdings other
+held_again : (kind other : ContentsKind) (holdings : Holdings) (x : Holding) → x ≡ holding_of holdings kind → holding_of (holding kind holdings x) other ≡ holding_of holdings other
 held_again kind other holdings x same = by_case (same_kind kind other) refl
   where
     by_case : (b : Bool) → same_kind kind other ≡ b → holding_of (holding kind holdings x) other ≡ holding_of holdings other
@@ -199,10 +199,10 @@ at_its_place key_in bytes place key long h =
     let all : drop (length bytes - place) bytes ≡ bytes = ap (λ n. drop n bytes) whole in
     grind (arith, leb_tells, within, all, h)
 
-abbrev pub shared_entry : Kind → List ℕ → Part → Entry
+abbrev pub shared_entry : ContentsKind → List ℕ → Part → Entry
 shared_entry kind contents part = record { contents = Some (record { kind = kind; bytes = contents }); part = λ got promises. part }
 
-module _ (kind : Kind) (contents : List ℕ) (part : Part) (got : List ℕ) (b : Backed) (settings : CacheSettings) (holdings : Holdings) where
+module _ (kind : ContentsKind) (contents : List ℕ) (part : Part) (got : List ℕ) (b : Backed) (settings : CacheSettings) (holdings : Holdings) where
   abbrev the_entry : Entry
   the_entry = shared_entry kind contents part
 
@@ -270,7 +270,7 @@ module _ (kind : Kind) (contents : List ℕ) (part : Part) (got : List ℕ) (b :
     in_front : n.bytes ≡ (bytes ++ replicate room.padding 0) ++ b.bytes
     in_front = new_bytes part.size part.alignment place b mid n bytes room length_is put
 
-    still : (history : History) → IsHistoryOf before history → (other : Kind) → holding_of (holding kind holdings x) other ≡ holding_of holdings other → FindsCached after history.cached other
+    still : (history : History) → IsHistoryOf before history → (other : ContentsKind) → holding_of (holding kind holdings x) other ≡ holding_of holdings other → FindsCached after history.cached other
     still history h other same = finds_still before after (bytes ++ replicate room.padding 0) in_front history.cached other (h.cached other) same
 
     cached_it : (history : History) → IsHistoryOf before history → is_on settings kind ≡ true → FindsCached after (cached_more history.cached) kind
@@ -282,11 +282,11 @@ module _ (kind : Kind) (contents : List ℕ) (part : Part) (got : List ℕ) (b :
         let fits : FitsInFront (contents_in kind) b.bytes contents place (holding_of (holding kind holdings x) kind) = subst (λ (y : Holding). FitsInFront (contents_in kind) b.bytes contents place y) (sym it) on.1 in
         finds_added before after (bytes ++ replicate room.padding 0) in_front history.cached kind contents place adds fits stands (not_cached history h finds) (h.cached kind)
 
-    cached_on : (history : History) → IsHistoryOf before history → is_on settings kind ≡ true → (other : Kind) → (same : Bool) → same_kind kind other ≡ same → FindsCached after (cached_more history.cached) other
+    cached_on : (history : History) → IsHistoryOf before history → is_on settings kind ≡ true → (other : ContentsKind) → (same : Bool) → same_kind kind other ≡ same → FindsCached after (cached_more history.cached) other
     cached_on history h e other false apart = other_finds after kind other contents place history.cached apart (still history h other (holding_others kind other holdings x apart))
     cached_on history h e other true same = subst (FindsCached after (cached_more history.cached)) (same_of kind other same) (cached_it history h e)
 
-    cached_after : (history : History) → IsHistoryOf before history → (other : Kind) → (on : Bool) → is_on settings kind ≡ on → FindsCached after (and_cached (shared_as settings (Some known)) place history.cached) other
+    cached_after : (history : History) → IsHistoryOf before history → (other : ContentsKind) → (on : Bool) → is_on settings kind ≡ on → FindsCached after (and_cached (shared_as settings (Some known)) place history.cached) other
     cached_after history h other true e =
         subst (λ (shared : Option Contents). FindsCached after (and_cached shared place history.cached) other) (sym (shared_if true e)) (cached_on history h e other (same_kind kind other) refl)
     cached_after history h other false e =
@@ -407,18 +407,18 @@ module _ (root : ℕ) (identifier : Option (List ℕ)) (alignment : ℕ) (b : Ba
       (rw (size_is, word_is) refl)
       (rw (size_is, word_is, length-append (to_le_bytes w32 (place - 4 - root)) (identifier_bytes identifier)) (omega arith)) all some
 
-abbrev pub shares_of : Kind → Inside → Shares
+abbrev pub shares_of : ContentsKind → Inside → Shares
 shares_of texts a = a.texts
 shares_of byte_lists a = a.byte_lists
 shares_of vtables a = a.vtables
 
-abbrev pub with_shares : Kind → Inside → Backed → Shares → Inside
+abbrev pub with_shares : ContentsKind → Inside → Backed → Shares → Inside
 with_shares texts a n s = record a { backing = n; texts = s }
 with_shares byte_lists a n s = record a { backing = n; byte_lists = s }
 with_shares vtables a n s = record a { backing = n; vtables = s }
 
 module _ (contents : List ℕ) (part : Part) (a : Inside) (mid : Backed) (s : Shares) where
-  in_room : (kind : Kind) (place : ℕ) (padded n : Backed) (bytes : List ℕ)
+  in_room : (kind : ContentsKind) (place : ℕ) (padded n : Backed) (bytes : List ℕ)
       → Finds (contents_in kind) (shares_of kind a) a.backing.bytes contents None → MakesRoom part.size part.alignment a.backing place padded
       → Keeps (contents_in kind) a.backing.bytes contents place (shares_of kind a) s
       → part.bytes_at place ≡ bytes → length bytes ≡ part.size → PutsBytes bytes padded n → contents_in kind n.bytes ≡ Some contents
@@ -440,7 +440,7 @@ module _ (contents : List ℕ) (part : Part) (a : Inside) (mid : Backed) (s : Sh
       (at_its_place vtable_in n.bytes place contents (new_length part.size part.alignment place a.backing padded n bytes room length_is put) stands)
       are_kept)
 
-  pub begun : (kind : Kind) (plan : Plan) (padded n : Backed) (bytes : List ℕ)
+  pub begun : (kind : ContentsKind) (plan : Plan) (padded n : Backed) (bytes : List ℕ)
       → FindsOrPlans (contents_in kind) contents part.size part.alignment a.backing (shares_of kind a) (Ok (Planned plan)) mid s → Pads plan mid padded
       → part.bytes_at plan.place ≡ bytes → length bytes ≡ part.size → PutsBytes bytes padded n → contents_in kind n.bytes ≡ Some contents
       → AreKept kind contents part
@@ -448,7 +448,7 @@ module _ (contents : List ℕ) (part : Part) (a : Inside) (mid : Backed) (s : Sh
   begun kind plan padded n bytes h pads bytes_are length_is put stands are_kept =
       in_room kind plan.place padded n bytes h.0 (makes_room part.size part.alignment a.backing mid padded plan h.1.0 h.1.1 pads) h.1.2 bytes_are length_is put stands are_kept
 
-  pub found_again : (kind : Kind) (distance : ℕ) → FindsOrPlans (contents_in kind) contents part.size part.alignment a.backing (shares_of kind a) (Ok (Found distance)) mid s
+  pub found_again : (kind : ContentsKind) (distance : ℕ) → FindsOrPlans (contents_in kind) contents part.size part.alignment a.backing (shares_of kind a) (Ok (Found distance)) mid s
       → PlacesEntry (shared_entry kind contents part) [] (state_of a) distance (state_of (with_shares kind a mid s))
   found_again texts distance h =
       rw (h.1, h.2) (shared_found texts contents part [] a.backing (state_of a).settings (state_of a).holdings distance h.0 h.3)
@@ -457,7 +457,7 @@ module _ (contents : List ℕ) (part : Part) (a : Inside) (mid : Backed) (s : Sh
   found_again vtables distance h =
       rw (h.1, h.2) (shared_found vtables contents part [] a.backing (state_of a).settings (state_of a).holdings distance h.0 h.3)
 
-  pub not_begun : (kind : Kind) (error : BuildError) → FindsOrPlans (contents_in kind) contents part.size part.alignment a.backing (shares_of kind a) (Err error) mid s
+  pub not_begun : (kind : ContentsKind) (error : BuildError) → FindsOrPlans (contents_in kind) contents part.size part.alignment a.backing (shares_of kind a) (Err error) mid s
       → Refuses (shared_entry kind contents part) [] (state_of a) error (state_of (with_shares kind a mid s))
   not_begun texts error h =
       rw h.1.1 (shared_refused texts contents part [] a.backing (state_of a).settings (state_of a).holdings error mid h.0 h.1.0)
@@ -477,7 +477,7 @@ pub nothing_written : (b : Backed) (settings : CacheSettings) (holdings : Holdin
     → HoldsNothing holdings.held_texts → HoldsNothing holdings.held_byte_lists → HoldsNothing holdings.held_vtables → IsHistoryOf (state_from b settings holdings) no_history
 nothing_written b settings holdings bytes described none_of_texts none_of_lists none_of_vtables = record { bytes = sym bytes; described = described; cached = of_kind; kept = tt }
   where
-    of_kind : (kind : Kind) → FindsCached (state_from b settings holdings) [] kind
+    of_kind : (kind : ContentsKind) → FindsCached (state_from b settings holdings) [] kind
     of_kind texts = finds_nothing (state_from b settings holdings) texts none_of_texts
     of_kind byte_lists = finds_nothing (state_from b settings holdings) byte_lists none_of_lists
     of_kind vtables = finds_nothing (state_from b settings holdings) vtables none_of_vtables

@@ -8,7 +8,7 @@ use Rattle.planus_back.specs.CacheKeys.{key_at}
 use Rattle.planus_back.proofs.Caches.{key_at-front}
 use Rattle.planus_write.specs.Holding.{Holds, HoldsNothing, HoldsMore, FitsInFront}
 use Rattle.planus_write.proofs.HeldContents.{holding_fits-front, holds-stands, nothing-fits}
-use Rattle.planus_write.specs.Shared.{Kind, texts, byte_lists, vtables, same_kind, Cached, distance_cached}
+use Rattle.planus_write.specs.Shared.{ContentsKind, texts, byte_lists, vtables, same_kind, Cached, distance_cached}
 use Rattle.planus_write.specs.State.{State, FindsCached, holding_of, contents_in}
 
 pub none_is_not_some : {A : Type 0} (x : A) → None ≡ Some x → ⊥
@@ -17,7 +17,7 @@ none_is_not_some x e = cc
 true_is_not_false : true ≡ false → ⊥
 true_is_not_false e = cc
 
-same_both : (kind : Kind) (b : Bool) → (same_kind kind kind && b) ≡ b
+same_both : (kind : ContentsKind) (b : Bool) → (same_kind kind kind && b) ≡ b
 same_both texts b = refl
 same_both byte_lists b = refl
 same_both vtables b = refl
@@ -25,7 +25,7 @@ same_both vtables b = refl
 some_same : {A : Type 0} (x y : A) → Some x ≡ Some y → x ≡ y
 some_same x y e = cc
 
-module _ (old new : State) (front : List ℕ) (bytes_are : new.bytes ≡ front ++ old.bytes) (cached : List Cached) (kind : Kind) (was : FindsCached old cached kind) where
+module _ (old new : State) (front : List ℕ) (bytes_are : new.bytes ≡ front ++ old.bytes) (cached : List Cached) (kind : ContentsKind) (was : FindsCached old cached kind) where
   moved_on : (distance : ℕ) (bytes : List ℕ) → key_at (contents_in kind) old.bytes distance ≡ Some bytes → key_at (contents_in kind) new.bytes distance ≡ Some bytes
   moved_on distance bytes h = rw bytes_are (key_at-front (contents_in kind) front old.bytes distance bytes h)
 
@@ -43,7 +43,7 @@ module _ (old new : State) (front : List ℕ) (bytes_are : new.bytes ≡ front +
     );
   }
 
-module _ (old new : State) (front : List ℕ) (bytes_are : new.bytes ≡ front ++ old.bytes) (cached : List Cached) (kind : Kind) (contents : List ℕ) (place : ℕ)
+module _ (old new : State) (front : List ℕ) (bytes_are : new.bytes ≡ front ++ old.bytes) (cached : List Cached) (kind : ContentsKind) (contents : List ℕ) (place : ℕ)
     (adds : HoldsMore (holding_of old.holdings kind) place (holding_of new.holdings kind))
     (fits : FitsInFront (contents_in kind) old.bytes contents place (holding_of new.holdings kind))
     (stands : key_at (contents_in kind) new.bytes place ≡ Some contents)
@@ -99,12 +99,12 @@ module _ (old new : State) (front : List ℕ) (bytes_are : new.bytes ≡ front +
     finds = finds_bytes;
   }
 
-other_cached : (kind other : Kind) (contents bytes : List ℕ) (place : ℕ) (cached : List Cached) → same_kind kind other ≡ false
+other_cached : (kind other : ContentsKind) (contents bytes : List ℕ) (place : ℕ) (cached : List Cached) → same_kind kind other ≡ false
     → distance_cached (record { contents = record { kind = kind; bytes = contents }; distance = place } ∷ cached) (record { kind = other; bytes = bytes }) ≡ distance_cached cached (record { kind = other; bytes = bytes })
 other_cached kind other contents bytes place cached apart =
     ap (λ b. if b && bytes_eq contents bytes then Some place else distance_cached cached (record { kind = other; bytes = bytes })) apart
 
-pub other_finds : (state : State) (kind other : Kind) (contents : List ℕ) (place : ℕ) (cached : List Cached) → same_kind kind other ≡ false
+pub other_finds : (state : State) (kind other : ContentsKind) (contents : List ℕ) (place : ℕ) (cached : List Cached) → same_kind kind other ≡ false
     → FindsCached state cached other → FindsCached state (record { contents = record { kind = kind; bytes = contents }; distance = place } ∷ cached) other
 other_finds state kind other contents place cached apart was = record {
   fits = was.fits;
@@ -112,7 +112,7 @@ other_finds state kind other contents place cached apart was = record {
       (λ h. (was.finds bytes distance).0 (sym e ∙ h), λ x. e ∙ (was.finds bytes distance).1 x);
 }
 
-pub finds_nothing : (state : State) (kind : Kind) → HoldsNothing (holding_of state.holdings kind) → FindsCached state [] kind
+pub finds_nothing : (state : State) (kind : ContentsKind) → HoldsNothing (holding_of state.holdings kind) → FindsCached state [] kind
 finds_nothing state kind empty = record {
   fits = nothing-fits (contents_in kind) (holding_of state.holdings kind) state.bytes empty;
   finds = λ bytes distance. (λ e. absurd (none_is_not_some distance e), λ x. absurd (empty distance x.0));

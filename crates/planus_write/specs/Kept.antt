@@ -7,7 +7,7 @@ use Rattle.planus_read.specs.Values.{Value, text, byte_list}
 use Rattle.planus_read.specs.Stands.{Stands}
 use Rattle.planus_read.specs.Moves.{moved}
 use Rattle.planus_read.specs.Aligned.{AlignedAt}
-use Rattle.planus_write.specs.Shared.{Kind, texts, byte_lists, vtables, Cached}
+use Rattle.planus_write.specs.Shared.{ContentsKind, texts, byte_lists, vtables, Cached}
 use Rattle.planus_write.specs.History.{History}
 use Rattle.planus_write.specs.Parts.{Named, position_in}
 
@@ -27,7 +27,7 @@ pub record IsKept (history : History) (value : Value) (named : Named) : Type 0 w
       (moved (length front) (position_in history.written.bytes named)) value
 
 -- Cached contents are stored at the distance; a vtable's at a multiple of 2.
-abbrev pub KindIsKept : History → Kind → List ℕ → ℕ → Type 0
+abbrev pub KindIsKept : History → ContentsKind → List ℕ → ℕ → Type 0
 KindIsKept history texts bytes distance =
     IsKept history (text bytes) (record { distance = distance; tags = None })
 KindIsKept history byte_lists bytes distance =

@@ -3,19 +3,19 @@ use Rattle.std.specs.Prelude.{ℕ, Bool, true, false, ◌&&◌, List, [], ◌∷
 use Rattle.std.specs.Prelude.{if◌then◌else◌}
 use Rattle.std.specs.Str.{bytes_eq}
 
-pub data Kind : Type 0 where
-  texts : Kind
-  byte_lists : Kind
-  vtables : Kind
+pub data ContentsKind : Type 0 where
+  texts : ContentsKind
+  byte_lists : ContentsKind
+  vtables : ContentsKind
 
-abbrev pub same_kind : Kind → Kind → Bool
+abbrev pub same_kind : ContentsKind → ContentsKind → Bool
 same_kind texts texts = true
 same_kind byte_lists byte_lists = true
 same_kind vtables vtables = true
 same_kind _ _ = false
 
 pub record Contents : Type 0 where
-  pub kind : Kind
+  pub kind : ContentsKind
   pub bytes : List ℕ
 
 abbrev pub same_contents : Contents → Contents → Bool
@@ -31,7 +31,7 @@ pub record CacheSettings : Type 0 where
 abbrev pub all_on : CacheSettings
 all_on = record { texts_on = true; byte_lists_on = true; vtables_on = true }
 
-abbrev pub is_on : CacheSettings → Kind → Bool
+abbrev pub is_on : CacheSettings → ContentsKind → Bool
 is_on settings texts = settings.texts_on
 is_on settings byte_lists = settings.byte_lists_on
 is_on settings vtables = settings.vtables_on

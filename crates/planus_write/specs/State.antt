@@ -3,7 +3,8 @@ use Rattle.std.specs.Prelude.{◌≡◌, ℕ, List, ◌++◌, length, Option, So
 use Rattle.planus_back.specs.CacheKeys.{key_at, bytes_in, vtable_in}
 use Rattle.planus_back.specs.Descriptions.{Describes}
 use Rattle.planus_write.specs.Holding.{Holding, Holds, HoldingFits}
-use Rattle.planus_write.specs.Shared.{Kind, texts, byte_lists, vtables, CacheSettings, Cached}
+use Rattle.planus_write.specs.Shared.{ContentsKind, texts, byte_lists, vtables, CacheSettings}
+use Rattle.planus_write.specs.Shared.{Cached}
 use Rattle.planus_write.specs.Shared.{distance_cached}
 use Rattle.planus_write.specs.History.{History}
 use Rattle.planus_write.specs.Kept.{AllCachedKept}
@@ -15,13 +16,13 @@ pub record Holdings : Type 0 where
   pub held_byte_lists : Holding
   pub held_vtables : Holding
 
-abbrev pub holding_of : Holdings → Kind → Holding
+abbrev pub holding_of : Holdings → ContentsKind → Holding
 holding_of holdings texts = holdings.held_texts
 holding_of holdings byte_lists = holdings.held_byte_lists
 holding_of holdings vtables = holdings.held_vtables
 
 -- how the contents of a kind are found at the front of some bytes
-abbrev pub contents_in : Kind → List ℕ → Option (List ℕ)
+abbrev pub contents_in : ContentsKind → List ℕ → Option (List ℕ)
 contents_in texts = bytes_in
 contents_in byte_lists = bytes_in
 contents_in vtables = vtable_in
@@ -37,7 +38,7 @@ pub record State : Type 0 where
   pub holdings : Holdings
 
 -- What is remembered of a kind fits the bytes, and finds contents exactly where they were cached.
-pub record FindsCached (state : State) (cached : List Cached) (kind : Kind) : Type 0 where
+pub record FindsCached (state : State) (cached : List Cached) (kind : ContentsKind) : Type 0 where
   pub fits : HoldingFits (contents_in kind) (holding_of state.holdings kind) state.bytes
   pub finds : (bytes : List ℕ) (distance : ℕ)
       → (distance_cached cached (record { kind = kind; bytes = bytes }) ≡ Some distance)
@@ -49,7 +50,7 @@ pub record FindsCached (state : State) (cached : List Cached) (kind : Kind) : Ty
 pub record IsHistoryOf (state : State) (history : History) : Type 0 where
   pub bytes : history.written.bytes ≡ state.bytes
   pub described : Describes (length state.bytes) state.delayed state.mask history.written.promises
-  pub cached : (kind : Kind) → FindsCached state history.cached kind
+  pub cached : (kind : ContentsKind) → FindsCached state history.cached kind
   pub kept : AllCachedKept history
 
 pub record Extends (before after : History) : Type 0 where

@@ -144,12 +144,12 @@ table_entries entries =
 
 -- Bytes whose number is a multiple of their alignment, a power of two; or a reference into the n
 -- earlier bytes.
-abbrev pub IsField : ℕ → Field → Type 0
-IsField before (plain item) = (0 < length item.bytes) × (item.alignment ∣ length item.bytes)
+abbrev pub IsFieldAfter : ℕ → Field → Type 0
+IsFieldAfter before (plain item) = (0 < length item.bytes) × (item.alignment ∣ length item.bytes)
     × ((k : ℕ) × (item.alignment ≡ 2 ^ k))
-IsField before (reference distance) = distance ≤ before
-IsField before (tags distance) = distance ≤ before
-IsField before (values distance) = distance ≤ before
+IsFieldAfter before (reference distance) = distance ≤ before
+IsFieldAfter before (tags distance) = distance ≤ before
+IsFieldAfter before (values distance) = distance ≤ before
 
 -- no field has a greater alignment than the one before it
 abbrev pub Falling : List (ℕ × Field) → Type 0
@@ -164,7 +164,7 @@ SlotsOnce [] = ⊤
 SlotsOnce (entry ∷ entries) = (field_at entries entry.0 ≡ None) × SlotsOnce entries
 
 pub record IsTable (before : ℕ) (entries : List (ℕ × Field)) : Type 0 where
-  pub fields : AllByRecursion (λ entry. IsField before entry.1) entries
+  pub fields : AllByRecursion (λ entry. IsFieldAfter before entry.1) entries
   pub falling : Falling entries
   pub once : SlotsOnce entries
   pub vtable_fits : vtable_size entries ≤ 65534

@@ -6,7 +6,7 @@ use Rattle.planus_write.specs.Parts.{Named}
 use Rattle.planus_write.specs.Kept.{TagsReached}
 use Rattle.planus_write.specs.declared.offset.Offset.{Offset}
 use Rattle.planus_write.specs.declared.union_vector_offset.UnionVectorOffset.{UnionVectorOffset}
-use Rattle.planus.specs.Kinds.{Kind, kind_named, naming_fault}
+use Rattle.planus.specs.Kinds.{StepKind, kind_named, naming_fault}
 use Rattle.planus.specs.Runs.{Listed, named_at}
 use Rattle.planus.specs.declared.replaying.faults.Why.{Why}
 use Rattle.planus.specs.declared.replaying.written.Written.{Written}
@@ -37,7 +37,7 @@ abbrev pub written_at : ℕ → List (Option Named) → ℕ → Option (Option N
 written_at first since step = if nat_lt step first then None else slice_get since (step - first)
 
 -- the error of naming a step as one of this kind
-abbrev pub fault_since : ℕ → List (Option Named) → Kind → ℕ → Option Why
+abbrev pub fault_since : ℕ → List (Option Named) → StepKind → ℕ → Option Why
 fault_since first since kind step =
     naming_fault kind (option_map (option_map kind_named) (written_at first since step))
 
@@ -48,7 +48,7 @@ Finds found fault given x (Ok answer) = (found x ≡ Some (given answer)) × (fa
 Finds found fault given x (Err why) = fault x ≡ Some why
 
 -- what an earlier step wrote, if it is of this kind, or the error of naming it
-abbrev pub FindsNamed : {A : Type 0} → Kind → (A → Named) → ℕ → List (Option Named) → ℕ
+abbrev pub FindsNamed : {A : Type 0} → StepKind → (A → Named) → ℕ → List (Option Named) → ℕ
     → Result A Why → Type 0
 FindsNamed kind name first since step answer =
     Finds (named_at (listed_from first since)) (fault_since first since kind) name step answer

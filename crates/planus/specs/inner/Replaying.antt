@@ -15,8 +15,8 @@ use Rattle.planus_write.specs.Unions.{item_of}
 use Rattle.planus_write.specs.declared.offset.Offset.{Offset}
 use Rattle.planus_write.specs.declared.union_offset.UnionOffset.{UnionOffset}
 use Rattle.planus.specs.Steps.{Step, clear}
-use Rattle.planus.specs.Kinds.{Kind, a_value, kind_of, kind_named}
-use Rattle.planus.specs.Runs.{State, Listed, Advances, StepTooLarge, StepRefused, fits_width}
+use Rattle.planus.specs.Kinds.{StepKind, a_value, kind_of, kind_named}
+use Rattle.planus.specs.Runs.{RunState, Listed, Advances, StepTooLarge, StepRefused, fits_width}
 use Rattle.planus.specs.Runs.{value_at, union_of, struct_width}
 use Rattle.planus.specs.Runs.{all_of}
 use Rattle.planus.specs.Replays.{finish_given, check_by, first_fault, union_fault, is_clear}
@@ -35,7 +35,7 @@ abbrev pub values_listed : ReplayState → List Listed
 values_listed replay = listed_from replay.first (names replay)
 
 -- the state of the run with this history
-abbrev pub state_with : ReplayState → History → State
+abbrev pub state_with : ReplayState → History → RunState
 state_with replay history = record {
   history = history;
   listed = values_listed replay;
@@ -43,7 +43,7 @@ state_with replay history = record {
   finished = map finish_given replay.finished.items;
 }
 
-abbrev pub name_fault : ReplayState → Kind → ℕ → Option Why
+abbrev pub name_fault : ReplayState → StepKind → ℕ → Option Why
 name_fault replay kind step = fault_since replay.first (names replay) kind step
 
 abbrev pub FindsAll : {X Y A : Type 0} → (X → Option Y) → (X → Option Why) → (A → Y) → ReplayState

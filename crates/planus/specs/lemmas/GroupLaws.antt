@@ -11,11 +11,11 @@ use Rattle.planus_write.specs.Contents.{Content}
 use Rattle.planus_write.specs.Placing.{Outcome}
 use Rattle.planus_write.specs.Preparing.{IsLawful}
 use Rattle.planus_write.specs.State.{State, IsHistoryOf, Grows}
-use Rattle.planus_write.specs.Tables.{IsField, Declared, declared_of}
+use Rattle.planus_write.specs.Tables.{IsFieldAfter, Declared, declared_of}
 use Rattle.planus_write.specs.declared.errors.BuildError.{BuildError}
 use Rattle.planus_write.specs.lemmas.Laws.{grows_on, extends_on, reached_still}
 use Rattle.planus.specs.Contents.{FieldsAre, there_of, PreparesContents}
-use Rattle.planus.specs.Preparing.{PreparesAs, PreparesBoth, Fields, Turn, AreTaken, OneFails}
+use Rattle.planus.specs.Preparing.{PreparesAs, PreparesBoth, FieldsInTurn, Turn, AreTaken, OneFails}
 use Rattle.planus.specs.Preparing.{TakeTurns}
 use Rattle.planus.specs.TableFields.{field_in, all_of}
 use Rattle.planus.specs.TableRules.{Among}
@@ -26,10 +26,10 @@ pub max_itself : (n bound : ℕ) → n ≤ bound → max n n ≤ bound
 max_itself n bound le = omega (arith, le)
 
 pub pair_stands : (fields others : List (ℕ × Field)) (reach others_reach before : ℕ)
-    → (reach ≤ before → AllByRecursion (λ entry. IsField before entry.1) fields)
-    → (others_reach ≤ before → AllByRecursion (λ entry. IsField before entry.1) others)
+    → (reach ≤ before → AllByRecursion (λ entry. IsFieldAfter before entry.1) fields)
+    → (others_reach ≤ before → AllByRecursion (λ entry. IsFieldAfter before entry.1) others)
     → max reach others_reach ≤ before
-    → AllByRecursion (λ entry. IsField before entry.1) (fields ++ others)
+    → AllByRecursion (λ entry. IsFieldAfter before entry.1) (fields ++ others)
 pair_stands fields others reach others_reach before first second reached =
     stand_both before fields others (first (omega (arith, reached)))
     (second (omega (arith, reached)))
@@ -157,26 +157,28 @@ module _ {X Y A B : Type 0} {may : X → State → Type 0} {others_may : Y → S
             );
       }
 
-pub all_both : (fields others : Fields) → all_of (fields ++ others) ≡ all_of fields ++ all_of others
+pub all_both :
+    (fields others : FieldsInTurn) → all_of (fields ++ others) ≡ all_of fields ++ all_of others
 all_both [] others = refl
 all_both (one ∷ fields) others =
     ap (λ rest. one ++ rest) (all_both fields others)
     ∙ sym (append_assoc one (all_of fields) (all_of others))
 
 pub both_taken :
-    (turns more : List Turn) (old between new : State) (fields others : Fields)
+    (turns more : List Turn) (old between new : State) (fields others : FieldsInTurn)
     → AreTaken turns old fields between → AreTaken more between others new
     → AreTaken (turns ++ more) old (fields ++ others) new
 both_taken [] more old between new fields others first second =
     subst (λ (state : State). AreTaken more state (fields ++ others) new) first.1
-    (subst (λ (some : Fields). AreTaken more between (some ++ others) new) (sym first.0) second)
+    (subst (λ (some : FieldsInTurn). AreTaken more between (some ++ others) new) (sym first.0)
+    second)
 both_taken (turn ∷ turns) more old between new fields others first second = (
   first.0,
   first.1,
   first.2,
   (
     first.3.0 ++ others,
-    ap (λ (some : Fields). some ++ others) first.3.1,
+    ap (λ (some : FieldsInTurn). some ++ others) first.3.1,
     both_taken turns more first.1 between new first.3.0 others first.3.2 second,
   ),
 )
@@ -190,7 +192,7 @@ first_fails (turn ∷ turns) more old error new (inr (value, between, done, late
     inr (value, between, done, first_fails turns more between error new later)
 
 pub second_fails :
-    (turns more : List Turn) (old between : State) (fields : Fields) (error : BuildError)
+    (turns more : List Turn) (old between : State) (fields : FieldsInTurn) (error : BuildError)
     (new : State) → AreTaken turns old fields between → OneFails more between error new
     → OneFails (turns ++ more) old error new
 second_fails [] more old between fields error new taken h =

@@ -5,7 +5,7 @@ use Rattle.std.proofs.Common.{refl, subst, sym, ap, ◌∙◌, arith, inl, inr}
 use Rattle.planus_read.specs.Values.{Field}
 use Rattle.planus_write.specs.Items.{Item}
 use Rattle.planus_read.specs.Aligned.{field_alignment}
-use Rattle.planus_write.specs.Tables.{IsField, Declared, declared_of, field_size}
+use Rattle.planus_write.specs.Tables.{IsFieldAfter, Declared, declared_of, field_size}
 use Rattle.planus_fields.specs.Fields.{reach_if}
 use Rattle.planus.specs.TableFields.{field_in}
 use Rattle.planus.specs.TableRules.{Among}
@@ -34,9 +34,9 @@ among_both (one ∷ some) more (entry ∷ all) others (inr first) second =
     inr (among_both (one ∷ some) more all others first second)
 
 pub stand_both : (before : ℕ) (fields others : List (ℕ × Field))
-    → AllByRecursion (λ entry. IsField before entry.1) fields
-    → AllByRecursion (λ entry. IsField before entry.1) others
-    → AllByRecursion (λ entry. IsField before entry.1) (fields ++ others)
+    → AllByRecursion (λ entry. IsFieldAfter before entry.1) fields
+    → AllByRecursion (λ entry. IsFieldAfter before entry.1) others
+    → AllByRecursion (λ entry. IsFieldAfter before entry.1) (fields ++ others)
 stand_both before [] others first second = second
 stand_both before (field ∷ fields) others first second =
     (first.0, stand_both before fields others first.1 second)
@@ -56,14 +56,14 @@ module _ {A : Type 0} (slot : ℕ) (field : A → Field) (reach : A → ℕ) (en
     (items : (value : A) → IsItem size alignment (encoding value) (reach value) (field value)) where
   pub both_stand : (others : List (ℕ × Field)) (others_reach : ℕ) (value : Option A) (before : ℕ)
       → max others_reach (reach_if reach value) ≤ before
-      → (others_reach ≤ before → AllByRecursion (λ entry. IsField before entry.1) others)
-      → AllByRecursion (λ entry. IsField before entry.1) (others ++ field_in slot field value)
+      → (others_reach ≤ before → AllByRecursion (λ entry. IsFieldAfter before entry.1) others)
+      → AllByRecursion (λ entry. IsFieldAfter before entry.1) (others ++ field_in slot field value)
   both_stand others others_reach value before reached stand =
       stand_both before others (field_in slot field value) (stand (omega (arith, reached)))
       (one_stands value (omega (arith, reached)))
     where
       one_stands : (value : Option A) → reach_if reach value ≤ before
-          → AllByRecursion (λ entry. IsField before entry.1) (field_in slot field value)
+          → AllByRecursion (λ entry. IsFieldAfter before entry.1) (field_in slot field value)
       one_stands None reached = tt
       one_stands (Some value) reached = ((items value).stands before reached, tt)
 

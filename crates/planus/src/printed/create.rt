@@ -5,7 +5,7 @@ ghost use Rattle.planus.specs.Contents.{WritesContents};
 ghost use Rattle.planus.specs.Creating.{CreatesTable, CreatesRoot};
 ghost use Rattle.planus.specs.ReadBack.{are_apart};
 ghost use Rattle.planus_write.specs.State.{State, Grows};
-ghost use Rattle.planus.specs.FieldLines.{FieldLine, ReadsBack, contents_of};
+ghost use Rattle.planus.specs.FieldLines.{FieldLine, LinesReadBack, contents_of};
 
 use crate::printed::finished::finish_and_read;
 use crate::tables::{TableKind, TableView};
@@ -52,7 +52,7 @@ pub trait Create<F>: TableKind {
     ) -> Result<Result<V, Error<'n>>, BuildError>
         requires may { may fields builder.old }
         ensures read { IfOk result (λ read. IsOkAnd read (λ view.
-            ReadsBack builder.old (lines fields) (V.table view))) }
+            LinesReadBack builder.old (lines fields) (V.table view))) }
         ensures error { IfErr result (λ error. (new : State)
             × CreatesRoot Self (lines fields) builder.old (Err error) new) }
     {

@@ -13,7 +13,7 @@ use Rattle.planus_back.specs.Parts.{Part}
 use Rattle.planus_read.specs.Values.{Value, Plain}
 use Rattle.planus_read.specs.Stands.{Stands, at}
 use Rattle.planus_read.specs.Aligned.{AlignedAt}
-use Rattle.planus_write.specs.Shared.{Kind, texts, byte_lists, vtables, same_kind, Contents}
+use Rattle.planus_write.specs.Shared.{ContentsKind, texts, byte_lists, vtables, same_kind, Contents}
 use Rattle.planus_write.specs.Shared.{same_contents, CacheSettings, is_on, shared_as, Cached}
 use Rattle.planus_write.specs.Shared.{distance_cached, earlier_distance, and_cached}
 use Rattle.planus_write.specs.History.{History, Adds, PutsAfter, Puts, PutsAll}
@@ -66,12 +66,12 @@ new_value part value shared before distance after adds sized there aligns =
     aligns (front ++ after.written.bytes) (length front)
     (subst (λ k. part.alignment ∣ k) e kept.aligns))
 
-abbrev pub AreKept : Kind → List ℕ → Part → Type 0
+abbrev pub AreKept : ContentsKind → List ℕ → Part → Type 0
 AreKept kind content part =
     (shared : Option Contents) (before : History) (distance : ℕ) (after : History)
     → Adds part shared before distance after → KindIsKept after kind content distance
 
-abbrev pub NewAreKept : Kind → (List ℕ → Part) → Type 0
+abbrev pub NewAreKept : ContentsKind → (List ℕ → Part) → Type 0
 NewAreKept kind part = (content : List ℕ) → AreKept kind content (part content)
 
 pub new_texts : NewAreKept texts text_part
@@ -100,7 +100,7 @@ new_byte_lists content shared before distance after adds =
     (omega (arith, fits, is_place))))
     (λ B k h. h)
 
-pub same_of : (a b : Kind) → same_kind a b ≡ true → a ≡ b
+pub same_of : (a b : ContentsKind) → same_kind a b ≡ true → a ≡ b
 same_of texts texts e = refl
 same_of byte_lists byte_lists e = refl
 same_of vtables vtables e = refl
@@ -115,7 +115,8 @@ pub and_parts : (a b : Bool) → a && b ≡ true → (a ≡ true) × (b ≡ true
 and_parts true b e = (refl, e)
 and_parts false b e = (cc)
 
-found_kept : (history : History) (cached : List Cached) (kind : Kind) (bytes : List ℕ) (d : ℕ)
+found_kept :
+    (history : History) (cached : List Cached) (kind : ContentsKind) (bytes : List ℕ) (d : ℕ)
     → AllByRecursion (CachedIsKept history) cached
     → distance_cached cached (record { kind = kind; bytes = bytes }) ≡ Some d
     → KindIsKept history kind bytes d
@@ -151,7 +152,7 @@ shared_or_not settings contents = by_test (is_on settings contents.kind)
     by_test true = inr refl
     by_test false = inl refl
 
-pub added_kept : (kind : Kind) (content : List ℕ) (part : Part) (shared : Option Contents)
+pub added_kept : (kind : ContentsKind) (content : List ℕ) (part : Part) (shared : Option Contents)
     → (shared ≡ None) ⊎ (shared ≡ Some (record { kind = kind; bytes = content }))
     → (before : History) (distance : ℕ) (after : History) → AllCachedKept before
     → KindIsKept after kind content distance → Adds part shared before distance after
@@ -208,12 +209,13 @@ apart_kept item settings before got after all puts =
       added_extends (apart_part item) None before puts.0 after adds,
     )
 
-abbrev pub ContentsKept : Kind → List ℕ → History → ℕ → History → Type 0
+abbrev pub ContentsKept : ContentsKind → List ℕ → History → ℕ → History → Type 0
 ContentsKept kind content before distance after = KindIsKept after kind content distance
     × AllCachedKept after × Extends before after
 
-module _ (kind : Kind) (part : List ℕ → Part) (new_kept : NewAreKept kind part) (content : List ℕ)
-    (before : History) (distance : ℕ) (after : History) (all : AllCachedKept before) where
+module _ (kind : ContentsKind) (part : List ℕ → Part) (new_kept : NewAreKept kind part)
+    (content : List ℕ) (before : History) (distance : ℕ) (after : History)
+    (all : AllCachedKept before) where
   abbrev contents : Contents
   contents = record { kind = kind; bytes = content }
 
@@ -249,7 +251,7 @@ module _ (kind : Kind) (part : List ℕ → Part) (new_kept : NewAreKept kind pa
             before,
       )
 
-pub put_kept : (kind : Kind) (part : List ℕ → Part) → NewAreKept kind part
+pub put_kept : (kind : ContentsKind) (part : List ℕ → Part) → NewAreKept kind part
     → (settings : CacheSettings) (content got : List ℕ) (before : History) (distance : ℕ)
     (after : History)
     → AllCachedKept before
@@ -267,7 +269,7 @@ put_kept kind part new_kept settings content got before distance after all put =
     (shared_or_not settings (record { kind = kind; bytes = content }))
     (earlier_distance before.cached shared) refl put
 
-pub contents_kept : (kind : Kind) (part : List ℕ → Part) → NewAreKept kind part
+pub contents_kept : (kind : ContentsKind) (part : List ℕ → Part) → NewAreKept kind part
     → (settings : CacheSettings) (content : List ℕ) (before : History) (got : List ℕ)
     (after : History)
     → AllCachedKept before

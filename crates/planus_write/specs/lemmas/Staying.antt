@@ -9,7 +9,7 @@ use Rattle.planus_read.specs.Stands.{Stands, Position, at, at_both}
 use Rattle.planus_read.specs.Moves.{moved}
 use Rattle.planus_read.specs.Aligned.{AlignedAt}
 use Rattle.planus_read.proofs.Moves.{keeps_standing, rest_moves}
-use Rattle.planus_write.specs.Shared.{Kind, texts, byte_lists, vtables, Cached}
+use Rattle.planus_write.specs.Shared.{ContentsKind, texts, byte_lists, vtables, Cached}
 use Rattle.planus_write.specs.History.{History}
 use Rattle.planus_write.specs.State.{Extends}
 use Rattle.planus_write.specs.Parts.{Named, position_with, position_in}
@@ -100,7 +100,7 @@ module _ (before after : History) (extends : Extends before after) where
       aligned = aligned_on;
     }
 
-  pub kind_stays : (kind : Kind) (bytes : List ℕ) (distance : ℕ)
+  pub kind_stays : (kind : ContentsKind) (bytes : List ℕ) (distance : ℕ)
       → KindIsKept before kind bytes distance
       → KindIsKept after kind bytes distance
   kind_stays texts bytes distance h =

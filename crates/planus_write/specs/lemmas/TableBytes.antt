@@ -20,7 +20,8 @@ use Rattle.planus_read.specs.Stands.{FieldStands, SlotStands, ReferenceStands}
 use Rattle.planus_read.specs.Aligned.{field_alignment, SlotAligned}
 use Rattle.planus_read.proofs.Bytes.{parts_stand}
 use Rattle.planus_write.specs.Tables.{field_item, field_size, body_size, body_alignment, body_bytes}
-use Rattle.planus_write.specs.Tables.{object_size, field_offset, slots_bytes, vtable_bytes, IsField}
+use Rattle.planus_write.specs.Tables.{object_size, field_offset, slots_bytes, vtable_bytes}
+use Rattle.planus_write.specs.Tables.{IsFieldAfter}
 use Rattle.planus_write.specs.Tables.{Falling}
 use Rattle.planus_write.specs.lemmas.KeptLists.{number_there}
 
@@ -91,7 +92,7 @@ reference_there B before distance k place good inside small goes bytes = (
   omega (arith, good, inside, goes),
 )
 
-field_there : (B : List ℕ) (before : ℕ) (field : Field) (k place : ℕ) → IsField before field
+field_there : (B : List ℕ) (before : ℕ) (field : Field) (k place : ℕ) → IsFieldAfter before field
     → before + field_size field ≤ place → place ≤ 2147483647 → k + place ≡ length B
     → BytesStand B k (field_item field place) → FieldStands B k field
 field_there B before (plain item) k place good inside small goes bytes = bytes
@@ -124,7 +125,7 @@ FieldFound B k q (Some field) = (4 ≤ q) × FieldStands B (k + q) field
 
 module _ (B : List ℕ) (before k : ℕ) where
   pub fields_stand : (entries : List (ℕ × Field)) (from place slot : ℕ)
-      → AllByRecursion (λ entry. IsField before entry.1) entries
+      → AllByRecursion (λ entry. IsFieldAfter before entry.1) entries
       → before + body_size entries ≤ place → place ≤ 2147483647
       → k + from + place ≡ length B → 4 ≤ from
       → BytesStand B (k + from) (body_bytes place entries)
@@ -149,7 +150,7 @@ module _ (B : List ℕ) (before k : ℕ) where
       tested (FieldFound B k) (entry.0 == slot) from (field_offset (from + size) entries slot)
       (Some entry.1) (field_at entries slot) (behind, here) further
 
-field_power : (before : ℕ) (field : Field) → IsField before field
+field_power : (before : ℕ) (field : Field) → IsFieldAfter before field
     → IsPowerOfTwo (field_alignment field) × (field_alignment field ∣ field_size field)
 field_power before (plain item) good = (good.2, good.1)
 field_power before (reference distance) good = ((2, refl), dvd_refl 4)
@@ -171,7 +172,7 @@ FieldAligned k q (Some field) = field_alignment field ∣ (k + q)
 
 module _ (before k : ℕ) where
   pub fields_aligned : (entries : List (ℕ × Field)) (from slot a : ℕ)
-      → AllByRecursion (λ entry. IsField before entry.1) entries → Falling entries
+      → AllByRecursion (λ entry. IsFieldAfter before entry.1) entries → Falling entries
       → IsPowerOfTwo a → a ∣ (k + from) → Headed a entries
       → FieldAligned k (field_offset from entries slot) (field_at entries slot)
   fields_aligned [] from slot a good falling power divides headed = tt
@@ -195,7 +196,7 @@ greater_power a b first second =
     ]
 
 pub body_power : (before : ℕ) (entries : List (ℕ × Field))
-    → AllByRecursion (λ entry. IsField before entry.1) entries
+    → AllByRecursion (λ entry. IsFieldAfter before entry.1) entries
     → IsPowerOfTwo (body_alignment entries) × (4 ≤ body_alignment entries)
     × Headed (body_alignment entries) entries
 body_power before [] good = ((2, refl), omega arith, tt)

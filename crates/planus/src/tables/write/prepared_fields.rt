@@ -3,7 +3,7 @@ ghost use Rattle.std.specs.Prelude.{◌≡◌, ◌≤◌, ◌+◌, ℕ, List, []
 ghost use Rattle.std.specs.List.{AllByRecursion};
 ghost use Rattle.planus_read.specs.Values.{Field};
 ghost use Rattle.planus_write.specs.ObjectWriting.{body_of, wrote};
-ghost use Rattle.planus_write.specs.Tables.{Declared, IsField, declared_of, body_size};
+ghost use Rattle.planus_write.specs.Tables.{Declared, IsFieldAfter, declared_of, body_size};
 ghost use Rattle.planus_write.specs.Tables.{body_bytes, total_size};
 ghost use Rattle.planus_write.specs.TableWriting.{WasTold};
 ghost use Rattle.planus.specs.TableFields.{IsUnused};
@@ -46,7 +46,7 @@ pub trait PreparedFields {
             (λ place. body_bytes place (there self.now)) (body_of writer.old) };
 
     ghost stand: { (fields : Self) (before : ℕ) → reach fields ≤ before
-        → AllByRecursion (λ entry. IsField before entry.1) (there fields) };
+        → AllByRecursion (λ entry. IsFieldAfter before entry.1) (there fields) };
 
     ghost among: { (fields : Self) → Among (declared_of (there fields)) all };
 }

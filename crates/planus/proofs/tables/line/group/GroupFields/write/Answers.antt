@@ -3,7 +3,7 @@ use Rattle.std.proofs.lemmas.List.{append-nil}
 use Rattle.std.proofs.lemmas.Result.{err_from_is_err_and}
 use Rattle.planus_write.specs.lemmas.Laws.{grows_on}
 use Rattle.planus.specs.Preparing.{WritesFields}
-use Rattle.planus.specs.Preparing.{Fields, take_turns}
+use Rattle.planus.specs.Preparing.{FieldsInTurn, take_turns}
 use Rattle.planus.specs.TableFields.{all_of}
 use Rattle.planus.proofs.FieldSteps.{if_ok, taken_then, fails_then, before_then, all_append, more_kept}
 use Rattle.planus.proofs.tables.line.group.GroupFields.write.Goals as goal
@@ -18,7 +18,7 @@ returns-clause-written g c =
     let turns = g.G.Lines.PrepareFields.turns lines in
     let taken = g.met.G.Lines.PrepareFields.take_turns.prepared lines c.args.builder.now
     c.in_ok-prepared.prepared c.prepare.new.builder done in
-    let others = λ (more : Fields). g.R.Rest.in_turn c.args.others.now more ls in
+    let others = λ (more : FieldsInTurn). g.R.Rest.in_turn c.args.others.now more ls in
     before_then (others (ts ++ taken.0)) (take_turns turns others ts) WritesFields
     c.prepare.new.builder c.args.builder.now
     (taken_then turns others ts c.args.builder.now c.prepare.new.builder taken.0 taken.1)
@@ -37,7 +37,7 @@ returns-in_err-prepared-clause-written g c =
     let p = err_from_is_err_and c.from_residual.result c.from_residual.ensures.1 in
     rw (p.1, p.2) (λ ts ls same same_last.
     inl (fails_then (g.G.Lines.PrepareFields.turns lines)
-    (λ (more : Fields). g.R.Rest.in_turn c.args.others.now more ls) ts c.args.builder.now error
+    (λ (more : FieldsInTurn). g.R.Rest.in_turn c.args.others.now more ls) ts c.args.builder.now error
     c.prepare.new.builder
     (g.met.G.Lines.PrepareFields.take_turns.failed lines c.args.builder.now error
     c.prepare.new.builder refused)))
