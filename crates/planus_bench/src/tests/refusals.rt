@@ -1,7 +1,7 @@
 //! Calls in which one allocation after another fails.
 
 use super::new_builder;
-use super::refused_calls::{Call, Outcome, make, make_again, outcome_of, prepare};
+use super::refused_calls::{Call, CallOutcome, make, make_again, outcome_of, prepare};
 use super::refused_copies::{
     Copied, copy_numbers, copy_texts, numbers_are_copied, replay_weapon, texts_are_copied,
     weapon_is_replayed,
@@ -36,16 +36,20 @@ fn outcome_in(
     builder: &mut Builder,
     call: Call,
     spare: usize,
-) -> Result<Option<Outcome>, BuildError> {
+) -> Result<Option<CallOutcome>, BuildError> {
     prepare(builder, call)?;
     Ok(match is_refused(alloc, builder, call, spare)? {
         Some(true) => Some(make_again(builder, call)),
-        Some(false) => Some(Outcome::Made { len: builder.len() }),
+        Some(false) => Some(CallOutcome::Made { len: builder.len() }),
         None => None,
     })
 }
 
-fn outcome_with(alloc: Global, call: Call, spare: usize) -> Result<Option<Outcome>, BuildError> {
+fn outcome_with(
+    alloc: Global,
+    call: Call,
+    spare: usize,
+) -> Result<Option<CallOutcome>, BuildError> {
     let mut builder = new_builder(alloc)?;
     outcome_in(alloc, &mut builder, call, spare)
 }
@@ -68,8 +72,11 @@ fn states_met(alloc: Global, call: Call, all: &[Lengths]) -> Result<Option<usize
     for turn in 0..TURNS {
         match outcome_with(alloc, call, turn * STEP)? {
             None => return Ok(None),
-            Some(Outcome::MadeAgain { refused, len }) if note(&mut met, all, (refused, len)) => {}
-            Some(Outcome::Made { .. }) => return Ok(Some(met.iter().filter(|met| **met).count())),
+            Some(CallOutcome::MadeAgain { refused, len }) if note(&mut met, all, (refused, len)) =>
+                {}
+            Some(CallOutcome::Made { .. }) => return Ok(Some(
+                met.iter().filter(|met| **met).count(),
+            )),
             _ => return Ok(Some(0)),
         }
     }
@@ -201,10 +208,10 @@ fn calls_on_no_builder(rt: HostRuntime) -> Result<(), Fail> {
 
 fn is_mended(alloc: Global, call: Call, all: &[Lengths]) -> bool {
     match outcome_of(alloc, call) {
-        Outcome::NotBegun => true,
-        Outcome::Made { len } => matches!(all, [(_, want), ..] if *want == len),
-        Outcome::MadeAgain { refused, len } => note(&mut [false; 3], all, (refused, len)),
-        Outcome::Wrong => false,
+        CallOutcome::NotBegun => true,
+        CallOutcome::Made { len } => matches!(all, [(_, want), ..] if *want == len),
+        CallOutcome::MadeAgain { refused, len } => note(&mut [false; 3], all, (refused, len)),
+        CallOutcome::Wrong => false,
     }
 }
 

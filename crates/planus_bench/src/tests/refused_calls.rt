@@ -20,7 +20,7 @@ pub enum Call {
 }
 
 #[derive(Clone, Copy)]
-pub enum Outcome {
+pub enum CallOutcome {
     NotBegun,
     Made {
         len: usize,
@@ -232,45 +232,45 @@ fn axe_is_read(builder: &mut Builder) -> bool {
     }
 }
 
-pub fn make_again(builder: &mut Builder, call: Call) -> Outcome {
+pub fn make_again(builder: &mut Builder, call: Call) -> CallOutcome {
     let refused = builder.len();
     if !keeps_what_was_there(builder, call) || !texts_stand(builder, call) {
-        return Outcome::Wrong;
+        return CallOutcome::Wrong;
     }
     match make(builder, call) {
         Ok(written) => {
             let len = builder.len();
             if !reads_back(builder, call, written) {
-                return Outcome::Wrong;
+                return CallOutcome::Wrong;
             }
-            Outcome::MadeAgain { refused, len }
+            CallOutcome::MadeAgain { refused, len }
         }
-        Err(_) => Outcome::Wrong,
+        Err(_) => CallOutcome::Wrong,
     }
 }
 
-fn made(builder: &mut Builder, call: Call, written: Written) -> Outcome {
+fn made(builder: &mut Builder, call: Call, written: Written) -> CallOutcome {
     let len = builder.len();
     if !reads_back(builder, call, written) {
-        return Outcome::Wrong;
+        return CallOutcome::Wrong;
     }
-    Outcome::Made { len }
+    CallOutcome::Made { len }
 }
 
-fn outcome_in(builder: &mut Builder, call: Call) -> Outcome {
+fn outcome_in(builder: &mut Builder, call: Call) -> CallOutcome {
     if prepare(builder, call).is_err() {
-        return Outcome::NotBegun;
+        return CallOutcome::NotBegun;
     }
     match make(builder, call) {
         Ok(written) => made(builder, call, written),
         Err(BuildError::OutOfMemory) => make_again(builder, call),
-        Err(BuildError::TooLarge) => Outcome::Wrong,
+        Err(BuildError::TooLarge) => CallOutcome::Wrong,
     }
 }
 
-pub fn outcome_of(alloc: Global, call: Call) -> Outcome {
+pub fn outcome_of(alloc: Global, call: Call) -> CallOutcome {
     match Builder::new(alloc) {
         Ok(mut builder) => outcome_in(&mut builder, call),
-        Err(_) => Outcome::NotBegun,
+        Err(_) => CallOutcome::NotBegun,
     }
 }
