@@ -1,0 +1,19 @@
+use Rattle.std.proofs.Common.{inl, inr, refl}
+use Rattle.planus_foreign.proofs.vectors.read_tables_if.Goals as goal
+
+pub returns-in-Ok : goal.returns-in-Ok
+returns-in-Ok g c = inl (record {
+  table = c.in-Ok.table;
+  there = c.in-Ok.ensures;
+  result = c.table_vector.result;
+  is = c.table_vector.ensures;
+  stores = c.put_if.ensures;
+})
+
+pub returns-in-Err : goal.returns-in-Err
+returns-in-Err g c = inr (record {
+  kind = c.in-Err.kind;
+  why = c.in-Err.ensures;
+  unchanged = refl;
+  said = c.status_of.ensures;
+})

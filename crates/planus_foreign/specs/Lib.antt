@@ -1,0 +1,3 @@
+pub mod Calls
+pub mod Places
+pub mod Statuses
