@@ -14,6 +14,8 @@ mod enums;
 mod exact;
 mod field_lines;
 mod floats;
+mod foreign;
+mod foreign_header;
 mod groups;
 mod hex_floats;
 mod holes;
@@ -48,6 +50,7 @@ mod verified_unions;
 mod words;
 
 pub use crate_file::print_crate;
+pub use foreign::print_foreign;
 pub use names::Names;
 pub use planus_tie::PrintedFile;
 pub use print_error::PrintError;
