@@ -51,7 +51,7 @@ options_listed Check w = simp some_of (move1 (bytes_eq w (codes "-I")) (bytes_eq
 options_listed Format w = simp some_of (move2 (bytes_eq w (codes "--write")) (bytes_eq w (codes "--check")) (bytes_eq w (codes "--help")) (bytes_eq w (codes "-h")))
 options_listed View w = simp some_of (move5 (bytes_eq w (codes "-I")) (bytes_eq w (codes "--root")) (bytes_eq w (codes "--size-prefixed")) (bytes_eq w (codes "--lines")) (bytes_eq w (codes "--bytes"))
     (bytes_eq w (codes "--help")) (bytes_eq w (codes "-h")))
-options_listed RattleCommand w = simp some_of (move4 (bytes_eq w (codes "-I")) (bytes_eq w (codes "-o")) (bytes_eq w (codes "--check")) (bytes_eq w (codes "--no-verified")) (bytes_eq w (codes "--help")) (bytes_eq w (codes "-h")))
+options_listed RattleCommand w = simp some_of (move5 (bytes_eq w (codes "-I")) (bytes_eq w (codes "-o")) (bytes_eq w (codes "--check")) (bytes_eq w (codes "--no-verified")) (bytes_eq w (codes "--c")) (bytes_eq w (codes "--help")) (bytes_eq w (codes "-h")))
 options_listed Dot w = simp some_of (move1 (bytes_eq w (codes "-I")) (bytes_eq w (codes "--help")) (bytes_eq w (codes "-h")))
 options_listed Conform w = simp some_of (move6 (bytes_eq w (codes "-I")) (bytes_eq w (codes "--backward")) (bytes_eq w (codes "--forward")) (bytes_eq w (codes "--rename")) (bytes_eq w (codes "--against")) (bytes_eq w (codes "--json")) (bytes_eq w (codes "--help")) (bytes_eq w (codes "-h")))
 options_listed Completions w = simp some_of (move0 (bytes_eq w (codes "--help")) (bytes_eq w (codes "-h")))

@@ -1,5 +1,5 @@
 -- Files that are loaded.
-use Rattle.std.proofs.Common.{◌≡◌, ◌<◌, ◌≤◌, ◌+◌, ◌-◌, ℕ, List, [], ◌∷◌, ◌++◌, length, drop, get_or, refl, sym, ap, subst, ◌∙◌, arith}
+use Rattle.std.proofs.Common.{◌≡◌, ◌<◌, ◌≤◌, ◌+◌, ◌-◌, ℕ, List, [], ◌∷◌, ◌++◌, length, drop, get_or, refl, sym, ap, subst, ◌∙◌, arith, append_assoc}
 use Rattle.std.specs.Prelude.{zero, suc, max, Bool, true, false, Option, Some, None, Result, Ok, Err, IfOk, if◌then◌else◌}
 use Rattle.std.specs.Global.{Vec}
 use Rattle.std.specs.Str.{IsUtf8, is_utf8}
@@ -24,6 +24,12 @@ kept_appends None b c bs p q = tt
 kept_appends (Some x) None c bs p q = absurd p
 kept_appends (Some x) (Some y) None bs p q = absurd q
 kept_appends (Some x) (Some y) (Some z) bs p q = q ∙ ap (λ old. old ++ bs) p
+
+pub appended_twice : (a b c : Option (List ℕ)) (xs ys : List ℕ) → Appends a b xs → Appends b c ys → Appends a c (xs ++ ys)
+appended_twice None b c xs ys p q = tt
+appended_twice (Some x) None c xs ys p q = absurd p
+appended_twice (Some x) (Some y) None xs ys p q = absurd q
+appended_twice (Some x) (Some y) (Some z) xs ys p q = q ∙ ap (λ old. old ++ ys) p ∙ append_assoc x xs ys
 
 -- of a value more is known
 pub if_ok : {A E : Type 0} {P Q : A → Type 0} (r : Result A E) → ((a : A) → P a → Q a) → IfOk r P → IfOk r Q

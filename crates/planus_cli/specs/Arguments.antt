@@ -20,6 +20,7 @@ use Rattle.planus_cli.specs.declared.arguments.Choice.TheVariants.{Bytes, Output
 use Rattle.planus_cli.specs.declared.arguments.Choice.TheVariants.{Check as CheckChoice}
 use Rattle.planus_cli.specs.declared.arguments.Choice.TheVariants.{NoVerified, Backward, Forward}
 use Rattle.planus_cli.specs.declared.arguments.Choice.TheVariants.{Rename, Against, Json}
+use Rattle.planus_cli.specs.declared.arguments.Choice.TheVariants.{Foreign}
 use Rattle.planus_cli.specs.declared.arguments.Choice.TheVariants.{Help as HelpChoice}
 use Rattle.planus_cli.specs.declared.arguments.Joined.{Joined}
 use Rattle.planus_cli.specs.declared.arguments.Words.{Words}
@@ -37,6 +38,7 @@ pub record WordsV : Type 0 where
   pub output : Option (List ℕ)
   pub check : Bool
   pub no_verified : Bool
+  pub foreign : Option (List ℕ)
   pub backward : Bool
   pub forward : Bool
   pub renames : List (List ℕ)
@@ -59,6 +61,7 @@ no_words = record {
   output = None;
   check = false;
   no_verified = false;
+  foreign = None;
   backward = false;
   forward = false;
   renames = [];
@@ -82,6 +85,7 @@ words_of w = record {
   output = option_map (λ s. s.now) w.output;
   check = w.check;
   no_verified = w.no_verified;
+  foreign = option_map (λ s. s.now) w.foreign;
   backward = w.backward;
   forward = w.forward;
   renames = map (λ s. s.now) w.renames.items;
@@ -108,7 +112,8 @@ abbrev pub rattle_option : List ℕ → Option Choice
 rattle_option w = if bytes_eq w (codes "-I") then Some Folder
     else if bytes_eq w (codes "-o") then Some Output
     else if bytes_eq w (codes "--check") then Some CheckChoice
-    else if bytes_eq w (codes "--no-verified") then Some NoVerified else None
+    else if bytes_eq w (codes "--no-verified") then Some NoVerified
+    else if bytes_eq w (codes "--c") then Some Foreign else None
 
 abbrev pub conform_option : List ℕ → Option Choice
 conform_option w = if bytes_eq w (codes "-I") then Some Folder
@@ -161,7 +166,7 @@ joined_in View w = option_or (joined_by Folder (codes "-I") w)
     (option_or (joined_by Root (codes "--root=") w)
     (option_or (joined_by Lines (codes "--lines=") w) (joined_by Bytes (codes "--bytes=") w)))
 joined_in RattleCommand w = option_or (joined_by Folder (codes "-I") w)
-    (joined_by Output (codes "-o") w)
+    (option_or (joined_by Output (codes "-o") w) (joined_by Foreign (codes "--c=") w))
 joined_in Conform w = option_or (joined_by Folder (codes "-I") w)
     (option_or (joined_by Rename (codes "--rename=") w) (joined_by Against (codes "--against=") w))
 
@@ -177,6 +182,7 @@ with_choice ws Bytes = record ws { wants = Some Bytes }
 with_choice ws Output = record ws { wants = Some Output }
 with_choice ws Rename = record ws { wants = Some Rename }
 with_choice ws Against = record ws { wants = Some Against }
+with_choice ws Foreign = record ws { wants = Some Foreign }
 with_choice ws Backward = record ws { backward = true }
 with_choice ws Forward = record ws { forward = true }
 with_choice ws Json = record ws { json = true }
@@ -195,6 +201,7 @@ with_value ws Bytes w = record ws { bytes = Some w }
 with_value ws Output w = record ws { output = Some w }
 with_value ws Rename w = record ws { renames = ws.renames ++ w ∷ [] }
 with_value ws Against w = record ws { against = Some w }
+with_value ws Foreign w = record ws { foreign = Some w }
 with_value ws Write w = ws
 with_value ws SizePrefixed w = ws
 with_value ws CheckChoice w = ws
@@ -242,7 +249,8 @@ empty_choice ws = if list_any is_empty_word ws.folders then Some Folder
     else if is_empty_value ws.lines then Some Lines
     else if is_empty_value ws.bytes then Some Bytes
     else if is_empty_value ws.output then Some Output
-    else if is_empty_value ws.against then Some Against else None
+    else if is_empty_value ws.against then Some Against
+    else if is_empty_value ws.foreign then Some Foreign else None
 
 abbrev pub is_equals : ℕ → Bool
 is_equals b = b == 61

@@ -79,7 +79,7 @@ option_words Format = codes "--write" ∷ codes "--check" ∷ codes "--help" ∷
 option_words View = codes "-I" ∷ codes "--root" ∷ codes "--size-prefixed" ∷ codes "--lines"
     ∷ codes "--bytes" ∷ codes "--help" ∷ codes "-h" ∷ []
 option_words RattleCommand = codes "-I" ∷ codes "-o" ∷ codes "--check" ∷ codes "--no-verified"
-    ∷ codes "--help" ∷ codes "-h" ∷ []
+    ∷ codes "--c" ∷ codes "--help" ∷ codes "-h" ∷ []
 option_words Dot = codes "-I" ∷ codes "--help" ∷ codes "-h" ∷ []
 option_words Conform = codes "-I" ∷ codes "--backward" ∷ codes "--forward" ∷ codes "--rename"
     ∷ codes "--against" ∷ codes "--json" ∷ codes "--help" ∷ codes "-h" ∷ []

@@ -94,6 +94,11 @@ stands_on ds = if have_key ds then codes ": planus planus_keys planus_views`"
 abbrev pub crates_line : List Declared → List ℕ → List ℕ
 crates_line ds name = line_of (codes "the line of crates.txt is `") name (stands_on ds)
 
+-- what a repository says of its crate for C
+abbrev pub foreign_line : List ℕ → List ℕ
+foreign_line name = line_of (codes "the line of crates.txt is `") name
+    (codes "_c staticlib: " ++ (name ++ codes " planus planus_foreign`"))
+
 -- why no crate can have a name, after it
 abbrev pub name_fault : List ℕ → List ℕ
 name_fault w = if is_library w then codes "`: a library of Rattle has it; the folder after -o needs another name"
@@ -159,38 +164,61 @@ PrintsAll disk folder check (file ∷ files) worst status unsaid said =
     (one : ℕ) × (told : Option (List ℕ)) × PrintsFile disk folder check file one unsaid told
     × PrintsOn one (PrintsAll disk folder check files (max worst one)) status told said
 
-abbrev pub SaysLine : Bool → List Declared → List ℕ → Option (List ℕ) → Option (List ℕ) → Type 0
-SaysLine true ds name unsaid said = said ≡ unsaid
-SaysLine false ds name unsaid said = Appends unsaid said (crates_line ds name)
+-- the lines of the crate and, where there are calls for C, of theirs
+abbrev pub lines_said : Bool → List Declared → List ℕ → List ℕ
+lines_said true ds name = crates_line ds name ++ foreign_line name
+lines_said false ds name = crates_line ds name
+
+abbrev pub SaysLines : Bool → Bool → List Declared → List ℕ → Option (List ℕ) → Option (List ℕ)
+    → Type 0
+SaysLines true foreign ds name unsaid said = said ≡ unsaid
+SaysLines false foreign ds name unsaid said = Appends unsaid said (lines_said foreign ds name)
+
+-- the folder of a crate with calls for C
+abbrev pub foreign_folder : List ℕ → List ℕ
+foreign_folder folder = folder ++ codes "_c"
+
+-- All files of a crate with calls for C have their texts or were written, where there is one.
+abbrev pub PrintsForeign : Disk → List ℕ → Bool → Bool → Option (List ℕ) → Option (List ℕ) → Type 0
+PrintsForeign disk folder check false unsaid said = said ≡ unsaid
+PrintsForeign disk folder check true unsaid said =
+    (files : List PrintedFile) × PrintsAll disk (foreign_folder folder) check files 0 0 unsaid said
+
+-- All files of a crate have their texts or were written, and those of its calls for C.
+pub record PrintsBoth (disk : Disk) (folder name : List ℕ) (check foreign : Bool)
+    (files : List PrintedFile) (ds : List Declared) (unsaid said : Option (List ℕ)) : Type 0 where
+  pub told : Option (List ℕ)
+  pub prints : PrintsAll disk folder check files 0 0 unsaid told
+  pub told_of_both : Option (List ℕ)
+  pub prints_foreign : PrintsForeign disk folder check foreign told told_of_both
+  pub says : SaysLines check foreign ds name told_of_both said
 
 -- All files of a crate with the code of a schema have their texts or were written.
-pub record PrintsCrate (disk : Disk) (folder name : List ℕ) (check verified : Bool)
+pub record PrintsCrate (disk : Disk) (folder name : List ℕ) (check verified foreign : Bool)
     (schema : Schema) (unsaid said : Option (List ℕ)) : Type 0 where
   pub files : List PrintedFile
   pub are : IsPrinted verified schema files
-  pub told : Option (List ℕ)
-  pub prints : PrintsAll disk folder check files 0 0 unsaid told
-  pub says : SaysLine check schema.declarations.items name told said
+  pub prints : PrintsBoth disk folder name check foreign files schema.declarations.items unsaid said
 
 -- A crate has the code of what the named file means.
-pub record PrintsNamed (places : Places) (word folder name : List ℕ) (check verified : Bool)
-    (unsaid said : Option (List ℕ)) : Type 0 where
+pub record PrintsNamed (places : Places) (word folder name : List ℕ)
+    (check verified foreign : Bool) (unsaid said : Option (List ℕ)) : Type 0 where
   pub schema : Schema
   pub told : Option (List ℕ)
   pub means : MeansAll places (file_named word) (Some schema) unsaid told
-  pub prints : PrintsCrate places.disk folder name check verified schema told said
+  pub prints : PrintsCrate places.disk folder name check verified foreign schema told said
 
 -- The crate has a name that crates can have.
-pub record PrintsOne (places : Places) (check verified : Bool) (word : List ℕ)
+pub record PrintsOne (places : Places) (check verified foreign : Bool) (word : List ℕ)
     (unsaid said : Option (List ℕ)) : Type 0 where
   pub folder : List ℕ
   pub name : List ℕ
   pub is : is_crate_name name ≡ true
-  pub prints : PrintsNamed places word folder name check verified unsaid said
+  pub prints : PrintsNamed places word folder name check verified foreign unsaid said
 
 -- `rattle` has one schema.
-abbrev pub PrintsCode : Places → Bool → Bool → List (List ℕ) → Option (List ℕ) → Option (List ℕ)
-    → Type 0
-PrintsCode places check verified (word ∷ []) unsaid said =
-    PrintsOne places check verified word unsaid said
-PrintsCode places check verified several unsaid said = ⊥
+abbrev pub PrintsCode : Places → Bool → Bool → Bool → List (List ℕ) → Option (List ℕ)
+    → Option (List ℕ) → Type 0
+PrintsCode places check verified foreign (word ∷ []) unsaid said =
+    PrintsOne places check verified foreign word unsaid said
+PrintsCode places check verified foreign several unsaid said = ⊥

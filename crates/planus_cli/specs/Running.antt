@@ -1,5 +1,5 @@
 -- What a call does with files.
-use Rattle.std.specs.Prelude.{◌≡◌, ◌⊎◌, ⊤, ℕ, Bool, true, false, not, List, [], ◌∷◌, Option, Some, None}
+use Rattle.std.specs.Prelude.{◌≡◌, ◌⊎◌, ⊤, ℕ, Bool, true, false, not, List, [], ◌∷◌, Option, Some, None, is_some}
 use Rattle.std.specs.Io.KnownBytes.{Keeps}
 use Rattle.planus_schema.specs.declared.schema.Schema.{Schema}
 use Rattle.planus_cli.specs.Arguments.{WordsV, Asked, run}
@@ -67,7 +67,7 @@ RunsCommand disk View words status before after unsaid said =
     ViewsFiles disk words words.files status before after unsaid said
 RunsCommand disk RattleCommand words status before after unsaid said =
     (after ≡ before) × (status ≡ 0 → PrintsCode (places_in disk words) words.check
-    (not words.no_verified) words.files unsaid said)
+    (not words.no_verified) (is_some words.foreign) words.files unsaid said)
 RunsCommand disk Check words status before after unsaid said =
     RunsFiles (RunsFile disk false words) words.files 0 status before after unsaid said
 RunsCommand disk Format words status before after unsaid said =

@@ -9,7 +9,7 @@ use Rattle.planus_cli.specs.declared.arguments.Command.TheVariants.{Dot, Conform
 use Rattle.planus_cli.specs.Completions.{option_words, script_of}
 use Rattle.planus_cli.specs.declared.arguments.Choice.{Choice}
 use Rattle.planus_cli.specs.declared.arguments.Choice.TheVariants.{Root, Lines, Bytes, Output}
-use Rattle.planus_cli.specs.declared.arguments.Choice.TheVariants.{Rename, Against}
+use Rattle.planus_cli.specs.declared.arguments.Choice.TheVariants.{Rename, Against, Foreign}
 use Rattle.planus_cli.specs.declared.said.Said.{Said}
 use Rattle.planus_cli.specs.Near.{nearest}
 use Rattle.planus_cli.specs.Shown.{shown}
@@ -43,7 +43,7 @@ abbrev pub version_text : List ℕ
 version_text = codes "planus 0.1.0\n"
 
 abbrev pub help_text : List ℕ
-help_text = codes "planus reads schemas of flatbuffers, shows buffers by them, and prints their code.\n\nusage: planus check [-I FOLDER].. SCHEMA..\n       planus format [--write | --check] SCHEMA..\n       planus view [OPTION].. SCHEMA BUFFER\n       planus rattle [--check] [--no-verified] [-I FOLDER].. SCHEMA -o FOLDER\n       planus dot [-I FOLDER].. SCHEMA\n       planus conform [OPTION].. OLD NEW\n       planus conform [OPTION].. --against FOLDER SCHEMA..\n       planus completions bash|zsh|fish\n       planus help [COMMAND], planus [COMMAND] --help, planus --version\n\nSCHEMA, BUFFER, OLD and NEW are files, or - for standard input; after --, each word is\none. The value of an option may be in the same word: -IFOLDER, -oFOLDER, --root=NAME.\n-h is --help, and -V is --version.\n"
+help_text = codes "planus reads schemas of flatbuffers, shows buffers by them, and prints their code.\n\nusage: planus check [-I FOLDER].. SCHEMA..\n       planus format [--write | --check] SCHEMA..\n       planus view [OPTION].. SCHEMA BUFFER\n       planus rattle [--check] [--no-verified] [--c PREFIX] [-I FOLDER].. SCHEMA -o FOLDER\n       planus dot [-I FOLDER].. SCHEMA\n       planus conform [OPTION].. OLD NEW\n       planus conform [OPTION].. --against FOLDER SCHEMA..\n       planus completions bash|zsh|fish\n       planus help [COMMAND], planus [COMMAND] --help, planus --version\n\nSCHEMA, BUFFER, OLD and NEW are files, or - for standard input; after --, each word is\none. The value of an option may be in the same word: -IFOLDER, -oFOLDER, --root=NAME.\n-h is --help, and -V is --version.\n"
 
 -- the usage line of a command, with which its help begins, or of the program; what is said of a
 -- wrong call ends with it
@@ -52,7 +52,7 @@ usage_of None = codes "usage: planus COMMAND ..; the commands are check, format,
 usage_of (Some Check) = codes "usage: planus check [-I FOLDER].. SCHEMA..\n"
 usage_of (Some Format) = codes "usage: planus format [--write | --check] SCHEMA..\n"
 usage_of (Some View) = codes "usage: planus view [OPTION].. SCHEMA BUFFER\n"
-usage_of (Some RattleCommand) = codes "usage: planus rattle [--check] [--no-verified] [-I FOLDER].. SCHEMA -o FOLDER\n"
+usage_of (Some RattleCommand) = codes "usage: planus rattle [--check] [--no-verified] [--c PREFIX] [-I FOLDER].. SCHEMA -o FOLDER\n"
 usage_of (Some Dot) = codes "usage: planus dot [-I FOLDER].. SCHEMA\n"
 usage_of (Some Conform) = codes "usage: planus conform [OPTION].. OLD NEW\n       planus conform [OPTION].. --against FOLDER SCHEMA..\n"
 usage_of (Some Completions) = codes "usage: planus completions bash|zsh|fish\n"
@@ -64,7 +64,7 @@ details_of View = codes "\nPrints what a buffer holds, a line a value, as far as
 details_of Dot = codes "\nPrints the graph of a schema for Graphviz: a node for each declaration, with its\nfields and their types, and an edge for each that names a declaration. For a picture,\nplanus dot a.fbs | dot -Tsvg -o a.svg. Included files are sought beside the file and\nin each FOLDER.\nEnds with 0 where the graph is printed, with 1 where the schema has a fault, and with\n2 where the call is wrong or a file can't be read.\n"
 details_of Conform = codes "\nSays on standard error what breaks where the schema NEW replaces OLD: each change by\nwhich code of one reads data of the other otherwise, and what to do instead. A note\nsays what changes your own code alone.\n\n  --against FOLDER  SCHEMA is NEW, and OLD the file of its name in this folder\n  --backward        only what breaks new code that reads old data\n  --forward         only what breaks old code that reads new data\n  --rename OLD=NEW  what is OLD in the old schema is NEW in the new one\n  --json            a line of JSON on standard output for each change, for a program\n  -I FOLDER         included files are sought in this folder too\n\nEnds with 0 where nothing breaks, with 1 where something does or a schema has a fault,\nand with 2 where the call is wrong or a file can't be read.\n"
 details_of Completions = codes "\nPrints the script by which this shell completes calls of planus: commands, their\noptions, and files. It says how it is used.\n"
-details_of RattleCommand = codes "\nPrints the code of a schema as a crate: its files in FOLDER, whose last word is the\ncrate's name. A file that has its text already is left alone.\n\n  -o FOLDER        the folder of the crate, which is made if it isn't there\n  --check          writes nothing, and says which files aren't what is printed\n  --no-verified    prints no views of verified buffers, so that less is to be proved\n  -I FOLDER        included files are sought in this folder too\n\nEnds with 0 where all is printed, with 1 where the schema has a fault or something\nthat isn't supported, or --check names a file, and with 2 where the call is wrong or\na file can't be read or written.\n"
+details_of RattleCommand = codes "\nPrints the code of a schema as a crate: its files in FOLDER, whose last word is the\ncrate's name. A file that has its text already is left alone.\n\n  -o FOLDER        the folder of the crate, which is made if it isn't there\n  --check          writes nothing, and says which files aren't what is printed\n  --no-verified    prints no views of verified buffers, so that less is to be proved\n  --c PREFIX       prints a crate with calls for C too, FOLDER_c, and PREFIX.h in it;\n                   the names of calls begin with PREFIX\n  -I FOLDER        included files are sought in this folder too\n\nEnds with 0 where all is printed, with 1 where the schema has a fault or something\nthat isn't supported, or --check names a file, and with 2 where the call is wrong or\na file can't be read or written.\n"
 
 abbrev pub help_of : Command → List ℕ
 help_of command = usage_of (Some command) ++ details_of command
@@ -76,6 +76,7 @@ no_value_text Bytes = codes "planus: no number follows --bytes\n"
 no_value_text Output = codes "planus: no folder follows -o\n"
 no_value_text Rename = codes "planus: no names follow --rename\n"
 no_value_text Against = codes "planus: no folder follows --against\n"
+no_value_text Foreign = codes "planus: no prefix follows --c\n"
 no_value_text choice = codes "planus: no folder follows -I\n"
 
 abbrev pub no_shell_text : List ℕ
@@ -95,6 +96,7 @@ empty_value_text Lines = codes "planus: the number of --lines is empty\n"
 empty_value_text Bytes = codes "planus: the number of --bytes is empty\n"
 empty_value_text Output = codes "planus: the folder of -o is empty\n"
 empty_value_text Against = codes "planus: the folder of --against is empty\n"
+empty_value_text Foreign = codes "planus: the prefix of --c is empty\n"
 empty_value_text choice = codes "planus: the folder of -I is empty\n"
 
 -- after the value

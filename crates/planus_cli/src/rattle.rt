@@ -1,6 +1,6 @@
 //! The command `rattle`: the code of a schema as a crate's files.
 
-ghost use Rattle.std.specs.Prelude.{◌≡◌, true, not, IfOk, OnOk, MatchOption};
+ghost use Rattle.std.specs.Prelude.{◌≡◌, ◌≢◌, true, not, is_some, IfOk, OnOk, MatchOption};
 ghost use Rattle.std.specs.Io.KnownBytes.{Appends};
 ghost use Rattle.planus_cli.specs.Arguments.{words_of};
 ghost use Rattle.planus_cli.specs.Loading.{places_of};
@@ -13,11 +13,13 @@ use crate::libraries::is_library;
 use crate::said::{CLEAN, FAILED, FAULTY, fail};
 use crate::sources::schema_at;
 use crate::streams::{CallError, GREATEST_TEXT, say};
-use planus_codegen::{PrintError, PrintedFile, print_crate};
+use planus_codegen::{PrintError, PrintedFile, print_crate, print_foreign};
 use planus_resolve::Schema;
 use planus_schema::{have_key, is_reserved};
 use std::alloc::{AllocError, Global};
 use std::io::Write;
+
+const PREFIX_FAULT: &str = "`: it has small letters, digits and `_`, and first a letter";
 
 #[derive(Clone, Copy)]
 struct Folder<'a> {
@@ -27,6 +29,8 @@ struct Folder<'a> {
     check: bool,
     /// Whether it has verified reading.
     verified: bool,
+    /// What the names of its calls for C begin with.
+    prefix: Option<&'a str>,
 }
 
 fn last_word(path: &str) -> &str {
@@ -93,14 +97,14 @@ fn name_fault(word: &[u8]) -> &'static str
 fn folder_or_report<'a, X: Write>(
     alloc: Global,
     path: &'a str,
-    check: bool,
-    verified: bool,
+    words: &Words<'a>,
     errors: &mut X,
 ) -> Result<Option<Folder<'a>>, CallError>
     ensures { IfOk result (λ found. MatchOption found
         (spec.RefusesName (X.contents errors.old) (X.contents errors.new))
-        (λ folder. (spec.is_crate_name folder.name.now ≡ true) × (folder.check ≡ check)
-        × (folder.verified ≡ verified) × (X.contents errors.new ≡ X.contents errors.old))) }
+        (λ folder. (spec.is_crate_name folder.name.now ≡ true) × (folder.check ≡ words.now.check)
+        × (folder.verified ≡ not words.now.no_verified) × (folder.prefix ≡ words.now.foreign)
+        × (X.contents errors.new ≡ X.contents errors.old))) }
 {
     let path = path.trim_end_matches('/');
     let name = last_word(path);
@@ -108,8 +112,9 @@ fn folder_or_report<'a, X: Write>(
         return Ok(Some(Folder {
             path,
             name,
-            check,
-            verified,
+            check: words.check,
+            verified: !words.no_verified,
+            prefix: words.foreign,
         }));
     }
     let why = name_fault(name.as_bytes());
@@ -242,21 +247,121 @@ fn stands_on(schema: &Schema) -> &'static str
     }
 }
 
-fn say_line<X: Write>(
+/// Says the lines of the crate and, where there are calls for C, of theirs.
+fn say_lines<X: Write>(
     alloc: Global,
     schema: &Schema,
-    name: &str,
+    folder: Folder<'_>,
     errors: &mut X,
 ) -> Result<(), CallError>
     ensures { OnOk result (Appends (X.contents errors.old) (X.contents errors.new)
-        (spec.crates_line schema.now.declarations.items name.now)) }
+        (spec.lines_said (is_some folder.entry.prefix) schema.now.declarations.items
+        folder.entry.name.now)) }
 {
+    let name = folder.name;
     let crates = stands_on(schema);
     say(alloc, errors, "the line of crates.txt is `", name, crates)?;
+    if folder.prefix.is_some() {
+        let crates = format!(in alloc; "_c staticlib: {name} planus planus_foreign`")?;
+        say(
+            alloc,
+            errors,
+            "the line of crates.txt is `",
+            name,
+            crates.as_str(),
+        )?;
+    }
     Ok(())
 }
 
-/// Writes or compares the files of a crate. Returns the exit status.
+/// Says why no code is printed. Returns the exit status.
+fn tell_unprinted<X: Write>(
+    alloc: Global,
+    path: &str,
+    error: PrintError,
+    errors: &mut X,
+) -> Result<u8, CallError>
+    ensures { IfOk result (λ status. status ≢ 0) }
+{
+    match error {
+        PrintError::OutOfMemory => Err(CallError::OutOfMemory),
+        PrintError::Untied => fail(alloc, errors, "", path, ": its code isn't the schema's"),
+        PrintError::Unsupported { what, name } => say_unsupported(alloc, what, &name, errors),
+    }
+}
+
+/// Writes or compares the files of the crate with calls for C. Returns the exit status.
+fn print_calls<F: Files, X: Write>(
+    files: &F,
+    alloc: Global,
+    schema: &Schema,
+    folder: Folder<'_>,
+    prefix: &str,
+    errors: &mut X,
+) -> Result<u8, CallError>
+    ensures { IfOk result (λ status. status ≡ 0 → spec.PrintsForeign (F.disk files.now)
+        folder.entry.path.now folder.entry.check true (X.contents errors.old)
+        (X.contents errors.new)) }
+{
+    match print_foreign(alloc, schema, folder.name, prefix) {
+        Ok(printed) => {
+            let folder_path = folder.path;
+            let path = format!(in alloc; "{folder_path}_c")?;
+            let beside = Folder {
+                path: path.as_str(),
+                ..folder
+            };
+            print_files(files, alloc, beside, &printed, errors)
+        }
+        Err(error) => tell_unprinted(alloc, folder.path, error, errors),
+    }
+}
+
+/// The same where there are to be such calls.
+fn print_beside<F: Files, X: Write>(
+    files: &F,
+    alloc: Global,
+    schema: &Schema,
+    folder: Folder<'_>,
+    errors: &mut X,
+) -> Result<u8, CallError>
+    ensures { IfOk result (λ status. status ≡ 0 → spec.PrintsForeign (F.disk files.now)
+        folder.entry.path.now folder.entry.check (is_some folder.entry.prefix)
+        (X.contents errors.old) (X.contents errors.new)) }
+{
+    match folder.prefix {
+        Some(prefix) => print_calls(files, alloc, schema, folder, prefix, errors),
+        None => Ok(CLEAN),
+    }
+}
+
+/// Writes or compares the files of a crate, and then those of its calls for C. Returns the exit
+/// status.
+fn print_both<F: Files, X: Write>(
+    files: &F,
+    alloc: Global,
+    schema: &Schema,
+    folder: Folder<'_>,
+    printed: &[PrintedFile],
+    errors: &mut X,
+) -> Result<u8, CallError>
+    ensures { IfOk result (λ status. status ≡ 0 → spec.PrintsBoth (F.disk files.now)
+        folder.entry.path.now folder.entry.name.now folder.entry.check
+        (is_some folder.entry.prefix) printed.now schema.now.declarations.items
+        (X.contents errors.old) (X.contents errors.new)) }
+{
+    let status = print_files(files, alloc, folder, printed, errors)?;
+    if status != CLEAN {
+        return Ok(status);
+    }
+    let status = print_beside(files, alloc, schema, folder, errors)?;
+    if status == CLEAN && !folder.check {
+        say_lines(alloc, schema, folder, errors)?;
+    }
+    Ok(status)
+}
+
+/// Writes or compares the files of a crate with the code of a schema. Returns the exit status.
 fn print_to<F: Files, X: Write>(
     files: &F,
     alloc: Global,
@@ -267,25 +372,12 @@ fn print_to<F: Files, X: Write>(
     requires { spec.is_crate_name folder.name.now ≡ true }
     ensures { IfOk result (λ status. status ≡ 0 → spec.PrintsCrate (F.disk files.now)
         folder.entry.path.now folder.entry.name.now folder.entry.check
-        folder.entry.verified schema.now (X.contents errors.old) (X.contents errors.new)) }
+        folder.entry.verified (is_some folder.entry.prefix) schema.now (X.contents errors.old)
+        (X.contents errors.new)) }
 {
     match print_crate(alloc, schema, folder.name, folder.verified) {
-        Ok(printed) => {
-            let status = print_files(files, alloc, folder, &printed, errors)?;
-            if status == CLEAN && !folder.check {
-                say_line(alloc, schema, folder.name, errors)?;
-            }
-            Ok(status)
-        }
-        Err(PrintError::OutOfMemory) => Err(CallError::OutOfMemory),
-        Err(PrintError::Untied) => fail(
-            alloc,
-            errors,
-            "",
-            folder.path,
-            ": its code isn't the schema's",
-        ),
-        Err(PrintError::Unsupported { what, name }) => say_unsupported(alloc, what, &name, errors),
+        Ok(printed) => print_both(files, alloc, schema, folder, &printed, errors),
+        Err(error) => tell_unprinted(alloc, folder.path, error, errors),
     }
 }
 
@@ -302,12 +394,20 @@ fn print_named<F: Files, X: Write>(
     ensures { IfOk result (λ status. status ≡ 0 → spec.PrintsNamed
         (places_of (F.disk files.now) folders.now) word.now folder.entry.path.now
         folder.entry.name.now folder.entry.check
-        folder.entry.verified (X.contents errors.old) (X.contents errors.new)) }
+        folder.entry.verified (is_some folder.entry.prefix) (X.contents errors.old)
+        (X.contents errors.new)) }
 {
     let found = schema_at(files, alloc, folders, word, errors)?;
     match &found {
         Ok(schema) => print_to(files, alloc, schema, folder, errors),
         Err(status) => Ok(*status),
+    }
+}
+
+fn is_prefix(word: Option<&str>) -> bool {
+    match word {
+        Some(word) => is_word(word.as_bytes()),
+        None => true,
     }
 }
 
@@ -320,12 +420,21 @@ pub fn print_code<F: Files, X: Write>(
 ) -> Result<u8, CallError>
     ensures { IfOk result (λ status. status ≡ 0 → spec.PrintsCode
         (places_of (F.disk files.now) words.now.folders.items) words.now.check
-        (not words.now.no_verified) (words_of words.now).files
+        (not words.now.no_verified) (is_some words.now.foreign) (words_of words.now).files
         (X.contents errors.old) (X.contents errors.new)) }
 {
+    if !is_prefix(words.foreign) {
+        let prefix = words.foreign.unwrap_or("");
+        return fail(
+            alloc,
+            errors,
+            "no call can begin with `",
+            prefix,
+            PREFIX_FAULT,
+        );
+    }
     let path = words.output.unwrap_or("");
-    let verified = !words.no_verified;
-    let Some(folder) = folder_or_report(alloc, path, words.check, verified, errors)? else {
+    let Some(folder) = folder_or_report(alloc, path, words, errors)? else {
         return Ok(FAILED);
     };
     match words.files.as_slice() {

@@ -30,7 +30,7 @@ planus reads schemas of flatbuffers, shows buffers by them, and prints their cod
 usage: planus check [-I FOLDER].. SCHEMA..
        planus format [--write | --check] SCHEMA..
        planus view [OPTION].. SCHEMA BUFFER
-       planus rattle [--check] [--no-verified] [-I FOLDER].. SCHEMA -o FOLDER
+       planus rattle [--check] [--no-verified] [--c PREFIX] [-I FOLDER].. SCHEMA -o FOLDER
        planus dot [-I FOLDER].. SCHEMA
        planus conform [OPTION].. OLD NEW
        planus conform [OPTION].. --against FOLDER SCHEMA..
@@ -82,7 +82,7 @@ more follows, and with 2 where the call is wrong or a file can't be read.
 ";
 
 const USAGE_OF_RATTLE: &str =
-    "usage: planus rattle [--check] [--no-verified] [-I FOLDER].. SCHEMA -o FOLDER\n";
+    "usage: planus rattle [--check] [--no-verified] [--c PREFIX] [-I FOLDER].. SCHEMA -o FOLDER\n";
 
 const DETAILS_OF_RATTLE: &str = "
 Prints the code of a schema as a crate: its files in FOLDER, whose last word is the
@@ -91,6 +91,8 @@ crate's name. A file that has its text already is left alone.
   -o FOLDER        the folder of the crate, which is made if it isn't there
   --check          writes nothing, and says which files aren't what is printed
   --no-verified    prints no views of verified buffers, so that less is to be proved
+  --c PREFIX       prints a crate with calls for C too, FOLDER_c, and PREFIX.h in it;
+                   the names of calls begin with PREFIX
   -I FOLDER        included files are sought in this folder too
 
 Ends with 0 where all is printed, with 1 where the schema has a fault or something
@@ -227,7 +229,17 @@ pub(crate) fn option_words(command: Command) -> &'static [&'static str]
                 "-h",
             ]
         }
-        Command::Rattle => &["-I", "-o", "--check", "--no-verified", "--help", "-h"],
+        Command::Rattle => {
+            &[
+                "-I",
+                "-o",
+                "--check",
+                "--no-verified",
+                "--c",
+                "--help",
+                "-h",
+            ]
+        }
         Command::Dot => &["-I", "--help", "-h"],
         Command::Conform => {
             &[
@@ -306,6 +318,7 @@ fn no_value(choice: Choice) -> &'static str
         Choice::Output => "planus: no folder follows -o\n",
         Choice::Rename => "planus: no names follow --rename\n",
         Choice::Against => "planus: no folder follows --against\n",
+        Choice::Foreign => "planus: no prefix follows --c\n",
         _ => "planus: no folder follows -I\n",
     }
 }
@@ -319,6 +332,7 @@ fn empty_value(choice: Choice) -> &'static str
         Choice::Bytes => "planus: the number of --bytes is empty\n",
         Choice::Output => "planus: the folder of -o is empty\n",
         Choice::Against => "planus: the folder of --against is empty\n",
+        Choice::Foreign => "planus: the prefix of --c is empty\n",
         _ => "planus: the folder of -I is empty\n",
     }
 }
