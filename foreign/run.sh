@@ -1,0 +1,49 @@
+#!/bin/sh
+# Callers of the calls for C over a buffer of flatc: sh foreign/run.sh
+#
+# Builds crates/harbour_c and the callers in C, C++, Python and Rust, and compares what they print with ship.txt, which says
+# what stands in ship.json. Then C calls over damaged buffers, with the address and undefined behaviour sanitizers. What isn't
+# there is named and skipped: flatc (flatbuffers-compiler), gcc, g++, python3, rustc.
+set -eu
+cd "$(dirname "$0")"
+kit=$(dirname "$(rt doc)")
+room=$(mktemp -d)
+trap 'rm -rf "$room"' EXIT
+has() { command -v "$1" >/dev/null || { echo "foreign: $1 isn't there: $2 skipped"; return 1; }; }
+has flatc "all" || exit 0
+has gcc "all" || exit 0
+(cd ../crates/harbour_c && rt lib >"$room/log" 2>&1) || { cat "$room/log" >&2; exit 1; }
+cp ../crates/harbour_c/out/libharbour_c.a "$room"
+link="$room/libharbour_c.a $kit/c/liblibc_c.a"
+flags="-Wall -Wextra -Werror -O2 -I ../crates/harbour_c"
+flatc -b -o "$room" ../crates/harbour/harbour.fbs ship.json
+
+gcc -std=c99 $flags -o "$room/read" read.c $link
+"$room/read" "$room/ship.bin" | diff ship.txt -
+echo "foreign: C reads what flatc wrote"
+some() { grep -E '^(name|hull|level|home|owner) ' ship.txt; }
+if has g++ C++; then
+    g++ -std=c++17 $flags -o "$room/read_cpp" read.cpp $link
+    "$room/read_cpp" "$room/ship.bin" >"$room/said"
+    some | diff - "$room/said"
+    echo "foreign: C++ reads it"
+fi
+gcc -shared -o "$room/libharbour.so" -Wl,--whole-archive "$room/libharbour_c.a" -Wl,--no-whole-archive "$kit/c/liblibc_c.a"
+if has python3 Python; then
+    python3 read.py "$room/libharbour.so" "$room/ship.bin" >"$room/said"
+    some | diff - "$room/said"
+    echo "foreign: Python reads it"
+fi
+if has rustc Rust; then
+    rustc --edition 2024 -O -o "$room/read_rs" read.rs -L "$room" -l static=harbour_c -C "link-arg=$kit/c/liblibc_c.a"
+    "$room/read_rs" "$room/ship.bin" >"$room/said"
+    some | diff - "$room/said"
+    echo "foreign: Rust reads it"
+fi
+gcc -std=c99 $flags -o "$room/damaged" damaged.c $link
+"$room/damaged" "$room/ship.bin"
+if gcc -std=c99 $flags -fsanitize=address,undefined -fno-sanitize-recover=all -o "$room/sanitized" damaged.c $link 2>/dev/null; then
+    "$room/sanitized" "$room/ship.bin"
+else
+    echo "foreign: gcc has no sanitizers: skipped"
+fi
