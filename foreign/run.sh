@@ -1,7 +1,7 @@
 #!/bin/sh
-# Callers of the calls for C over a buffer of flatc: sh foreign/run.sh
+# Callers of the calls for C over a buffer of flatc: sh foreign/run.sh [PLANUS]
 #
-# Builds crates/harbour_c and the callers in C, C++, Python and Rust, and compares what they print with ship.txt, which says
+# With PLANUS, the program, crates/harbour_c is first compared with what it prints, laid out by rt fmt. Builds crates/harbour_c and the callers in C, C++, Python and Rust, and compares what they print with ship.txt, which says
 # what stands in ship.json. Then C calls over damaged buffers, with the address and undefined behaviour sanitizers. What isn't
 # there is named and skipped: flatc (flatbuffers-compiler), gcc, g++, python3, rustc.
 set -eu
@@ -10,6 +10,13 @@ kit=$(dirname "$(rt doc)")
 room=$(mktemp -d)
 trap 'rm -rf "$room"' EXIT
 has() { command -v "$1" >/dev/null || { echo "foreign: $1 isn't there: $2 skipped"; return 1; }; }
+if [ $# = 1 ]; then
+    "$1" rattle --c harbour ../crates/harbour/harbour.fbs -o "$room/harbour" 2>"$room/log" || { cat "$room/log" >&2; exit 1; }
+    (cd "$room/harbour_c" && rt fmt >/dev/null)
+    diff -r "$room/harbour_c/src" ../crates/harbour_c/src
+    diff "$room/harbour_c/harbour.h" ../crates/harbour_c/harbour.h
+    echo "foreign: crates/harbour_c is what is printed"
+fi
 has flatc "all" || exit 0
 has gcc "all" || exit 0
 (cd ../crates/harbour_c && rt lib >"$room/log" 2>&1) || { cat "$room/log" >&2; exit 1; }

@@ -7,6 +7,6 @@ mod manifest;
 mod origin;
 mod person;
 mod port;
-mod ship;
 mod root;
+mod ship;
 mod values;

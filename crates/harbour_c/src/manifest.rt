@@ -393,12 +393,7 @@ pub extern "C" fn harbour_manifest_kinds(
         place.ItemsIf buffer.now table out.old out.new result }
 {
     planus_foreign::read_items_if::<planus::Result<harbour::Kind>>(
-        buffer,
-        table,
-        31,
-        "Manifest",
-        "kinds",
-        out,
+        buffer, table, 31, "Manifest", "kinds", out,
     )
 }
 

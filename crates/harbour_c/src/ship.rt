@@ -234,12 +234,7 @@ pub extern "C" fn harbour_ship_kinds(
         buffer.now table out.old out.new result }
 {
     planus_foreign::read_items_if::<planus::Result<harbour::Kind>>(
-        buffer,
-        table,
-        17,
-        "Ship",
-        "kinds",
-        out,
+        buffer, table, 17, "Ship", "kinds", out,
     )
 }
 
