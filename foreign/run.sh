@@ -1,9 +1,10 @@
 #!/bin/sh
 # Callers of the calls for C over a buffer of flatc: sh foreign/run.sh [PLANUS]
 #
-# With PLANUS, the program, crates/harbour_c is first compared with what it prints, laid out by rt fmt. Builds crates/harbour_c and the callers in C, C++, Python and Rust, and compares what they print with ship.txt, which says
-# what stands in ship.json. Then C calls over damaged buffers, with the address and undefined behaviour sanitizers. What isn't
-# there is named and skipped: flatc (flatbuffers-compiler), gcc, g++, python3, rustc.
+# With PLANUS, the program, crates/harbour_c is first compared with what it prints, laid out by rt fmt. Then it is built, and so
+# are the callers in C, C++, Python and Rust. What they print is compared with ship.txt, which says what stands in ship.json. C
+# calls over damaged buffers too, with the address and undefined behaviour sanitizers. What isn't there is named and skipped:
+# flatc (flatbuffers-compiler), gcc, g++, python3, rustc.
 set -eu
 cd "$(dirname "$0")"
 kit=$(dirname "$(rt doc)")
