@@ -1,27 +1,25 @@
 #!/bin/sh
-# Callers of the calls for C over a buffer of flatc: sh foreign/run.sh [PLANUS]
+# Callers of the calls for C over a buffer of flatc: sh foreign/run.sh [LIBRARY]
 #
-# With PLANUS, the program, crates/harbour_c is first compared with what it prints, laid out by rt fmt. Then it is built, and so
-# are the callers in C, C++, Python and Rust. What they print is compared with ship.txt, which says what stands in ship.json. C
+# Builds crates/harbour_c by rt lib, which proves it and all that it stands on, if LIBRARY, its libharbour_c.a, isn't given; and
+# the callers in C, C++, Python and Rust. What they print is compared with ship.txt, which says what stands in ship.json. C
 # calls over damaged buffers too, with the address and undefined behaviour sanitizers. What isn't there is named and skipped:
 # flatc (flatbuffers-compiler), gcc, g++, python3, rustc.
 set -eu
+[ $# = 0 ] || set -- "$(realpath "$1")"
 cd "$(dirname "$0")"
 kit=$(dirname "$(rt doc)")
 room=$(mktemp -d)
 trap 'rm -rf "$room"' EXIT
 has() { command -v "$1" >/dev/null || { echo "foreign: $1 isn't there: $2 skipped"; return 1; }; }
-if [ $# = 1 ]; then
-    "$1" rattle --c harbour ../crates/harbour/harbour.fbs -o "$room/harbour" 2>"$room/log" || { cat "$room/log" >&2; exit 1; }
-    (cd "$room/harbour_c" && rt fmt >/dev/null)
-    diff -r "$room/harbour_c/src" ../crates/harbour_c/src
-    diff "$room/harbour_c/harbour.h" ../crates/harbour_c/harbour.h
-    echo "foreign: crates/harbour_c is what is printed"
-fi
 has flatc "all" || exit 0
 has gcc "all" || exit 0
-(cd ../crates/harbour_c && rt lib >"$room/log" 2>&1) || { cat "$room/log" >&2; exit 1; }
-cp ../crates/harbour_c/out/libharbour_c.a "$room"
+if [ $# = 1 ]; then
+    cp "$1" "$room/libharbour_c.a"
+else
+    (cd ../crates/harbour_c && rt lib >"$room/log" 2>&1) || { cat "$room/log" >&2; exit 1; }
+    cp ../crates/harbour_c/out/libharbour_c.a "$room"
+fi
 link="$room/libharbour_c.a $kit/c/liblibc_c.a"
 flags="-Wall -Wextra -Werror -O2 -I ../crates/harbour_c"
 flatc -b -o "$room" ../crates/harbour/harbour.fbs ship.json
