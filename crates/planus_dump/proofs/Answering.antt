@@ -98,7 +98,7 @@ zero_at S items count content z e =
     let inside : items + count < length S = omega (arith, z.inside, length-drop items S, e) in
     ((inside, sym (get_or-drop items S count 0) ∙ ap (λ k. get_or (drop items S) k 0) e ∙ z.zero_byte), ap (λ k. take k (drop items S)) e ∙ z.front)
 
-text_holds : (S : List ℕ) (f : ℕ) (content : List ℕ) → TextThere S f content → AllHold (text_clauses S f) × (content_at S f ≡ content)
+pub text_holds : (S : List ℕ) (f : ℕ) (content : List ℕ) → TextThere S f content → AllHold (text_clauses S f) × (content_at S f ≡ content)
 unfolding text_rest
 text_holds S f content (position, leads, stands, utf8) =
     let head : HeadIs S f position (length content) = head_is S f position (length content) leads stands.0 in

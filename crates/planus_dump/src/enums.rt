@@ -7,7 +7,8 @@ ghost use Rattle.planus_dump.specs.Events as spec;
 use crate::schemas::EnumSchema;
 use std::alloc::{AllocError, Global};
 
-fn has_value(flags: bool, number: u64, value: u64) -> bool
+/// Whether a number is this value, or has this flag.
+pub fn has_value(flags: bool, number: u64, value: u64) -> bool
     ensures { result ≡ spec.has_value flags number value }
 {
     if flags {
@@ -17,6 +18,7 @@ fn has_value(flags: bool, number: u64, value: u64) -> bool
     }
 }
 
+/// Returns the names of a number in parentheses, or nothing.
 pub fn names_of(alloc: Global, shape: &EnumSchema, number: u64) -> Result<String, AllocError>
     ensures { IfOk result (λ text. string_bytes text ≡ names_text
         (spec.names_in shape.now.flags number shape.now.values.items)) }

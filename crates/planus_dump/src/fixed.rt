@@ -22,7 +22,8 @@ use planus::{Place, SliceWithStartOffset};
 
 const GREATEST_NESTING: usize = 64;
 
-fn leaf_of(number: Number) -> Leaf
+/// An integer as a scalar.
+pub fn leaf_of(number: Number) -> Leaf
     ensures { result ≡ spec.number_leaf number }
 {
     match number {
@@ -48,7 +49,8 @@ fn number_size(number: Number) -> usize
     }
 }
 
-fn fixed_size(schema: &Schema, fixed: Fixed) -> usize
+/// The bytes of a value.
+pub fn fixed_size(schema: &Schema, fixed: Fixed) -> usize
     ensures { result ≡ spec.fixed_size schema.now fixed }
 {
     match fixed {

@@ -21,7 +21,8 @@ const F32_INFINITE: u32 = 0x7f80_0000;
 
 const F64_INFINITE: u64 = 0x7ff0_0000_0000_0000;
 
-fn is_nan(bits: Bits) -> bool
+/// Whether they are of no number.
+pub fn is_nan(bits: Bits) -> bool
     ensures { IsTrue result ↔ IsNan bits }
 {
     match bits {
@@ -30,7 +31,8 @@ fn is_nan(bits: Bits) -> bool
     }
 }
 
-fn is_infinite(bits: Bits) -> bool
+/// Whether they are of an infinite number.
+pub fn is_infinite(bits: Bits) -> bool
     ensures { IsTrue result ↔ IsInfinite bits }
 {
     match bits {
@@ -39,7 +41,8 @@ fn is_infinite(bits: Bits) -> bool
     }
 }
 
-fn infinity(bits: Bits) -> &'static str
+/// The text of an infinite number.
+pub fn infinity(bits: Bits) -> &'static str
     ensures { result.now ≡ infinity_text bits }
 {
     let is_positive = match bits {
@@ -49,7 +52,8 @@ fn infinity(bits: Bits) -> &'static str
     if is_positive { "inf" } else { "-inf" }
 }
 
-fn decimal_text(alloc: Global, bits: Bits) -> Result<String, AllocError> {
+/// Returns the decimal that `std` prints.
+pub fn decimal_text(alloc: Global, bits: Bits) -> Result<String, AllocError> {
     match bits {
         Bits::F32(bits) => {
             let x = f32_from_bits_with_nan(bits);
@@ -62,7 +66,8 @@ fn decimal_text(alloc: Global, bits: Bits) -> Result<String, AllocError> {
     }
 }
 
-fn reads_back(text: &str, bits: Bits) -> bool
+/// Whether a decimal reads back to the same bits.
+pub fn reads_back(text: &str, bits: Bits) -> bool
     ensures { IsTrue result → ReadsBackTo bits text.now }
 {
     match bits {
@@ -111,6 +116,7 @@ fn float_text(alloc: Global, bits: Bits) -> Result<String, AllocError>
     finite_text(alloc, bits)
 }
 
+/// Returns a line as text.
 pub fn line_text(alloc: Global, line: Line) -> Result<String, AllocError>
     ensures { IfOk result (λ text. Shows (event_of line) (string_bytes text)) }
 {
@@ -123,6 +129,7 @@ pub fn line_text(alloc: Global, line: Line) -> Result<String, AllocError>
     }
 }
 
+/// Returns lines as texts.
 pub fn line_texts(alloc: Global, lines: Vec<Line>) -> Result<Vec<String>, AllocError>
     ensures { IfOk result (λ texts. AreShown (map event_of lines.items)
         (map string_bytes texts.items)) }

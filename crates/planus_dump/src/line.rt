@@ -4,6 +4,7 @@ ghost use Rattle.planus_dump.specs.Faults.{is_fault};
 ghost use Rattle.planus_dump.specs.Views.{cost};
 ghost use Rattle.planus_dump.specs.inner.Shown.{event_of};
 
+/// The bits of a float.
 #[derive(Clone, Copy)]
 pub enum Bits {
     F32(u32),

@@ -19,11 +19,13 @@ use planus::table_reader::Table;
 use planus::{Place, SliceWithStartOffset, TableRead, TaggedPlace};
 use planus_read::array_from_buffer;
 
-// The reader's name, in locations that a dump doesn't print.
+/// The reader's name, in locations that a dump doesn't print.
 pub const TYPE: &str = "Table";
 
+/// The reader's method, likewise.
 pub const METHOD: &str = "dump";
 
+/// A value, its error, or a table by its index in the schema.
 #[derive(Clone, Copy)]
 pub enum Found<'buf> {
     Value(Value<'buf>),
@@ -41,6 +43,7 @@ fn text_at<'buf>(place: Place<'buf>) -> Result<Value<'buf>, ErrorKind>
     }
 }
 
+/// Reads a scalar.
 pub fn value_at<'buf>(place: Place<'buf>, leaf: Leaf) -> Result<Value<'buf>, ErrorKind>
     ensures { answer_seen value_text result
         ≡ spec.leaf_at leaf (place_bytes place.entry) (place_offset place.entry) }
@@ -60,6 +63,7 @@ pub fn value_at<'buf>(place: Place<'buf>, leaf: Leaf) -> Result<Value<'buf>, Err
     }
 }
 
+/// Reads a scalar.
 pub fn leaf_found<'buf>(place: Place<'buf>, leaf: Leaf) -> Found<'buf>
     ensures { (E : TableEvents) (path : List ℕ) → found_events E path result
         ≡ leaf_events leaf (place_bytes place.entry) (place_offset place.entry) path }
@@ -70,6 +74,7 @@ pub fn leaf_found<'buf>(place: Place<'buf>, leaf: Leaf) -> Found<'buf>
     }
 }
 
+/// Reads an item, but for a table.
 pub fn item_found<'buf>(place: Place<'buf>, item: Item) -> Found<'buf>
     ensures { IsFound item (place_bytes place.entry) (place_offset place.entry) result }
 {
@@ -86,6 +91,7 @@ pub fn item_found<'buf>(place: Place<'buf>, item: Item) -> Found<'buf>
     }
 }
 
+/// A place that is read as itself.
 #[derive(Clone, Copy)]
 pub struct Position<'buf> {
     slice: SliceWithStartOffset<'buf>,
@@ -105,6 +111,7 @@ impl<'buf> TableRead<'buf> for Position<'buf> {
     }
 }
 
+/// Returns the bytes from a place on, if they are at least so many.
 pub fn slice_from<'buf>(
     place: Place<'buf>,
     size: usize,
@@ -129,6 +136,7 @@ pub fn led_place<'buf>(place: Place<'buf>) -> Result<Place<'buf>, ErrorKind>
     Ok(Place::new(position.slice, position.offset + reference as usize))
 }
 
+/// Returns the bytes of a vector from its first item on, and the number of its items, of this size.
 pub fn read_values<'buf>(
     place: Place<'buf>,
     size: usize,
@@ -145,6 +153,7 @@ pub fn read_values<'buf>(
     }
 }
 
+/// Reads the bits of an integer.
 pub fn read_bits(place: Place<'_>, number: Number) -> Result<u64, ErrorKind>
     ensures { answer_seen (λ bits. bits) result
         ≡ spec.bits_at (number_width number) (place_bytes place.entry) (place_offset place.entry) }
@@ -157,6 +166,7 @@ pub fn read_bits(place: Place<'_>, number: Number) -> Result<u64, ErrorKind>
     }
 }
 
+/// Reads the bits of a 32-bit float.
 pub fn single_at(place: Place<'_>) -> Result<Bits, ErrorKind>
     ensures { IsFloat Bits.F32 (spec.bits_at w32 (place_bytes place.entry)
         (place_offset place.entry))
@@ -165,6 +175,7 @@ pub fn single_at(place: Place<'_>) -> Result<Bits, ErrorKind>
     Ok(Bits::F32(place.read::<u32>()?))
 }
 
+/// Reads the bits of a 64-bit float.
 pub fn double_at(place: Place<'_>) -> Result<Bits, ErrorKind>
     ensures { IsFloat Bits.F64 (spec.bits_at w64 (place_bytes place.entry)
         (place_offset place.entry))
@@ -173,6 +184,7 @@ pub fn double_at(place: Place<'_>) -> Result<Bits, ErrorKind>
     Ok(Bits::F64(place.read::<u64>()?))
 }
 
+/// Reads the table to which the reference at a place leads.
 pub fn read_table(place: Place<'_>) -> Result<Table<'_>, ErrorKind>
     ensures { answer_seen table_seen result
         ≡ spec.table_at (place_bytes place.entry) (place_offset place.entry) }
@@ -180,6 +192,7 @@ pub fn read_table(place: Place<'_>) -> Result<Table<'_>, ErrorKind>
     place.read::<Table<'_>>()
 }
 
+/// Returns the place of a field, unless it is absent.
 pub fn field_place<'buf>(table: Table<'buf>, slot: usize) -> Option<Place<'buf>>
     ensures { SeesPlace (table_seen table.entry) slot result }
 {
@@ -189,6 +202,7 @@ pub fn field_place<'buf>(table: Table<'buf>, slot: usize) -> Option<Place<'buf>>
     }
 }
 
+/// Reads the union in a slot and the next, unless it is absent.
 pub fn read_union<'buf>(
     table: Table<'buf>,
     slot: usize,

@@ -9,11 +9,14 @@ use planus::errors::ErrorKind;
 use planus::table_reader::Table;
 use planus::{TaggedPlace, UnionVector};
 
+/// A union vector that was read.
 #[derive(Clone, Copy)]
 pub struct Unions<'buf> {
+    /// Its tags and references.
     pub vector: UnionVector<'buf, TaggedPlace<'buf>>,
 }
 
+/// Returns the union vector in a slot and the next, if it is there.
 pub fn read_unions<'buf>(table: Table<'buf>, slot: usize) -> Result<Option<Unions<'buf>>, ErrorKind>
     ensures { answer_seen (option_seen unions_seen) result
         ≡ unions_at (table_seen table.entry) slot }
@@ -26,12 +29,14 @@ pub fn read_unions<'buf>(table: Table<'buf>, slot: usize) -> Result<Option<Union
 }
 
 impl<'buf> Unions<'buf> {
+    /// Returns the number of items.
     pub fn len(&self) -> usize
         ensures { result ≡ (unions_view self.now).count }
     {
         self.vector.len()
     }
 
+    /// Returns an item.
     pub fn get(&self, i: usize) -> Option<TaggedPlace<'buf>>
         ensures { GetsUnion (unions_view self.now) i result }
     {

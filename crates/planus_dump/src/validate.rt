@@ -202,6 +202,7 @@ fn fixed_values_fit_in(schema: &Schema) -> bool
         && structs_fit_in(schema.structs.as_slice(), enums, structs)
 }
 
+/// Whether names are names, and all that the schema names is in it.
 pub fn is_good_schema(schema: &Schema) -> bool
     ensures { result ≡ is_good schema.now }
 {

@@ -1,5 +1,6 @@
 //! Scalars.
 
+/// What a scalar is read as.
 #[derive(Clone, Copy)]
 pub enum Leaf {
     U8,
@@ -15,6 +16,7 @@ pub enum Leaf {
     Bytes,
 }
 
+/// A scalar that was read.
 #[derive(Clone, Copy)]
 pub enum Value<'buf> {
     Unsigned(u64),

@@ -77,7 +77,8 @@ fn dump_shape<L: Lines>(
     Ok(())
 }
 
-fn stride_of(item: Item) -> usize
+/// The bytes of an item in a vector.
+pub fn stride_of(item: Item) -> usize
     ensures { result ≡ spec.stride_of item }
 {
     match item {
@@ -88,7 +89,8 @@ fn stride_of(item: Item) -> usize
     }
 }
 
-fn field_path(alloc: Global, path: &str, field: &FieldSchema) -> Result<String, AllocError>
+/// Returns the path of a field.
+pub fn field_path(alloc: Global, path: &str, field: &FieldSchema) -> Result<String, AllocError>
     ensures { IfOk result (λ text. string_bytes text
         ≡ lines_spec.field_path path.now (spec.field_label field.now)) }
 {
@@ -128,7 +130,8 @@ fn dump_absent<L: Lines>(out: &mut LineSink<L>, path: &str, required: bool) -> R
     }
 }
 
-fn wrong_tag(schema: &Schema, table: Table<'_>, slot: usize) -> Option<u8>
+/// The tag of a union without a value, where the schema takes that for wrong.
+pub fn wrong_tag(schema: &Schema, table: Table<'_>, slot: usize) -> Option<u8>
     ensures { result ≡ spec.wrong_tag schema.now (table_seen table.entry) slot }
 {
     if schema.tags_need_values {
@@ -364,7 +367,8 @@ fn dump_unions<L: Lines>(
     Ok(())
 }
 
-fn variant_with(variants: &[VariantSchema], tag: u8) -> Option<&VariantSchema>
+/// The variant with this tag.
+pub fn variant_with(variants: &[VariantSchema], tag: u8) -> Option<&VariantSchema>
     ensures { option_map (λ variant. variant.now) result ≡ spec.variant_of variants.now tag }
 {
     for variant in variants {
