@@ -1,3 +1,5 @@
 pub mod Calls
+pub mod Inside
 pub mod Places
 pub mod Statuses
+pub mod Verifies

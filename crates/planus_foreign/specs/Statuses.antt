@@ -11,6 +11,13 @@ fine = 0
 abbrev pub absent : ℕ
 absent = 1
 
+-- why a buffer isn't verified: tables lead to tables beyond the limit, or more are reached
+abbrev pub too_deep : ℕ
+too_deep = 11
+
+abbrev pub too_many : ℕ
+too_many = 12
+
 -- why none is read
 abbrev pub status_of : ErrorKind → ℕ
 status_of kind.InvalidOffset = 2

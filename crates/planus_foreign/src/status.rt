@@ -14,6 +14,12 @@ pub const OK: u32 = 0;
 /// The field is absent.
 pub const ABSENT: u32 = 1;
 
+/// A buffer isn't verified, since tables lead to tables beyond the limit.
+pub const TOO_DEEP: u32 = 11;
+
+/// A buffer isn't verified, since more tables are reached than the limit.
+pub const TOO_MANY: u32 = 12;
+
 /// Returns the status of an error, from 2 to 10.
 pub(crate) fn status_of(kind: ErrorKind) -> u32
     ensures { result ≡ spec.status_of kind }
