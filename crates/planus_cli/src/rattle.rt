@@ -335,8 +335,8 @@ fn print_beside<F: Files, X: Write>(
     }
 }
 
-/// Writes or compares the files of a crate, and then those of its calls for C. Returns the exit
-/// status.
+/// Writes or compares the files of a crate, and then those of its calls for C, also where the former
+/// aren't what is printed. Returns the exit status.
 fn print_both<F: Files, X: Write>(
     files: &F,
     alloc: Global,
@@ -350,15 +350,18 @@ fn print_both<F: Files, X: Write>(
         (is_some folder.entry.prefix) printed.now schema.now.declarations.items
         (X.contents errors.old) (X.contents errors.new)) }
 {
-    let status = print_files(files, alloc, folder, printed, errors)?;
-    if status != CLEAN {
-        return Ok(status);
+    let own = print_files(files, alloc, folder, printed, errors)?;
+    if own == FAILED {
+        return Ok(FAILED);
     }
-    let status = print_beside(files, alloc, schema, folder, errors)?;
-    if status == CLEAN && !folder.check {
+    let beside = print_beside(files, alloc, schema, folder, errors)?;
+    if beside == CLEAN && own != CLEAN {
+        return Ok(own);
+    }
+    if beside == CLEAN && !folder.check {
         say_lines(alloc, schema, folder, errors)?;
     }
-    Ok(status)
+    Ok(beside)
 }
 
 /// Writes or compares the files of a crate with the code of a schema. Returns the exit status.

@@ -38,6 +38,25 @@ struct Measure {
     record: bool,
     /// Whether it is a ghost item or a clause.
     is_ghost: bool,
+    of_calls: OfCalls,
+}
+
+/// Of a line of calls for C: whether it is an exported function, or the call in it.
+#[derive(Clone, Copy)]
+enum OfCalls {
+    Neither,
+    Exported,
+    Inner,
+}
+
+fn of_calls(line: &str) -> OfCalls {
+    if line.starts_with("pub extern") {
+        OfCalls::Exported
+    } else if line.starts_with("    planus_foreign::") {
+        OfCalls::Inner
+    } else {
+        OfCalls::Neither
+    }
 }
 
 fn is_ghost_line(line: &str) -> bool {
@@ -52,6 +71,7 @@ fn measure_of(line: &str) -> Measure {
         fields: false,
         record: line.contains("record {"),
         is_ghost: is_ghost_line(line.trim_start()),
+        of_calls: of_calls(line),
     };
     let mut start = 0usize;
     let mut before = ' ';
@@ -88,12 +108,18 @@ fn going_on(indent: usize, is_ghost: bool) -> usize {
 impl Measure {
     /// Whether each argument or field is on a line of its own.
     fn is_broken(self) -> bool {
-        let most = match (self.record, self.fields) {
+        let exported = matches!(self.of_calls, OfCalls::Exported);
+        let most = match (self.record || exported, self.fields) {
             (true, _) => COLUMNS,
             (false, true) => FIELD_COLUMNS,
             (false, false) => ARGUMENT_COLUMNS,
         };
         self.marks > 0 && (self.columns > COLUMNS || self.arguments > most)
+    }
+
+    /// Whether the arguments are together on a line of their own.
+    fn is_together(self) -> bool {
+        matches!(self.of_calls, OfCalls::Inner) && self.arguments <= ARGUMENT_COLUMNS
     }
 }
 
@@ -144,9 +170,10 @@ impl<'a> Arrangement<'a> {
 
     fn put_mark(&mut self, mark: usize, measure: Measure) {
         let last = mark.saturating_add(1) == measure.marks;
-        if measure.is_broken() {
+        let between = mark > 0 && !last;
+        if measure.is_broken() && !(between && measure.is_together()) {
             self.put_broken(last, measure.record);
-        } else if measure.fields || (mark > 0 && !last) {
+        } else if measure.fields || between {
             self.put_letter(' ');
         }
     }

@@ -3,8 +3,12 @@
 use crate::arranged::arranged;
 use crate::at::At;
 use crate::context::{Context, scalar_name};
-use crate::defaults::{default_clause, default_value};
+use crate::defaults::{default_clause, default_number, default_value};
+use crate::foreign_cpp::print_cpp;
 use crate::foreign_header::print_header;
+use crate::foreign_names::refuse_alike;
+use crate::foreign_python::print_python;
+use crate::foreign_rust::print_rust;
 use crate::names::name_at;
 use crate::order::Order;
 use crate::print_error::PrintError;
@@ -80,6 +84,14 @@ pub extern \"C\" fn §_has_identifier(^buffer: &[u8]^) -> bool
     $c::has_identifier(^buffer^)
 }
 ";
+
+/// The greatest number that stands in one line with the name of its field.
+const GREATEST_SHORT: u64 = 999_999_999_999;
+
+/// The modules of a crate for C that aren't those of tables, by name.
+const ROOT_MODULE: &str = "root";
+
+pub(crate) const VALUES_MODULE: &str = "values";
 
 /// How a field of a fixed layout is stored.
 fn is_number(base: Base) -> bool {
@@ -168,6 +180,15 @@ fn function(field: &TableField) -> &'static str {
     }
 }
 
+/// The fields of flags that are a default, which have a line of their own where they are long.
+fn flags_template(field: &TableField) -> &'static str {
+    if default_number(field).magnitude > GREATEST_SHORT {
+        " {@    bits: $l,@},^"
+    } else {
+        " { bits: $l },^"
+    }
+}
+
 impl<'a> Printer<'a> {
     /// Adds a template with the prefix of all calls in it.
     pub(crate) fn put_prefixed(&mut self, template: &str, prefix: &str, at: At) {
@@ -239,7 +260,7 @@ impl<'a> Printer<'a> {
         match field.kind.base {
             Base::Enum(index) if self.context.is_flags(index) => {
                 self.put_path(index);
-                self.put(" { bits: $l },^", at);
+                self.put(flags_template(field), at);
             }
             Base::Enum(index) => {
                 self.put_path(index);
@@ -302,6 +323,14 @@ struct ForeignFiles<'a> {
     order: &'a Order,
     prefix: &'a str,
     files: Vec<PrintedFile>,
+}
+
+/// Whether it is a table with a field that isn't deprecated.
+fn has_lines(body: Option<&Body>) -> bool {
+    match body {
+        Some(Body::Table(one)) => one.fields.iter().any(|field| !field.deprecated),
+        _ => false,
+    }
 }
 
 impl<'a> ForeignFiles<'a> {
@@ -384,16 +413,25 @@ impl<'a> ForeignFiles<'a> {
         self.add("src/root.rt", first, &file)
     }
 
-    fn add_library(&mut self) -> Result<(), AllocError> {
-        let mut text = Printer::new(self.context);
-        text.put_prefixed(LIBRARY, self.prefix, At::declaration(0));
+    // The modules of tables with fields whose names are between these.
+    fn put_modules(&self, text: &mut Printer<'a>, after: &str, before: &str) {
         for index in &self.order.indices {
-            if matches!(self.context.body(*index), Some(Body::Table(_))) {
+            let module = self.context.names.module(*index);
+            let below = before.is_empty() || module < before.as_bytes();
+            if module > after.as_bytes() && below && has_lines(self.context.body(*index)) {
                 text.put("mod $M;\n", At::declaration(*index));
             }
         }
+    }
+
+    fn add_library(&mut self) -> Result<(), AllocError> {
+        let mut text = Printer::new(self.context);
+        text.put_prefixed(LIBRARY, self.prefix, At::declaration(0));
+        self.put_modules(&mut text, "", ROOT_MODULE);
         text.put_str(if self.has_root() { "mod root;\n" } else { "" });
+        self.put_modules(&mut text, ROOT_MODULE, VALUES_MODULE);
         text.put_str("mod values;\n");
+        self.put_modules(&mut text, VALUES_MODULE, "");
         self.add("src/lib.rt", At::declaration(0), &text)
     }
 
@@ -411,8 +449,17 @@ impl<'a> ForeignFiles<'a> {
             self.add_root()?;
         }
         self.add_library()?;
+        self.add_modules()
+    }
+
+    // The header, and the modules of other languages.
+    fn add_modules(&mut self) -> Result<(), AllocError> {
+        let first = At::declaration(0);
         let header = print_header(self.context, self.prefix)?;
-        self.add("§.h", At::declaration(0), &header)
+        self.add("§.h", first, &header)?;
+        self.add("§.hpp", first, &print_cpp(self.context, self.prefix))?;
+        self.add("§.py", first, &print_python(self.context, self.prefix))?;
+        self.add("§.rs", first, &print_rust(self.context, self.prefix))
     }
 }
 
@@ -426,6 +473,7 @@ pub fn print_foreign(
 ) -> Result<Vec<PrintedFile>, PrintError> {
     refuse_unsupported(alloc, &schema.declarations)?;
     let context = Context::new(alloc, schema, name, false)?;
+    refuse_alike(&context)?;
     let order = Order::of(alloc, &context.names)?;
     let mut files = ForeignFiles {
         context: &context,

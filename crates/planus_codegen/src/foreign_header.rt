@@ -2,9 +2,10 @@
 
 use crate::at::At;
 use crate::context::Context;
+use crate::foreign_words::{Language, is_word_of};
 use crate::order::Order;
 use crate::printer::Printer;
-use planus_schema::{Base, Body, Enum, Line, Plan, Scalar, Struct};
+use planus_schema::{Base, Body, Enum, Line, Number, Plan, Scalar, Struct};
 use std::alloc::AllocError;
 
 const HEAD: &str = "\
@@ -101,7 +102,11 @@ const IDENTIFIED: &str = "
 bool §_has_identifier(const uint8_t *buffer, size_t len);
 ";
 
-fn scalar_type(scalar: Scalar) -> &'static str {
+/// The magnitude of the least number of 64 bits.
+const LEAST: u64 = 9_223_372_036_854_775_808;
+
+/// Returns the type of numbers in C.
+pub(crate) fn scalar_type(scalar: Scalar) -> &'static str {
     match scalar {
         Scalar::Bool => "bool",
         Scalar::Byte => "int8_t",
@@ -118,9 +123,20 @@ fn scalar_type(scalar: Scalar) -> &'static str {
 }
 
 impl<'a> Printer<'a> {
-    fn put_upper(&mut self, prefix: &str) {
+    pub(crate) fn put_upper(&mut self, prefix: &str) {
         for letter in prefix.chars() {
             self.put_char(letter.to_ascii_uppercase());
+        }
+    }
+
+    /// Adds what keeps a header from being read twice.
+    pub(crate) fn put_guard(&mut self, ending: &str, prefix: &str) {
+        for word in ["#ifndef ", "#define "] {
+            self.put_str(word);
+            self.put_upper(prefix);
+            self.put_char('_');
+            self.put_str(ending);
+            self.put_char('\n');
         }
     }
 
@@ -137,6 +153,41 @@ impl<'a> Printer<'a> {
         }
     }
 
+    /// Adds the name of an enum's value.
+    pub(crate) fn put_enum_macro(&mut self, prefix: &str, at: At) {
+        self.put_upper(prefix);
+        self.put_char('_');
+        for letter in self.context.names.module(at.index) {
+            self.put_char(letter.to_ascii_uppercase() as char);
+        }
+        self.put("_$N", at);
+    }
+
+    // A number of a type. C has no least one.
+    fn put_literal(&mut self, scalar: Scalar, number: Number) {
+        let least = number.magnitude == LEAST;
+        match (number.negative, scalar) {
+            (true, _) if least => {
+                self.put_str("(-");
+                self.put_number(LEAST - 1);
+                self.put_str(" - 1)");
+            }
+            (true, _) => {
+                self.put_str("(-");
+                self.put_number(number.magnitude);
+                self.put_str(")");
+            }
+            (false, scalar) => {
+                self.put_number(number.magnitude);
+                self.put_str(if matches!(scalar, Scalar::ULong) {
+                    "u"
+                } else {
+                    ""
+                });
+            }
+        }
+    }
+
     fn put_foreign_enum(&mut self, one: &Enum, prefix: &str, at: At) {
         self.put("\n/* `$T`. */\n", at);
         self.put_str("typedef ");
@@ -144,19 +195,9 @@ impl<'a> Printer<'a> {
         self.put_prefixed(" §_$M;\n", prefix, at);
         for (place, value) in one.values.iter().enumerate() {
             self.put_str("#define ");
-            self.put_upper(prefix);
-            self.put_char('_');
-            for letter in self.context.names.module(at.index) {
-                self.put_char(letter.to_ascii_uppercase() as char);
-            }
-            self.put("_$N ", at.member(place));
-            self.put_str(if value.number.negative { "(-" } else { "" });
-            self.put_number(value.number.magnitude);
-            self.put_str(match (one.scalar, value.number.negative) {
-                (Scalar::ULong, _) => "u",
-                (_, true) => ")",
-                (_, false) => "",
-            });
+            self.put_enum_macro(prefix, at.member(place));
+            self.put_char(' ');
+            self.put_literal(one.scalar, value.number);
             self.put_char('\n');
         }
     }
@@ -170,16 +211,35 @@ impl<'a> Printer<'a> {
             self.put_str("  ");
             self.put_foreign_type(field.base, prefix);
             self.put_char(' ');
-            self.put("$s", at.member(place));
+            self.put_foreign_name(&field.name, at);
             if let Some(count) = field.count {
                 self.put_char('[');
                 self.put_number(count as u64);
                 self.put_char(']');
             }
-            self.put_str(";\n");
+            self.put_str(";");
+            self.put_renaming(&field.name);
         }
         self.put_foreign_padding(one.size.saturating_sub(end), one.fields.len());
         self.put_prefixed("} §_$M;\n", prefix, at);
+    }
+
+    // The name of a field of a struct.
+    fn put_foreign_name(&mut self, name: &[u8], at: At) {
+        match self.context.names.members.get(at.index) {
+            Some(others) => self.put_apart(Language::Cpp, name, others),
+            None => self.put_name(name),
+        }
+    }
+
+    // What the schema calls a field whose name is a word of C or C++.
+    fn put_renaming(&mut self, name: &[u8]) {
+        if is_word_of(Language::Cpp, name) {
+            self.put_str(" /* `");
+            self.put_name(name);
+            self.put_str("` in the schema */");
+        }
+        self.put_char('\n');
     }
 
     fn put_foreign_padding(&mut self, bytes: usize, place: usize) {
@@ -248,11 +308,7 @@ pub(crate) fn print_header<'a>(
     let mut header = Printer::new(context);
     let first = At::declaration(0);
     header.put_prefixed(HEAD, prefix, first);
-    header.put_str("#ifndef ");
-    header.put_upper(prefix);
-    header.put_str("_H\n#define ");
-    header.put_upper(prefix);
-    header.put_str("_H\n");
+    header.put_guard("H", prefix);
     let mut upper = Printer::new(context);
     upper.put_upper(prefix);
     header.put_prefixed(TYPES, upper.as_str(), first);

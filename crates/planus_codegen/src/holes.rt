@@ -64,7 +64,7 @@ fn span(context: &Context<'_>, at: At) -> (usize, usize) {
 }
 
 /// The padding before a field of a struct, or after the last one.
-fn padding(context: &Context<'_>, at: At) -> usize {
+pub(crate) fn padding(context: &Context<'_>, at: At) -> usize {
     let (_, distance) = span(context, at);
     let before = match at.place.checked_sub(1) {
         Some(place) => {
@@ -140,7 +140,7 @@ fn integer(context: &Context<'_>, at: At) -> Number {
     }
 }
 
-fn base(context: &Context<'_>, at: At) -> Base {
+pub(crate) fn base(context: &Context<'_>, at: At) -> Base {
     match context.body(at.index) {
         Some(Body::Table(one)) => match one.fields.get(at.place) {
             Some(field) => field.kind.base,
@@ -159,7 +159,7 @@ fn base(context: &Context<'_>, at: At) -> Base {
 }
 
 /// How many items an array in a struct has.
-fn array_count(context: &Context<'_>, at: At) -> Option<usize> {
+pub(crate) fn array_count(context: &Context<'_>, at: At) -> Option<usize> {
     match context.body(at.index) {
         Some(Body::Struct(one)) => match one.fields.get(at.place) {
             Some(field) => field.count,
@@ -210,7 +210,7 @@ fn size_of_value(context: &Context<'_>, at: At) -> usize {
 }
 
 // Whether a name is that of two words and so many `_`.
-fn is_marked(name: &[u8], start: &[u8], end: &[u8], marks: usize) -> bool {
+pub(crate) fn is_marked(name: &[u8], start: &[u8], end: &[u8], marks: usize) -> bool {
     let rest = match name.strip_prefix(start) {
         Some(rest) => rest.strip_prefix(end),
         None => None,
