@@ -12,6 +12,9 @@ const ARGUMENT_COLUMNS: usize = 60;
 
 const FIELD_COLUMNS: usize = 18;
 
+/// The columns with its comma of each of several arguments that stand on a line of their own.
+const SHORT_COLUMNS: usize = 11;
+
 #[derive(Drop)]
 struct Arrangement<'a> {
     text: Printer<'a>,
@@ -39,6 +42,9 @@ struct Measure {
     /// Whether it is a ghost item or a clause.
     is_ghost: bool,
     of_calls: OfCalls,
+    /// The columns of the longest argument with its comma, and whether none has a path.
+    longest: usize,
+    simple: bool,
 }
 
 /// Of a line of calls for C: whether it is an exported function, or the call in it.
@@ -72,8 +78,11 @@ fn measure_of(line: &str) -> Measure {
         record: line.contains("record {"),
         is_ghost: is_ghost_line(line.trim_start()),
         of_calls: of_calls(line),
+        longest: 0,
+        simple: true,
     };
     let mut start = 0usize;
+    let mut mark = 0usize;
     let mut before = ' ';
     for letter in line.chars() {
         if letter == ARGUMENT {
@@ -81,9 +90,15 @@ fn measure_of(line: &str) -> Measure {
                 start = measure.columns;
                 measure.fields = before == '{';
             }
+            let argument = measure.columns.saturating_sub(mark);
+            measure.longest = measure
+                .longest
+                .max(if measure.marks > 0 { argument } else { 0 });
+            mark = measure.columns;
             measure.arguments = measure.columns.saturating_sub(start);
             measure.marks = measure.marks.saturating_add(1);
         }
+        measure.simple = measure.simple && (measure.marks == 0 || letter != ':');
         if letter >= ' ' || letter == BREAK {
             measure.columns = measure.columns.saturating_add(1);
         }
@@ -119,7 +134,8 @@ impl Measure {
 
     /// Whether the arguments are together on a line of their own.
     fn is_together(self) -> bool {
-        matches!(self.of_calls, OfCalls::Inner) && self.arguments <= ARGUMENT_COLUMNS
+        let short = self.arguments <= ARGUMENT_COLUMNS && self.longest <= SHORT_COLUMNS;
+        matches!(self.of_calls, OfCalls::Inner) && short && self.simple
     }
 }
 

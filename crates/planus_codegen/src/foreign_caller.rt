@@ -17,6 +17,7 @@ use planus_schema::{Base, Body, Scalar, TableField};
 /// |---|---|
 /// | `§` | the prefix of all calls |
 /// | `¦` | the same in capitals |
+/// | `¬` | the same, which is no word of the language |
 /// | `¢` | the name of a member, which is no word of the language |
 /// | `¥` | the name of a declaration's type |
 /// | `£` | the type of a member's value or of its items, in Python what reads it |
@@ -242,6 +243,7 @@ impl<'a> Printer<'a> {
                 }
                 '$' => in_hole = true,
                 '§' => self.put_str(caller.prefix),
+                '¬' => self.put_apart(caller.language, caller.prefix.as_bytes(), &[]),
                 '¦' => self.put_upper(caller.prefix),
                 '¢' => self.put_caller_member(caller.language, at),
                 '¥' => self.put_caller_type(caller.language, at.index),

@@ -27,7 +27,7 @@ const TYPES: &str = "
 #include <stdexcept>
 #include <string_view>
 
-namespace § {
+namespace ¬ {
 
 // Why nothing is read.
 class ¤ : public std::runtime_error {
@@ -103,7 +103,7 @@ struct TableRead<std::string_view> {
 
 // Over the items of a vector.
 template <class List>
-class Iterator {
+class VectorView {
  public:
   using iterator_category = std::input_iterator_tag;
   using value_type = typename List::value_type;
@@ -111,19 +111,19 @@ class Iterator {
   using pointer = void;
   using reference = value_type;
 
-  Iterator(const List &list, std::size_t index) : Items(list), Index(index) {}
+  VectorView(const List &list, std::size_t index) : Items(list), Index(index) {}
   value_type operator*() const { return Items[Index]; }
-  Iterator &operator++() {
+  VectorView &operator++() {
     ++Index;
     return *this;
   }
-  Iterator operator++(int) {
-    Iterator before = *this;
+  VectorView operator++(int) {
+    VectorView before = *this;
     ++Index;
     return before;
   }
-  bool operator==(const Iterator &other) const { return Index == other.Index; }
-  bool operator!=(const Iterator &other) const { return Index != other.Index; }
+  bool operator==(const VectorView &other) const { return Index == other.Index; }
+  bool operator!=(const VectorView &other) const { return Index != other.Index; }
 
  private:
   List Items;
@@ -148,8 +148,8 @@ class Vector {
     return inner::TableRead<T>::at(
         {At.buffer, At.len, Items.at + index * inner::TableRead<T>::size});
   }
-  inner::Iterator<Vector> begin() const { return {*this, 0}; }
-  inner::Iterator<Vector> end() const { return {*this, Items.len}; }
+  inner::VectorView<Vector> begin() const { return {*this, 0}; }
+  inner::VectorView<Vector> end() const { return {*this, Items.len}; }
 
  private:
   inner::BufferView At;
@@ -182,8 +182,8 @@ class UnionVector {
     if (status == 1) throw std::out_of_range(\"no such item\");
     return inner::TableRead<T>::of(At, out);
   }
-  inner::Iterator<UnionVector> begin() const { return {*this, 0}; }
-  inner::Iterator<UnionVector> end() const { return {*this, Count}; }
+  inner::VectorView<UnionVector> begin() const { return {*this, 0}; }
+  inner::VectorView<UnionVector> end() const { return {*this, Count}; }
 
  private:
   bool is_end(std::size_t index, bool throws) const {
@@ -320,7 +320,7 @@ inline ¥ root(const std::uint8_t *buffer, std::size_t len) { return ¥(buffer, 
 ";
 
 const END: &str = "
-}  // namespace §
+}  // namespace ¬
 
 #endif
 ";
