@@ -1,32 +1,74 @@
-// Reads the numbers of a ship and its owner: read FILE.
-#include "harbour.h"
+// Reads a ship: read FILE. Prints a line for each field.
+#include "harbour.hpp"
 #include <fstream>
 #include <iostream>
 #include <iterator>
-#include <string_view>
 #include <vector>
+
+using harbour::Ship;
+
+template <class Items>
+void put(const char *field, const Items &items) {
+  std::cout << field;
+  for (auto item : items) std::cout << ' ' << +item;
+  std::cout << '\n';
+}
+
+static void put_lists(const Ship &ship) {
+  if (auto cargo = ship.cargo()) put("cargo", *cargo);
+  if (auto track = ship.track()) {
+    std::cout << "track";
+    for (auto pos : *track) std::cout << ' ' << pos.lat << ',' << pos.lon << ',' << pos.alt;
+    std::cout << '\n';
+  }
+  if (auto photo = ship.photo()) put("photo", *photo);
+  if (auto names = ship.names()) {
+    std::cout << "names";
+    for (auto name : *names) std::cout << " [" << name << ']';
+    std::cout << '\n';
+  }
+}
+
+static void put_tables(const Ship &ship) {
+  if (auto mate = ship.mate())
+    std::cout << "mate " << mate->name() << ", whose maybe is " << (mate->maybe() ? "there" : "absent") << '\n';
+  if (auto consorts = ship.consorts()) {
+    std::cout << "consorts";
+    for (auto consort : *consorts) std::cout << ' ' << consort.name() << ' ' << consort.hull();
+    std::cout << '\n';
+  }
+  if (auto kinds = ship.kinds()) {
+    std::cout << "kinds";
+    for (auto kind : *kinds) std::cout << ' ' << int(kind);
+    std::cout << '\n';
+  }
+}
+
+static void put_union_and_rest(const Ship &ship) {
+  if (auto owner = ship.owner())
+    if (auto person = owner->as_person())
+      std::cout << "owner " << int(owner->tag()) << ' ' << person->name() << ' ' << int(person->age()) << '\n';
+  if (ship.shares().empty()) std::cout << "shares absent\n";
+  std::cout << "tall " << ship.tall() << '\n';
+  if (auto temps = ship.temps()) put("temps", *temps);
+  if (auto deltas = ship.deltas()) put("deltas", *deltas);
+  auto fix = ship.fix();
+  std::cout << "fix " << fix.when << ' ' << fix.at.lat << ' ' << fix.at.lon << ' ' << fix.at.alt << ' ' << int(fix.kind) << '\n';
+  if (auto which = ship.which()) std::cout << "which " << int(*which) << '\n';
+  if (auto flags = ship.flags()) put("flags", *flags);
+}
 
 int main(int, char **words) {
   std::ifstream file(words[1], std::ios::binary);
   std::vector<char> bytes{std::istreambuf_iterator<char>(file), {}};
-  const auto *buffer = reinterpret_cast<const uint8_t *>(bytes.data());
-  auto text = [&](harbour_span span) { return std::string_view(bytes.data() + span.at, span.len); };
-
-  harbour_span name{};
-  uint16_t hull{};
-  harbour_level level{};
-  harbour_pos home{};
-  if (harbour_ship_name(buffer, bytes.size(), harbour_root, &name) == HARBOUR_OK)
-    std::cout << "name " << text(name) << '\n';
-  if (harbour_ship_hull(buffer, bytes.size(), harbour_root, &hull) == HARBOUR_OK) std::cout << "hull " << hull << '\n';
-  if (harbour_ship_level(buffer, bytes.size(), harbour_root, &level) == HARBOUR_OK)
-    std::cout << "level " << level << '\n';
-  if (harbour_ship_home(buffer, bytes.size(), harbour_root, &home) == HARBOUR_OK)
-    std::cout << "home " << home.lat << ' ' << home.lon << ' ' << home.alt << '\n';
-  harbour_member owner{};
-  uint8_t age{};
-  if (harbour_ship_owner(buffer, bytes.size(), harbour_root, &owner) == HARBOUR_OK && owner.tag == 1
-      && harbour_person_name(buffer, bytes.size(), owner.at, &name) == HARBOUR_OK
-      && harbour_person_age(buffer, bytes.size(), owner.at, &age) == HARBOUR_OK)
-    std::cout << "owner 1 " << text(name) << ' ' << unsigned(age) << '\n';
+  Ship ship = harbour::root(reinterpret_cast<const std::uint8_t *>(bytes.data()), bytes.size());
+  std::cout << "name " << ship.name() << "\nhull " << ship.hull() << "\nkind " << int(ship.kind()) << '\n';
+  std::cout << "level " << int(ship.level()) << "\nneeds " << int(ship.needs()) << '\n';
+  if (auto home = ship.home()) std::cout << "home " << home->lat << ' ' << home->lon << ' ' << home->alt << '\n';
+  std::cout << "heat " << ship.heat() << "\ndepth " << ship.depth() << '\n';
+  std::cout << "open " << ship.open() << "\nshut " << ship.shut() << '\n';
+  if (auto maybe = ship.maybe()) std::cout << "maybe " << *maybe << '\n';
+  put_lists(ship);
+  put_tables(ship);
+  put_union_and_rest(ship);
 }

@@ -1,44 +1,53 @@
-"""Reads the numbers of a ship and its owner: read.py LIBRARY FILE."""
-import ctypes as c
+"""Reads a ship: read.py LIBRARY FILE. Prints a line for each field."""
 import sys
 
-lib = c.CDLL(sys.argv[1])
-buffer = open(sys.argv[2], "rb").read()
+import harbour
 
 
-class Span(c.Structure):
-    _fields_ = [("at", c.c_size_t), ("len", c.c_size_t)]
+def put(field, items):
+    if items is not None:
+        print(field, *items)
 
 
-class Member(c.Structure):
-    _fields_ = [("at", c.c_size_t), ("tag", c.c_uint8)]
+def place(pos):
+    return pos.lat, pos.lon, pos.alt
 
 
-class Pos(c.Structure):
-    _fields_ = [("lat", c.c_int32), ("lon", c.c_int32), ("alt", c.c_int16)]
+harbour.load(sys.argv[1])
+ship = harbour.root(open(sys.argv[2], "rb").read())
+print("name", ship.name)
+print("hull", ship.hull)
+print("kind", int(ship.kind))
+print("level", int(ship.level))
+print("needs", int(ship.needs))
+print("home", *place(ship.home))
+print("heat", ship.heat)
+print("depth", ship.depth)
+print("open", int(ship.open))
+print("shut", int(ship.shut))
+print("maybe", ship.maybe)
+put("cargo", ship.cargo)
+put("track", (",".join(map(str, place(pos))) for pos in ship.track))
+put("photo", ship.photo)
+put("names", (f"[{name}]" for name in ship.names))
+print(f"mate {ship.mate.name}, whose maybe is {'absent' if ship.mate.maybe is None else 'there'}")
+put("consorts", (f"{consort.name} {consort.hull}" for consort in ship.consorts))
+put("kinds", map(int, ship.kinds))
+print("owner", ship.owner_tag, ship.owner.name, ship.owner.age)
+print("shares", *ship.shares or ["absent"])
+print("tall", ship.tall)
+put("temps", ship.temps)
+put("deltas", ship.deltas)
+print("fix", ship.fix.when, *place(ship.fix.at), ship.fix.kind)
+print("which", int(ship.which))
+put("flags", map(int, ship.flags))
 
-
-class Fault(Exception):
-    pass
-
-
-def read(call, kind, table=0):
-    """The value, or None where it is absent."""
-    out = kind()
-    status = getattr(lib, "harbour_" + call)(buffer, c.c_size_t(len(buffer)), c.c_size_t(table), c.byref(out))
-    if status > 1:
-        raise Fault(call, status)
-    return None if status else out
-
-
-def text(span):
-    return buffer[span.at:span.at + span.len].decode()
-
-
-print("name", text(read("ship_name", Span)))
-print("hull", read("ship_hull", c.c_uint16).value)
-print("level", read("ship_level", c.c_int16).value)
-home = read("ship_home", Pos)
-print("home", home.lat, home.lon, home.alt)
-owner = read("ship_owner", Member)
-print("owner", owner.tag, text(read("person_name", Span, owner.at)), read("person_age", c.c_uint8, owner.at).value)
+assert isinstance(ship.owner, harbour.Person) and ship.kind is harbour.Kind.Ship
+assert ship.needs == harbour.Needs.WATER | harbour.Needs.POWER
+assert ship.cargo[-1] == 30 and ship.cargo[1:] == [20, 30] and len(ship.cargo) == 3 and 20 in ship.cargo
+try:
+    harbour.Ship(b"").name
+except harbour.Error as error:
+    assert error.status == 2, error
+else:
+    raise AssertionError

@@ -1,67 +1,106 @@
-//! Reads the numbers of a ship and its owner: read FILE.
-use std::ffi::c_void;
+//! Reads a ship: read FILE. Prints a line for each field.
+#[path = "../crates/harbour_c/harbour.rs"]
+mod harbour;
 
-#[repr(C)]
-#[derive(Default)]
-struct Span {
-    at: usize,
-    len: usize,
-}
+use harbour::{Error, Owner, Pos, Ship};
+use std::fmt::Display;
 
-#[repr(C)]
-#[derive(Default)]
-struct Member {
-    at: usize,
-    tag: u8,
-}
-
-#[repr(C)]
-#[derive(Default)]
-struct Pos {
-    lat: i32,
-    lon: i32,
-    alt: i16,
-    padding: [u8; 2],
-}
-
-type Call = unsafe extern "C" fn(*const u8, usize, usize, *mut c_void) -> u32;
-
-unsafe extern "C" {
-    fn harbour_ship_name(buffer: *const u8, len: usize, table: usize, out: *mut c_void) -> u32;
-    fn harbour_ship_hull(buffer: *const u8, len: usize, table: usize, out: *mut c_void) -> u32;
-    fn harbour_ship_level(buffer: *const u8, len: usize, table: usize, out: *mut c_void) -> u32;
-    fn harbour_ship_home(buffer: *const u8, len: usize, table: usize, out: *mut c_void) -> u32;
-    fn harbour_ship_owner(buffer: *const u8, len: usize, table: usize, out: *mut c_void) -> u32;
-    fn harbour_person_name(buffer: *const u8, len: usize, table: usize, out: *mut c_void) -> u32;
-    fn harbour_person_age(buffer: *const u8, len: usize, table: usize, out: *mut c_void) -> u32;
-}
-
-/// `T` is what the header says that the call stores.
-unsafe fn read<T: Default>(call: Call, buffer: &[u8], table: usize) -> Result<T, u32> {
-    let mut out = T::default();
-    match unsafe { call(buffer.as_ptr(), buffer.len(), table, (&raw mut out).cast()) } {
-        0 => Ok(out),
-        status => Err(status),
+fn put<T: Display>(field: &str, items: impl IntoIterator<Item = Result<T, Error>>) -> Result<(), Error> {
+    print!("{field}");
+    for item in items {
+        print!(" {}", item?);
     }
+    println!();
+    Ok(())
 }
 
-fn text(buffer: &[u8], span: Span) -> &str {
-    std::str::from_utf8(&buffer[span.at..span.at + span.len]).unwrap()
+fn place(pos: Pos) -> (i32, i32, i16) {
+    (pos.lat, pos.lon, pos.alt)
 }
 
-fn main() -> Result<(), u32> {
-    let buffer = std::fs::read(std::env::args().nth(1).unwrap()).unwrap();
-    let buffer = buffer.as_slice();
-    unsafe {
-        println!("name {}", text(buffer, read(harbour_ship_name, buffer, 0)?));
-        println!("hull {}", read::<u16>(harbour_ship_hull, buffer, 0)?);
-        println!("level {}", read::<i16>(harbour_ship_level, buffer, 0)?);
-        let home: Pos = read(harbour_ship_home, buffer, 0)?;
-        println!("home {} {} {}", home.lat, home.lon, home.alt);
-        let owner: Member = read(harbour_ship_owner, buffer, 0)?;
-        let name = text(buffer, read(harbour_person_name, buffer, owner.at)?);
-        let age: u8 = read(harbour_person_age, buffer, owner.at)?;
-        println!("owner {} {name} {age}", owner.tag);
+fn put_numbers(ship: Ship<'_>) -> Result<(), Error> {
+    println!("name {}", ship.name()?);
+    println!("hull {}", ship.hull()?);
+    println!("kind {}", ship.kind()?.0);
+    println!("level {}", ship.level()?.0);
+    println!("needs {}", ship.needs()?.0);
+    if let Some(home) = ship.home()? {
+        let (lat, lon, alt) = place(home);
+        println!("home {lat} {lon} {alt}");
+    }
+    println!("heat {}", ship.heat()?);
+    println!("depth {}", ship.depth()?);
+    println!("open {}", ship.open()? as u8);
+    println!("shut {}", ship.shut()? as u8);
+    if let Some(maybe) = ship.maybe()? {
+        println!("maybe {maybe}");
     }
     Ok(())
+}
+
+fn put_lists(ship: Ship<'_>) -> Result<(), Error> {
+    if let Some(cargo) = ship.cargo()? {
+        put("cargo", cargo)?;
+    }
+    if let Some(track) = ship.track()? {
+        put("track", track.iter().map(|pos| {
+            let (lat, lon, alt) = place(pos?);
+            Ok(format!("{lat},{lon},{alt}"))
+        }))?;
+    }
+    if let Some(photo) = ship.photo()? {
+        put("photo", photo.iter().map(Ok))?;
+    }
+    if let Some(names) = ship.names()? {
+        put("names", names.iter().map(|name| Ok(format!("[{}]", name?))))?;
+    }
+    if let Some(mate) = ship.mate()? {
+        let maybe = if mate.maybe()?.is_some() { "there" } else { "absent" };
+        println!("mate {}, whose maybe is {maybe}", mate.name()?);
+    }
+    if let Some(consorts) = ship.consorts()? {
+        put("consorts", consorts.iter().map(|ship| {
+            let ship = ship?;
+            Ok(format!("{} {}", ship.name()?, ship.hull()?))
+        }))?;
+    }
+    if let Some(kinds) = ship.kinds()? {
+        put("kinds", kinds.iter().map(|kind| Ok(kind?.0)))?;
+    }
+    Ok(())
+}
+
+fn put_union_and_rest(ship: Ship<'_>) -> Result<(), Error> {
+    match ship.owner()? {
+        Some(Owner::Person(person)) => println!("owner 1 {} {}", person.name()?, person.age()?),
+        other => println!("owner {other:?}"),
+    }
+    if ship.shares()?.is_empty() {
+        println!("shares absent");
+    }
+    println!("tall {}", ship.tall()?);
+    if let Some(temps) = ship.temps()? {
+        put("temps", temps)?;
+    }
+    if let Some(deltas) = ship.deltas()? {
+        put("deltas", deltas)?;
+    }
+    let fix = ship.fix()?;
+    let (lat, lon, alt) = place(fix.at);
+    println!("fix {} {lat} {lon} {alt} {}", fix.when, fix.kind.0);
+    if let Some(which) = ship.which()? {
+        println!("which {}", which.0);
+    }
+    if let Some(flags) = ship.flags()? {
+        put("flags", flags.iter().map(|flag| Ok(flag? as u8)))?;
+    }
+    Ok(())
+}
+
+fn main() -> Result<(), Error> {
+    let buffer = std::fs::read(std::env::args().nth(1).unwrap()).unwrap();
+    let ship = harbour::root(&buffer);
+    put_numbers(ship)?;
+    put_lists(ship)?;
+    put_union_and_rest(ship)
 }

@@ -80,6 +80,11 @@ T surely(const BufferView &place, CallRef<typename TableRead<T>::Plain> call) {
   return *found;
 }
 
+// The items that a call says are of the buffer.
+inline void test(const BufferView &place, ::§_span items, std::size_t size) {
+  if (items.at > place.len || items.len > (place.len - items.at) / size) throw ¤(3);
+}
+
 template <>
 struct TableRead<bool> {
   using Plain = bool;
@@ -93,6 +98,7 @@ struct TableRead<std::string_view> {
   using Plain = ::§_span;
   static constexpr std::size_t size = 4;
   static std::string_view of(const BufferView &place, Plain out) {
+    test(place, out, 1);
     if (out.len == 0) return std::string_view();
     return std::string_view(reinterpret_cast<const char *>(place.buffer) + out.at, out.len);
   }
@@ -202,7 +208,10 @@ namespace inner {
 template <class T>
 struct TableRead<Vector<T>> {
   using Plain = ::§_span;
-  static Vector<T> of(const BufferView &place, Plain out) { return Vector<T>(place, out); }
+  static Vector<T> of(const BufferView &place, Plain out) {
+    test(place, out, TableRead<T>::size);
+    return Vector<T>(place, out);
+  }
 };
 
 }  // namespace inner
