@@ -214,7 +214,8 @@ enum class Kind : ::harbour_kind {
 template <>
 struct inner::TableRead<Kind> {
   using Plain = ::harbour_kind;
-  static constexpr std::size_t size = sizeof(Plain);
+  static constexpr std::size_t size = 1;
+  static_assert(sizeof(Plain) == size, "its bytes are those of the format");
   static Kind of(const BufferView &, Plain out) { return static_cast<Kind>(out); }
   static Kind at(const BufferView &place) { return surely<Kind>(place, ::harbour_kind_at); }
 };
@@ -228,7 +229,8 @@ enum class Level : ::harbour_level {
 template <>
 struct inner::TableRead<Level> {
   using Plain = ::harbour_level;
-  static constexpr std::size_t size = sizeof(Plain);
+  static constexpr std::size_t size = 2;
+  static_assert(sizeof(Plain) == size, "its bytes are those of the format");
   static Level of(const BufferView &, Plain out) { return static_cast<Level>(out); }
   static Level at(const BufferView &place) { return surely<Level>(place, ::harbour_level_at); }
 };
@@ -247,7 +249,8 @@ constexpr Needs operator&(Needs one, Needs other) {
 template <>
 struct inner::TableRead<Needs> {
   using Plain = ::harbour_needs;
-  static constexpr std::size_t size = sizeof(Plain);
+  static constexpr std::size_t size = 2;
+  static_assert(sizeof(Plain) == size, "its bytes are those of the format");
   static Needs of(const BufferView &, Plain out) { return static_cast<Needs>(out); }
   static Needs at(const BufferView &place) { return surely<Needs>(place, ::harbour_needs_at); }
 };
@@ -257,7 +260,8 @@ using Pos = ::harbour_pos;
 template <>
 struct inner::TableRead<Pos> {
   using Plain = ::harbour_pos;
-  static constexpr std::size_t size = sizeof(Plain);
+  static constexpr std::size_t size = 12;
+  static_assert(sizeof(Plain) == size, "its bytes are those of the format");
   static Pos of(const BufferView &, Plain out) { return out; }
   static Pos at(const BufferView &place) { return surely<Pos>(place, ::harbour_pos_at); }
 };
@@ -267,7 +271,8 @@ using Fix = ::harbour_fix;
 template <>
 struct inner::TableRead<Fix> {
   using Plain = ::harbour_fix;
-  static constexpr std::size_t size = sizeof(Plain);
+  static constexpr std::size_t size = 24;
+  static_assert(sizeof(Plain) == size, "its bytes are those of the format");
   static Fix of(const BufferView &, Plain out) { return out; }
   static Fix at(const BufferView &place) { return surely<Fix>(place, ::harbour_fix_at); }
 };
@@ -277,7 +282,8 @@ using Gauge = ::harbour_gauge;
 template <>
 struct inner::TableRead<Gauge> {
   using Plain = ::harbour_gauge;
-  static constexpr std::size_t size = sizeof(Plain);
+  static constexpr std::size_t size = 8;
+  static_assert(sizeof(Plain) == size, "its bytes are those of the format");
   static Gauge of(const BufferView &, Plain out) { return out; }
   static Gauge at(const BufferView &place) { return surely<Gauge>(place, ::harbour_gauge_at); }
 };
@@ -314,7 +320,8 @@ enum class Signal : ::harbour_signal {
 template <>
 struct inner::TableRead<Signal> {
   using Plain = ::harbour_signal;
-  static constexpr std::size_t size = sizeof(Plain);
+  static constexpr std::size_t size = 1;
+  static_assert(sizeof(Plain) == size, "its bytes are those of the format");
   static Signal of(const BufferView &, Plain out) { return static_cast<Signal>(out); }
   static Signal at(const BufferView &place) { return surely<Signal>(place, ::harbour_signal_at); }
 };

@@ -326,6 +326,7 @@ class Pos(_c.Structure):
     ]
 
 
+assert _c.sizeof(Pos) == 12
 _of_pos = _Struct(Pos, "harbour_pos")
 
 
@@ -338,6 +339,7 @@ class Fix(_c.Structure):
     ]
 
 
+assert _c.sizeof(Fix) == 24
 _of_fix = _Struct(Fix, "harbour_fix")
 
 
@@ -349,6 +351,7 @@ class Gauge(_c.Structure):
     ]
 
 
+assert _c.sizeof(Gauge) == 8
 _of_gauge = _Struct(Gauge, "harbour_gauge")
 
 

@@ -391,9 +391,11 @@ impl Kind {
     pub const Ship: Kind = Kind(2);
 }
 
+const _: () = assert!(size_of::<Kind>() == 1);
+
 impl<'a> TableRead<'a> for Kind {
     type Plain = Kind;
-    const SIZE: usize = size_of::<Kind>();
+    const SIZE: usize = 1;
     fn of(_: BufferRef<'a>, out: Kind) -> Result<Kind, Error> {
         Ok(out)
     }
@@ -412,9 +414,11 @@ impl Level {
     pub const High: Level = Level(300);
 }
 
+const _: () = assert!(size_of::<Level>() == 2);
+
 impl<'a> TableRead<'a> for Level {
     type Plain = Level;
-    const SIZE: usize = size_of::<Level>();
+    const SIZE: usize = 2;
     fn of(_: BufferRef<'a>, out: Level) -> Result<Level, Error> {
         Ok(out)
     }
@@ -446,9 +450,11 @@ impl std::ops::BitAnd for Needs {
     }
 }
 
+const _: () = assert!(size_of::<Needs>() == 2);
+
 impl<'a> TableRead<'a> for Needs {
     type Plain = Needs;
-    const SIZE: usize = size_of::<Needs>();
+    const SIZE: usize = 2;
     fn of(_: BufferRef<'a>, out: Needs) -> Result<Needs, Error> {
         Ok(out)
     }
@@ -466,9 +472,11 @@ pub struct Pos {
     padding_3: [u8; 2],
 }
 
+const _: () = assert!(size_of::<Pos>() == 12);
+
 impl<'a> TableRead<'a> for Pos {
     type Plain = Pos;
-    const SIZE: usize = size_of::<Pos>();
+    const SIZE: usize = 12;
     fn of(_: BufferRef<'a>, out: Pos) -> Result<Pos, Error> {
         Ok(out)
     }
@@ -486,9 +494,11 @@ pub struct Fix {
     padding_3: [u8; 3],
 }
 
+const _: () = assert!(size_of::<Fix>() == 24);
+
 impl<'a> TableRead<'a> for Fix {
     type Plain = Fix;
-    const SIZE: usize = size_of::<Fix>();
+    const SIZE: usize = 24;
     fn of(_: BufferRef<'a>, out: Fix) -> Result<Fix, Error> {
         Ok(out)
     }
@@ -699,9 +709,11 @@ pub struct Gauge {
     padding_2: [u8; 3],
 }
 
+const _: () = assert!(size_of::<Gauge>() == 8);
+
 impl<'a> TableRead<'a> for Gauge {
     type Plain = Gauge;
-    const SIZE: usize = size_of::<Gauge>();
+    const SIZE: usize = 8;
     fn of(_: BufferRef<'a>, out: Gauge) -> Result<Gauge, Error> {
         Ok(out)
     }
@@ -743,9 +755,11 @@ impl Signal {
     pub const Zulu: Signal = Signal(25);
 }
 
+const _: () = assert!(size_of::<Signal>() == 1);
+
 impl<'a> TableRead<'a> for Signal {
     type Plain = Signal;
-    const SIZE: usize = size_of::<Signal>();
+    const SIZE: usize = 1;
     fn of(_: BufferRef<'a>, out: Signal) -> Result<Signal, Error> {
         Ok(out)
     }

@@ -234,7 +234,8 @@ const ENUM_READER: &str = "
 template <>
 struct inner::TableRead<¥> {
   using Plain = ::§_$M;
-  static constexpr std::size_t size = sizeof(Plain);
+  static constexpr std::size_t size = $S;
+  static_assert(sizeof(Plain) == size, \"its bytes are those of the format\");
   static ¥ of(const BufferView &, Plain out) { return static_cast<¥>(out); }
   static ¥ at(const BufferView &place) { return surely<¥>(place, ::§_$M_at); }
 };
@@ -246,7 +247,8 @@ using ¥ = ::§_$M;
 template <>
 struct inner::TableRead<¥> {
   using Plain = ::§_$M;
-  static constexpr std::size_t size = sizeof(Plain);
+  static constexpr std::size_t size = $S;
+  static_assert(sizeof(Plain) == size, \"its bytes are those of the format\");
   static ¥ of(const BufferView &, Plain out) { return out; }
   static ¥ at(const BufferView &place) { return surely<¥>(place, ::§_$M_at); }
 };

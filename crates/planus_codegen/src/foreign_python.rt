@@ -326,7 +326,7 @@ const FLAGS: &str = "\n\nclass ¥(_enum.IntFlag):\n";
 
 const STRUCT: &str = "\n\nclass ¥(_c.Structure):\n    _fields_ = [\n";
 
-const STRUCT_END: &str = "    ]\n\n\n_of_$M = _Struct(¥, \"§_$M\")\n";
+const STRUCT_END: &str = "    ]\n\n\nassert _c.sizeof(¥) == $S\n_of_$M = _Struct(¥, \"§_$M\")\n";
 
 const OF_TABLES: Forms = Forms {
     of_enum: "",

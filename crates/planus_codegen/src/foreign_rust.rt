@@ -430,9 +430,11 @@ pub struct ¥ {
 ";
 
 const VALUE_READ: &str = "
+const _: () = assert!(size_of::<¥>() == $S);
+
 impl<'a> TableRead<'a> for ¥ {
     type Plain = ¥;
-    const SIZE: usize = size_of::<¥>();
+    const SIZE: usize = $S;
     fn of(_: BufferRef<'a>, out: ¥) -> Result<¥, ¤> {
         Ok(out)
     }
