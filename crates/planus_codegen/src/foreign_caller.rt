@@ -2,12 +2,12 @@
 
 use crate::at::At;
 use crate::context::{Context, scalar_name};
+use crate::foreign_forms::Forms;
 use crate::foreign_header::scalar_type;
 use crate::foreign_words::{Language, is_word_of};
 use crate::holes::{array_count, base, is_marked, padding};
 use crate::printer::Printer;
-use crate::types::{is_bytes, is_optional};
-use planus_schema::{Base, Body, Scalar, TableField};
+use planus_schema::{Base, Body, Scalar};
 
 /// What a module is printed for.
 ///
@@ -29,57 +29,7 @@ pub(crate) struct Caller<'a> {
     pub(crate) prefix: &'a str,
 }
 
-/// The templates of a field.
-#[derive(Clone, Copy)]
-pub(crate) struct FieldForms {
-    pub(crate) one: &'static str,
-    /// That may be absent.
-    pub(crate) one_if: &'static str,
-    pub(crate) vector: &'static str,
-    pub(crate) vector_if: &'static str,
-    /// A vector of bytes.
-    pub(crate) bytes: &'static str,
-    pub(crate) bytes_if: &'static str,
-    /// A vector of unions, each of which a call reads.
-    pub(crate) unions: &'static str,
-}
-
-/// The templates of a declaration.
-#[derive(Clone, Copy)]
-pub(crate) struct Forms {
-    pub(crate) of_enum: &'static str,
-    pub(crate) of_struct: &'static str,
-    pub(crate) of_table: &'static str,
-    pub(crate) of_union: &'static str,
-}
-
 const ERROR: &[u8] = b"Error";
-
-impl FieldForms {
-    /// Returns that of a field.
-    pub(crate) fn of(self, field: &TableField) -> &'static str {
-        match (field.kind.base, field.kind.vector, is_optional(field)) {
-            (Base::Union(_), true, _) => self.unions,
-            (_, true, false) if is_bytes(field.kind) => self.bytes,
-            (_, true, true) if is_bytes(field.kind) => self.bytes_if,
-            (_, true, false) => self.vector,
-            (_, true, true) => self.vector_if,
-            (_, false, false) => self.one,
-            (_, false, true) => self.one_if,
-        }
-    }
-}
-
-impl Forms {
-    fn of(self, body: &Body) -> &'static str {
-        match body {
-            Body::Enum(_) => self.of_enum,
-            Body::Struct(_) => self.of_struct,
-            Body::Table(_) => self.of_table,
-            Body::Union(_) => self.of_union,
-        }
-    }
-}
 
 impl Language {
     /// Returns what stands before the name in C of a type of numbers.

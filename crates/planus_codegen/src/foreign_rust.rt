@@ -2,7 +2,8 @@
 
 use crate::at::At;
 use crate::context::Context;
-use crate::foreign_caller::{Caller, FieldForms, Forms};
+use crate::foreign_caller::Caller;
+use crate::foreign_forms::{FieldForms, Forms};
 use crate::foreign_words::Language;
 use crate::holes::base;
 use crate::printer::Printer;

@@ -17,6 +17,7 @@ mod floats;
 mod foreign;
 mod foreign_caller;
 mod foreign_cpp;
+mod foreign_forms;
 mod foreign_header;
 mod foreign_names;
 mod foreign_python;
