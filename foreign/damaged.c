@@ -1,19 +1,27 @@
 /* Calls over each beginning of a ship's buffer, at each position, and over the buffer with each byte
-   in it changed to each other: damaged FILE. Ends with 1 where a span leads out of the buffer. */
+   in it changed to each other: damaged FILE. Ends with 1 where a span leads out of the buffer, or where
+   a buffer is verified and a call for its root fails, but of a number that an enum doesn't have. */
 #include "harbour.h"
 #include <stdio.h>
 #include <stdlib.h>
 
-static unsigned long calls, values;
+static unsigned long calls, values, failures, verified;
 
 static void inside(uint32_t status, harbour_span span, size_t size, size_t len) {
   calls++;
+  failures += status > HARBOUR_ABSENT;
   if (status != HARBOUR_OK) return;
   values++;
   if (span.at > len || span.len > (len - span.at) / size) {
     fprintf(stderr, "%zu items at %zu of %zu bytes\n", span.len, span.at, len);
     exit(1);
   }
+}
+
+static void value(uint32_t status) {
+  calls++;
+  failures += status > HARBOUR_ABSENT && status != HARBOUR_UNKNOWN_VALUE;
+  values += status == HARBOUR_OK;
 }
 
 static void read_all(const uint8_t *buffer, size_t len, size_t table) {
@@ -32,17 +40,28 @@ static void read_all(const uint8_t *buffer, size_t len, size_t table) {
   if (status == HARBOUR_OK)
     for (size_t i = 0; i < span.len; i++)
       inside(harbour_string_at(buffer, len, span.at + 4 * i, &name), name, 1, len);
-  calls += 10;
-  values += harbour_ship_hull(buffer, len, table, &hull) == HARBOUR_OK;
-  values += harbour_ship_heat(buffer, len, table, &heat) == HARBOUR_OK;
-  values += harbour_ship_maybe(buffer, len, table, &maybe) == HARBOUR_OK;
-  values += harbour_ship_open(buffer, len, table, &open) == HARBOUR_OK;
-  values += harbour_ship_kind(buffer, len, table, &kind) == HARBOUR_OK;
-  values += harbour_ship_home(buffer, len, table, &home) == HARBOUR_OK;
-  values += harbour_ship_fix(buffer, len, table, &fix) == HARBOUR_OK;
-  values += harbour_ship_owner(buffer, len, table, &member) == HARBOUR_OK;
-  values += harbour_ship_shares(buffer, len, table, 0, &member) == HARBOUR_OK;
-  values += harbour_ship_mate(buffer, len, table, &mate) == HARBOUR_OK;
+  value(harbour_ship_hull(buffer, len, table, &hull));
+  value(harbour_ship_heat(buffer, len, table, &heat));
+  value(harbour_ship_maybe(buffer, len, table, &maybe));
+  value(harbour_ship_open(buffer, len, table, &open));
+  value(harbour_ship_kind(buffer, len, table, &kind));
+  value(harbour_ship_home(buffer, len, table, &home));
+  value(harbour_ship_fix(buffer, len, table, &fix));
+  value(harbour_ship_owner(buffer, len, table, &member));
+  value(harbour_ship_shares(buffer, len, table, 0, &member));
+  value(harbour_ship_mate(buffer, len, table, &mate));
+}
+
+static void verify_and_read(const uint8_t *buffer, size_t len) {
+  harbour_fault fault;
+  unsigned long before = failures;
+  uint32_t status = harbour_verify(buffer, len, 64, 1000000, &fault);
+  read_all(buffer, len, harbour_root);
+  if (status != HARBOUR_OK) return;
+  verified++;
+  if (failures == before) return;
+  fprintf(stderr, "a call fails over a verified buffer\n");
+  exit(1);
 }
 
 int main(int count, char **words) {
@@ -59,7 +78,7 @@ int main(int count, char **words) {
   for (size_t i = 0; i < len; i++)
     for (int byte = 0; byte < 256; byte++) {
       buffer[i] = (uint8_t)byte;
-      read_all(buffer, len, harbour_root);
+      verify_and_read(buffer, len);
       buffer[i] = whole[i];
     }
   free(buffer);
@@ -67,10 +86,10 @@ int main(int count, char **words) {
     uint8_t *part = malloc(cut ? cut : 1);
     if (!part) return 2;
     for (size_t i = 0; i < cut; i++) part[i] = whole[i];
-    read_all(part, cut, harbour_root);
+    verify_and_read(part, cut);
     free(part);
   }
-  read_all(NULL, 0, harbour_root);
-  printf("%lu calls, %lu with a value\n", calls, values);
+  verify_and_read(NULL, 0);
+  printf("%lu calls, %lu with a value; %lu buffers verified\n", calls, values, verified);
   return 0;
 }

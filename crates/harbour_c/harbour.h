@@ -20,7 +20,7 @@
 extern "C" {
 #endif
 
-/* There is a value; it is absent; why none is read. */
+/* There is a value; it is absent; why none is read; why a buffer isn't verified. */
 enum {
   HARBOUR_OK = 0,
   HARBOUR_ABSENT = 1,
@@ -32,7 +32,9 @@ enum {
   HARBOUR_INVALID_VTABLE = 7,
   HARBOUR_INVALID_UTF8 = 8,
   HARBOUR_MISSING_REQUIRED = 9,
-  HARBOUR_MISSING_NULL = 10
+  HARBOUR_MISSING_NULL = 10,
+  HARBOUR_TOO_DEEP = 11,
+  HARBOUR_TOO_MANY = 12
 };
 
 /* Bytes, or items, from buffer[at] on. */
@@ -63,6 +65,8 @@ static inline const char *harbour_status_text(uint32_t status) {
   case 8: return "a string isn't UTF-8";
   case 9: return "a required field is missing";
   case 10: return "a string doesn't end in a zero byte";
+  case 11: return "tables lead to tables beyond the limit";
+  case 12: return "more tables are reached than the limit";
   default: return "no status";
   }
 }
@@ -75,6 +79,36 @@ uint32_t harbour_sized(const uint8_t *buffer, size_t len, harbour_span *out);
 
 /* Whether a buffer has the file identifier of the schema. */
 bool harbour_has_identifier(const uint8_t *buffer, size_t len);
+
+/* The field with a fault: the index of its table, which harbour_table_name names, where the table
+   begins, in bytes from the buffer's start, the field's slot, and the index of the item, of an item
+   of a vector, else SIZE_MAX. Of a root that can't be read all four are SIZE_MAX. */
+typedef struct {
+  size_t table;
+  size_t start;
+  size_t slot;
+  size_t item;
+} harbour_fault;
+
+/* 0 if each field of each table that the root leads to is read without an error, an unknown number
+   of an enum and an unknown tag of a union aside; else why the first one isn't, and where it is is
+   stored; 11 if more than `depth` tables stand one in the other, 12 if more than `most_tables` are
+   reached, each as often as it is. flatc's own verifiers have 64 and 1000000. */
+uint32_t harbour_verify(const uint8_t *buffer, size_t len, uint8_t depth, size_t most_tables, harbour_fault *out);
+
+/* The name of a table by its index. */
+static inline const char *harbour_table_name(size_t index) {
+  switch (index) {
+  case 0: return "Person";
+  case 1: return "Company";
+  case 2: return "Ship";
+  case 3: return "Port";
+  case 4: return "Manifest";
+  case 5: return "Origin";
+  case 6: return "Entry";
+  default: return "no table";
+  }
+}
 
 /* `Kind`. */
 typedef uint8_t harbour_kind;

@@ -917,6 +917,16 @@ inline std::optional<Vector<Entry>> Entry::parents() const {
 // The table at the root of a buffer.
 inline Ship root(const std::uint8_t *buffer, std::size_t len) { return Ship(buffer, len); }
 
+// Tests all that the root leads to: after it no method throws, but of a number that its enum doesn't
+// have. No more than `depth` tables may stand one in the other, and no more than `most_tables` be
+// reached, each as often as it is.
+inline void verify(const std::uint8_t *buffer, std::size_t len, std::uint8_t depth = 64,
+                   std::size_t most_tables = 1000000) {
+  ::harbour_fault place{};
+  const std::uint32_t status = ::harbour_verify(buffer, len, depth, most_tables, &place);
+  if (status != 0) throw Error(status);
+}
+
 }  // namespace harbour
 
 #endif

@@ -25,6 +25,8 @@ _TEXTS = (
     "a string isn't UTF-8",
     "a required field is missing",
     "a string doesn't end in a zero byte",
+    "tables lead to tables beyond the limit",
+    "more tables are reached than the limit",
 )
 
 
@@ -548,3 +550,16 @@ def has_identifier(buffer):
 def root(buffer):
     """The table at the root of a buffer."""
     return Ship(buffer)
+
+
+def verify(buffer, depth=64, most_tables=1000000):
+    """Tests all that the root leads to, and raises `Error` for the first that can't be read: after it
+    no property raises, but of a number that its enum doesn't have. No more than `depth` tables may
+    stand one in the other, and no more than `most_tables` be reached, each as often as it is."""
+    place = (_c.c_size_t * 4)()
+    call = _call("harbour_verify")
+    call.restype = _c.c_uint32
+    limits = (_c.c_uint8(depth), _c.c_size_t(most_tables))
+    status = call(_c.c_char_p(buffer), _c.c_size_t(len(buffer)), *limits, place)
+    if status != 0:
+        raise Error(status)

@@ -24,6 +24,8 @@ impl fmt::Display for Error {
             8 => "a string isn't UTF-8",
             9 => "a required field is missing",
             10 => "a string doesn't end in a zero byte",
+            11 => "tables lead to tables beyond the limit",
+            12 => "more tables are reached than the limit",
             _ => "no status",
         })
     }
@@ -379,6 +381,17 @@ pub fn has_identifier(buffer: &[u8]) -> bool {
 /// The table at the root of a buffer.
 pub fn root(buffer: &[u8]) -> Ship<'_> {
     table_at(buffer, 0)
+}
+
+/// Tests all that the root leads to: after it no method fails, but of a number that its enum doesn't
+/// have. No more than `depth` tables may stand one in the other, and no more than `most_tables` be
+/// reached, each as often as it is; flatc's own verifiers have 64 and 1000000.
+pub fn verify(buffer: &[u8], depth: u8, most_tables: usize) -> Result<(), Error> {
+    let mut place = [0; 4];
+    match unsafe { harbour_verify(buffer.as_ptr(), buffer.len(), depth, most_tables, &mut place) } {
+        0 => Ok(()),
+        status => Err(Error { status }),
+    }
 }
 
 #[repr(transparent)]
@@ -1073,6 +1086,7 @@ unsafe extern "C" {
     fn harbour_string_at(buffer: *const u8, len: usize, at: usize, out: *mut SpanRef) -> u32;
     fn harbour_sized(buffer: *const u8, len: usize, out: *mut SpanRef) -> u32;
     fn harbour_has_identifier(buffer: *const u8, len: usize) -> bool;
+    fn harbour_verify(buffer: *const u8, len: usize, depth: u8, most_tables: usize, place: *mut [usize; 4]) -> u32;
     fn harbour_kind_at(buffer: *const u8, len: usize, at: usize, out: *mut Kind) -> u32;
     fn harbour_level_at(buffer: *const u8, len: usize, at: usize, out: *mut Level) -> u32;
     fn harbour_needs_at(buffer: *const u8, len: usize, at: usize, out: *mut Needs) -> u32;

@@ -303,7 +303,7 @@ fn print_calls<F: Files, X: Write>(
         folder.entry.path.now folder.entry.check true (X.contents errors.old)
         (X.contents errors.new)) }
 {
-    match print_foreign(alloc, schema, folder.name, prefix) {
+    match print_foreign(alloc, schema, folder.name, prefix, folder.verified) {
         Ok(printed) => {
             let folder_path = folder.path;
             let path = format!(in alloc; "{folder_path}_c")?;

@@ -9,6 +9,7 @@ use crate::foreign_header::print_header;
 use crate::foreign_names::refuse_alike;
 use crate::foreign_python::print_python;
 use crate::foreign_rust::print_rust;
+use crate::foreign_verify::VERIFY_USES;
 use crate::names::name_at;
 use crate::order::Order;
 use crate::print_error::PrintError;
@@ -201,7 +202,7 @@ impl<'a> Printer<'a> {
     }
 
     /// Adds a type of the crate by its path.
-    fn put_path(&mut self, index: usize) {
+    pub(crate) fn put_path(&mut self, index: usize) {
         let context = self.context;
         self.put_str(context.crate_name);
         self.put_str("::");
@@ -334,9 +335,10 @@ fn has_lines(body: Option<&Body>) -> bool {
 }
 
 impl<'a> ForeignFiles<'a> {
-    // Whether there is a root with a file identifier.
+    // Whether there are calls over a whole buffer.
     fn has_root(&self) -> bool {
-        self.context.root.is_some() && self.context.identifier.is_some()
+        let whole = self.context.verified || self.context.identifier.is_some();
+        self.context.root.is_some() && whole
     }
 
     // The path is a template.
@@ -401,13 +403,24 @@ impl<'a> ForeignFiles<'a> {
         self.add_code("src/values.rt", VALUES_HEAD, first, &code)
     }
 
-    fn add_root(&mut self) -> Result<(), AllocError> {
+    fn add_root(&mut self, root: usize) -> Result<(), AllocError> {
         let mut code = Printer::new(self.context);
         let first = At::declaration(0);
-        code.put_prefixed(IDENTIFIED, self.prefix, first);
+        if self.context.verified {
+            code.put_verify_call(root, self.prefix);
+        }
+        if self.context.identifier.is_some() {
+            code.put_str(if self.context.verified { "\n" } else { "" });
+            code.put_prefixed(IDENTIFIED, self.prefix, first);
+        }
         let mut file = Printer::new(self.context);
         file.put_str(ROOT_HEAD);
         file.put_clause_uses(code.as_str(), self.order);
+        file.put_str(if self.context.verified {
+            VERIFY_USES
+        } else {
+            ""
+        });
         file.put_str("\n");
         file.join(&code);
         self.add("src/root.rt", first, &file)
@@ -445,8 +458,10 @@ impl<'a> ForeignFiles<'a> {
             }
         }
         self.add_values()?;
-        if self.has_root() {
-            self.add_root()?;
+        if let Some(root) = self.context.root {
+            if self.has_root() {
+                self.add_root(root)?;
+            }
         }
         self.add_library()?;
         self.add_modules()
@@ -470,9 +485,10 @@ pub fn print_foreign(
     schema: &Schema,
     name: &str,
     prefix: &str,
+    verified: bool,
 ) -> Result<Vec<PrintedFile>, PrintError> {
     refuse_unsupported(alloc, &schema.declarations)?;
-    let context = Context::new(alloc, schema, name, false)?;
+    let context = Context::new(alloc, schema, name, verified)?;
     refuse_alike(&context)?;
     let order = Order::of(alloc, &context.names)?;
     let mut files = ForeignFiles {

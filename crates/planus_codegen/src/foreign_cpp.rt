@@ -331,6 +331,18 @@ const ROOT: &str = "
 inline ¥ root(const std::uint8_t *buffer, std::size_t len) { return ¥(buffer, len); }
 ";
 
+const VERIFY: &str = "
+// Tests all that the root leads to: after it no method throws, but of a number that its enum doesn't
+// have. No more than `depth` tables may stand one in the other, and no more than `most_tables` be
+// reached, each as often as it is.
+inline void verify(const std::uint8_t *buffer, std::size_t len, std::uint8_t depth = 64,
+                   std::size_t most_tables = 1000000) {
+  ::§_fault place{};
+  const std::uint32_t status = ::§_verify(buffer, len, depth, most_tables, &place);
+  if (status != 0) throw ¤(status);
+}
+";
+
 const END: &str = "
 }  // namespace ¬
 
@@ -493,6 +505,7 @@ pub(crate) fn print_cpp<'a>(context: &'a Context<'a>, prefix: &str) -> Printer<'
     }
     if let Some(root) = context.root {
         text.put_caller(ROOT, cpp, At::declaration(root));
+        text.put_caller(if context.verified { VERIFY } else { "" }, cpp, first);
     }
     text.put_caller(END, cpp, first);
     text

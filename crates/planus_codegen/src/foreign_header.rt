@@ -31,7 +31,7 @@ const TYPES: &str = "
 extern \"C\" {
 #endif
 
-/* There is a value; it is absent; why none is read. */
+/* There is a value; it is absent; why none is read; why a buffer isn't verified. */
 enum {
   §_OK = 0,
   §_ABSENT = 1,
@@ -43,7 +43,9 @@ enum {
   §_INVALID_VTABLE = 7,
   §_INVALID_UTF8 = 8,
   §_MISSING_REQUIRED = 9,
-  §_MISSING_NULL = 10
+  §_MISSING_NULL = 10,
+  §_TOO_DEEP = 11,
+  §_TOO_MANY = 12
 };
 
 ";
@@ -77,6 +79,8 @@ static inline const char *§_status_text(uint32_t status) {
   case 8: return \"a string isn't UTF-8\";
   case 9: return \"a required field is missing\";
   case 10: return \"a string doesn't end in a zero byte\";
+  case 11: return \"tables lead to tables beyond the limit\";
+  case 12: return \"more tables are reached than the limit\";
   default: return \"no status\";
   }
 }
@@ -315,6 +319,9 @@ pub(crate) fn print_header<'a>(
     header.put_prefixed(PLACES, prefix, first);
     if context.root.is_some() && context.identifier.is_some() {
         header.put_prefixed(IDENTIFIED, prefix, first);
+    }
+    if context.root.is_some() && context.verified {
+        header.put_verify_header(prefix);
     }
     for (index, one) in context.declared.iter().enumerate() {
         header.put_foreign_value(&one.body, prefix, At::declaration(index));

@@ -9,7 +9,8 @@ use planus_schema::Body;
 use std::alloc::AllocError;
 
 /// What each crate for C has.
-const OWN: &str = "has_identifier member root sized span status_text string_at values.rt";
+const OWN: &str =
+    "fault has_identifier member root sized span status_text string_at table_name values.rt verify";
 
 const OWNER: &[u8] = b"each crate for C";
 

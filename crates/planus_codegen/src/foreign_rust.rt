@@ -38,6 +38,8 @@ impl fmt::Display for ¤ {
             8 => "a string isn't UTF-8",
             9 => "a required field is missing",
             10 => "a string doesn't end in a zero byte",
+            11 => "tables lead to tables beyond the limit",
+            12 => "more tables are reached than the limit",
             _ => "no status",
         })
     }
@@ -400,6 +402,23 @@ pub fn root(buffer: &[u8]) -> ¥<'_> {
 }
 ";
 
+const VERIFY: &str = r#"
+/// Tests all that the root leads to: after it no method fails, but of a number that its enum doesn't
+/// have. No more than `depth` tables may stand one in the other, and no more than `most_tables` be
+/// reached, each as often as it is; flatc's own verifiers have 64 and 1000000.
+pub fn verify(buffer: &[u8], depth: u8, most_tables: usize) -> Result<(), ¤> {
+    let mut place = [0; 4];
+    match unsafe { §_verify(buffer.as_ptr(), buffer.len(), depth, most_tables, &mut place) } {
+        0 => Ok(()),
+        status => Err(¤ { status }),
+    }
+}
+"#;
+
+const VERIFY_CALL: &str =
+    "    fn §_verify(buffer: *const u8, len: usize, depth: u8, most_tables: usize, \
+     place: *mut [usize; 4]) -> u32;\n";
+
 const ENUM: &str = "
 #[repr(transparent)]
 #[derive(Clone, Copy, Debug, PartialEq, Eq, PartialOrd, Ord, Hash)]
@@ -629,11 +648,14 @@ pub(crate) fn print_rust<'a>(context: &'a Context<'a>, prefix: &str) -> Printer<
     if let Some(root) = context.root {
         text.put_caller(ROOT, rust, At::declaration(root));
     }
+    let verified = context.root.is_some() && context.verified;
+    text.put_caller(if verified { VERIFY } else { "" }, rust, first);
     for (index, one) in context.declared.iter().enumerate() {
         text.put_rust_declared(&one.body, rust, At::declaration(index));
     }
     text.put_caller(CALLS, rust, first);
     text.put_caller(if identified { IDENTIFIED_CALL } else { "" }, rust, first);
+    text.put_caller(if verified { VERIFY_CALL } else { "" }, rust, first);
     text.put_forms(VALUE_CALLS, rust);
     for (index, one) in context.declared.iter().enumerate() {
         text.put_rust_calls(&one.body, rust, At::declaration(index));

@@ -22,6 +22,7 @@ mod foreign_header;
 mod foreign_names;
 mod foreign_python;
 mod foreign_rust;
+mod foreign_verify;
 mod foreign_words;
 mod groups;
 mod hex_floats;
