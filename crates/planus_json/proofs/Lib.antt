@@ -1,0 +1,6 @@
+pub mod Printing
+mod Texts
+mod Names
+mod FixedTrees
+mod TableTrees
+mod Answering

@@ -1,0 +1,20 @@
+//! Prints a buffer as JSON, by a schema that is a value: the tree of what its readers return, or the
+//! first error in it. It stands on the readings of `planus_dump`.
+//! Start with [`json`].
+#![tactic(auto)]
+
+mod enums;
+mod fixed;
+mod floats;
+mod json_error;
+mod layout;
+mod printer;
+mod readings;
+mod strings;
+mod unions;
+mod walk;
+mod whole;
+
+pub use json_error::{Fault, JsonError};
+pub use layout::Layout;
+pub use whole::json;
