@@ -37,16 +37,19 @@ module _ (old : Printer) (given : List Token) (none : string_bytes old.text ≡ 
   pub whole : (new : Printer) → Printed old given (Ok (tt {0})) new → AnswersTokens old.strict given old.most (Ok new.text)
   unfolding Printed
   whole new adds =
-      let same : string_bytes new.text ≡ adds.text = adds.added ∙ ap (λ xs. xs ++ adds.text) none in
-      (subst (AreShown old.strict true given) (sym same) (subst (λ first. AreShown old.strict first given adds.text) start adds.shown),
-      omega (arith, adds.short (omega (arith, no_size)), adds.most))
+      let same : string_bytes new.text ≡ adds.text = adds.added ∙ ap (λ xs. xs ++ adds.text) none in (
+        subst (AreShown old.strict true given) (sym same) (subst (λ first. AreShown old.strict first given adds.text) start adds.shown),
+        omega (arith, adds.short (omega (arith, no_size)), adds.most),
+      )
 
 module _ (schema : Schema) (bytes : List ℕ) (layout : Layout) (most : ℕ) (good : is_good schema ≡ true) (old : Printer) (none : string_bytes old.text ≡ []) (start : old.first ≡ true) (strict : old.strict ≡ layout.strict)
     (limit : old.most ≡ most) where
   pub whole_json : (new : Printer) → Printed old (json_tokens layout schema bytes) (Ok (tt {0})) new → IsJson schema bytes layout most (Ok new.text)
-  whole_json new printed =
-      (good, subst (λ most. AnswersTokens layout.strict (json_tokens layout schema bytes) most (Ok new.text)) limit
-      (subst (λ strict. AnswersTokens strict (json_tokens layout schema bytes) old.most (Ok new.text)) strict (whole old (json_tokens layout schema bytes) none start new printed)))
+  whole_json new printed = (
+    good,
+    subst (λ most. AnswersTokens layout.strict (json_tokens layout schema bytes) most (Ok new.text)) limit
+        (subst (λ strict. AnswersTokens strict (json_tokens layout schema bytes) old.most (Ok new.text)) strict (whole old (json_tokens layout schema bytes) none start new printed)),
+  )
 
   stops_so : (error : JsonError) → Halts old (json_tokens layout schema bytes) error → StopsAt layout.strict (json_tokens layout schema bytes) most error
   stops_so error h =

@@ -19,12 +19,8 @@ use crate::json_error::JsonError;
 use crate::printer::{Printer, inner_line};
 use crate::readings::{number_at, truth_at};
 use planus::{Place, SliceWithStartOffset};
-use planus_dump::readings::{
-    double_at, led_place, read_bits, read_values, single_at, slice_from,
-};
-use planus_dump::{
-    EnumSchema, Fixed, Number, Schema, StructFieldSchema, StructSchema, fixed_size,
-};
+use planus_dump::readings::{double_at, led_place, read_bits, read_values, single_at, slice_from};
+use planus_dump::{EnumSchema, Fixed, Number, Schema, StructFieldSchema, StructSchema, fixed_size};
 
 const GREATEST_NESTING: usize = 64;
 
@@ -234,7 +230,15 @@ fn print_struct_field(
             };
             print_fixed_list(schema, out, left, path, line, items)
         }
-        None => print_fixed(schema, out, left, path, line, value, Place::new(slice, first)),
+        None => print_fixed(
+            schema,
+            out,
+            left,
+            path,
+            line,
+            value,
+            Place::new(slice, first),
+        ),
     }
 }
 

@@ -32,12 +32,7 @@ use planus_dump::{
 };
 use std::alloc::{AllocError, Global};
 
-fn print_text(
-    out: &mut Printer,
-    path: &str,
-    line: &str,
-    place: Place<'_>,
-) -> Result<(), JsonError>
+fn print_text(out: &mut Printer, path: &str, line: &str, place: Place<'_>) -> Result<(), JsonError>
     ensures { Prints out.old (json.tokens line.now (spec.string_tree path.now
         (spec.text_at (place_bytes place.entry) (place_offset place.entry)))) result out.new }
 {
@@ -75,12 +70,7 @@ fn print_byte_list(out: &mut Printer, line: &str, content: &[u8]) -> Result<(), 
     out.put_close(line, "]")
 }
 
-fn print_bytes(
-    out: &mut Printer,
-    path: &str,
-    line: &str,
-    place: Place<'_>,
-) -> Result<(), JsonError>
+fn print_bytes(out: &mut Printer, path: &str, line: &str, place: Place<'_>) -> Result<(), JsonError>
     ensures { Prints out.old (json.tokens line.now (spec.bytes_tree path.now
         (spec.bytes_at (place_bytes place.entry) (place_offset place.entry)))) result out.new }
 {

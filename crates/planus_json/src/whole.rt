@@ -16,12 +16,7 @@ use std::alloc::Global;
 /// The root has depth 1.
 const GREATEST_DEPTH: usize = 64;
 
-fn print_root(
-    schema: &Schema,
-    out: &mut Printer,
-    line: &str,
-    bytes: &[u8],
-) -> Result<(), JsonError>
+fn print_root(schema: &Schema, out: &mut Printer, line: &str, bytes: &[u8]) -> Result<(), JsonError>
     ensures { Prints out.old (tokens line.now (tree_of schema.now bytes.now)) result out.new }
 {
     let root = Place::new(SliceWithStartOffset::new(bytes, 0), 0);
