@@ -1,5 +1,5 @@
-//! Prints a buffer as JSON, by a schema that is a value: the tree of what its readers return, or the
-//! first error in it. It stands on the readings of `planus_dump`.
+//! A buffer as JSON, by a schema that is a value: the text of what its readers return, or the first
+//! error in it. It stands on the readings of `planus_dump`, and has a text of its own for each kind.
 //! Start with [`json`].
 #![tactic(auto)]
 
@@ -11,6 +11,8 @@ mod layout;
 mod printer;
 mod readings;
 mod strings;
+#[cfg(test)]
+mod tests;
 mod unions;
 mod walk;
 mod whole;
