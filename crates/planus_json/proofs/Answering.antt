@@ -1,5 +1,5 @@
 -- What a walk prints from the start on is the answer.
-use Rattle.std.proofs.Common.{◌≡◌, ℕ, ◌+◌, ◌≤◌, List, [], ◌++◌, length, Ok, Err, Result, refl, sym, ap, ◌∙◌, subst, arith, Bool, true, false}
+use Rattle.std.proofs.Common.{◌≡◌, ℕ, ◌+◌, List, [], ◌++◌, length, Ok, Err, Result, sym, ap, ◌∙◌, subst, arith, true}
 use Rattle.std.specs.Prelude.{String}
 use Rattle.std.specs.Result.{IsErrAnd}
 use Rattle.std.proofs.lemmas.Result.{err_from_is_err_and}
@@ -9,7 +9,7 @@ use Rattle.planus_dump.specs.Schemas.{is_good}
 use Rattle.planus_dump.specs.declared.schemas.Schema.{Schema}
 use Rattle.planus_json.specs.Json.{Token, AreShown, are_first}
 use Rattle.planus_json.specs.Outcomes.{EndsAt, StopsAt, AnswersTokens, IsJson, json_tokens}
-use Rattle.planus_json.specs.inner.Printing.{size_of, IsShort, Adds, Halts, Ends, PrintResult, Printed}
+use Rattle.planus_json.specs.inner.Printing.{size_of, Halts, Ends, Printed}
 use Rattle.planus_json.specs.declared.layout.Layout.{Layout}
 use Rattle.planus_json.specs.declared.printer.Printer.{Printer}
 use Rattle.planus_json.specs.declared.json_error.JsonError.{JsonError}

@@ -11,7 +11,7 @@ use Rattle.planus_read.specs.declared.errors.ErrorKind.TheVariants.{InvalidOffse
 use Rattle.planus_dump.specs.Answers.{SeenItems, vector_at, leaf_at}
 use Rattle.planus_dump.specs.Tests.{fault_text, answered, number_test}
 use Rattle.planus_dump.specs.Lines.{item_path, field_path}
-use Rattle.planus_dump.specs.Events.{fixed_size, greatest_nesting, number_leaf, number_width, names_in}
+use Rattle.planus_dump.specs.Events.{fixed_size, greatest_nesting, number_leaf, number_width}
 use Rattle.planus_dump.specs.declared.schemas.Schema.{Schema}
 use Rattle.planus_dump.specs.declared.schemas.EnumSchema.{EnumSchema}
 use Rattle.planus_dump.specs.declared.schemas.StructSchema.{StructSchema}
@@ -20,8 +20,8 @@ use Rattle.planus_dump.specs.declared.schemas.Fixed.{Fixed}
 use Rattle.planus_dump.specs.declared.schemas.Fixed.TheVariants as fixed
 use Rattle.planus_dump.specs.declared.schemas.Number.{Number}
 use Rattle.planus_dump.specs.declared.schemas.Number.TheVariants as numbers
-use Rattle.planus_json.specs.Json.{Token, begins, plain, label, tokens, items_tokens, members_tokens}
-use Rattle.planus_json.specs.Trees.{Tree, Trees, Members, fault, object, member, TableTree, structs, struct_tree, struct_members, values_trees, fixed_tree, counted_tree, enum_tree, number_tree, fixed_list_tree, list, word_tree, float_tree}
+use Rattle.planus_json.specs.Json.{begins, plain, label, tokens, items_tokens, members_tokens}
+use Rattle.planus_json.specs.Trees.{Tree, fault, object, TableTree, structs, struct_tree, struct_members, values_trees, fixed_tree, counted_tree, enum_tree, number_tree, fixed_list_tree, list, word_tree, float_tree}
 use Rattle.planus_dump.specs.declared.line.Bits.TheVariants as bits
 
 pub structs-more : (schema : Schema) (left index : ℕ) (S : List ℕ) (f : ℕ) (path : List ℕ) → left ≢ 0

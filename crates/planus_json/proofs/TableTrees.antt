@@ -1,7 +1,6 @@
 -- The tokens of what has parts, one after another.
-use Rattle.std.proofs.Common.{Ok, Err, Some, None, Option, ◌≡◌, ◌≢◌, ℕ, zero, suc, ◌+◌, ◌-◌, ◌*◌, ◌<◌, ◌≤◌, List, [], ◌∷◌, ◌++◌, length, drop, get_or, slice_get, refl, sym, ap, ◌∙◌, arith, Bool, false}
+use Rattle.std.proofs.Common.{Ok, Option, ◌≡◌, ◌≢◌, ℕ, zero, suc, ◌+◌, ◌-◌, ◌*◌, ◌<◌, ◌≤◌, List, [], ◌∷◌, ◌++◌, length, drop, get_or, slice_get, refl, sym, ap, ◌∙◌, arith}
 use Rattle.std.specs.Prelude.{Vec, slice_index}
-use Rattle.std.specs.Fmt.{decimal}
 use Rattle.std.specs.String.{string_bytes}
 use Rattle.std.specs.declared.alloc.Global.{Global}
 use Rattle.std.proofs.lemmas.List.{append_assoc, append-nil, drop_more}
@@ -9,14 +8,14 @@ use Rattle.planus_read.specs.Places.{place_bytes, place_offset, tagged_tag, tagg
 use Rattle.planus_read.specs.declared.place.TaggedPlace.{TaggedPlace}
 use Rattle.planus_dump.specs.Answers.{Seen, SeenItems, SeenUnions, vector_at}
 use Rattle.planus_dump.specs.Lines.{item_path, field_path}
-use Rattle.planus_dump.specs.Events.{stride_of, field_label, variant_of}
+use Rattle.planus_dump.specs.Events.{stride_of, field_label}
 use Rattle.planus_dump.specs.ReadingViews.{IsUnionIn}
 use Rattle.planus_dump.specs.declared.schemas.Schema.{Schema}
 use Rattle.planus_dump.specs.declared.schemas.FieldSchema.{FieldSchema}
 use Rattle.planus_dump.specs.declared.schemas.VariantSchema.{VariantSchema}
 use Rattle.planus_dump.specs.declared.schemas.Item.{Item}
-use Rattle.planus_json.specs.Json.{Token, begins, plain, label, tokens, items_tokens, members_tokens}
-use Rattle.planus_json.specs.Trees.{Tree, Trees, Members, word, empty, member, join, TableTree, tree, shape_tree, byte_trees, item_tree, items_trees, list_tree, list, kind_members, fields_members, type_tree, types_trees, union_tree, unions_trees}
+use Rattle.planus_json.specs.Json.{begins, plain, label, tokens, items_tokens, members_tokens}
+use Rattle.planus_json.specs.Trees.{Tree, Trees, Members, empty, member, join, TableTree, tree, shape_tree, byte_trees, item_tree, items_trees, list_tree, list, kind_members, fields_members, type_tree, types_trees, union_tree, unions_trees}
 
 pub trees-more : (schema : Schema) (left index : ℕ) (S : List ℕ) (f : ℕ) (path : List ℕ) → left ≢ 0
     → tree schema left index S f path ≡ shape_tree (tree schema (left - 1)) schema (slice_get schema.tables.items index) S f path

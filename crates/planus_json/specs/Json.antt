@@ -1,5 +1,5 @@
 -- A tree as JSON.
-use Rattle.std.specs.Prelude.{◌≡◌, ℕ, ◌+◌, ◌<◌, ◌≤◌, ◌==◌, nat_lt, List, [], ◌∷◌, ◌++◌, codes, length}
+use Rattle.std.specs.Prelude.{◌≡◌, ℕ, ◌==◌, nat_lt, List, [], ◌∷◌, ◌++◌, codes}
 use Rattle.std.specs.Prelude.{Bool, true, false, if◌then◌else◌, ◌||◌, ◌⊎◌}
 use Rattle.std.specs.Char.{encode_utf8}
 use Rattle.std.specs.Fmt.{decimal}
@@ -14,7 +14,7 @@ use Rattle.planus_json.specs.Trees.{Tree, Trees, Members}
 
 -- ---- strings
 
--- the letter after the backslash, where there is a short escape, or none
+-- a character: `\` and a letter or four digits where JSON wants that, or the character itself
 abbrev pub escaped : ℕ → List ℕ
 escaped c =
     if c == 34 || c == 92 then 92 ∷ c ∷ []
@@ -46,7 +46,7 @@ IsFloatText strict b text =
 
 -- ---- tokens
 
--- A bracket that opens; what stands before a member or an item, and before a bracket that closes, on
+-- A bracket that opens; what stands before a member or an item on this line; a bracket that closes on
 -- this line; text; a float; an error, of a path; what is too deep.
 pub data Token : Type 0 where
   opens : ℕ → Token
@@ -57,7 +57,8 @@ pub data Token : Type 0 where
   fault : List ℕ → List ℕ → Token
   deep : Token
 
--- A line break and its indentation stand for the layout: none is compact. Two spaces more:
+-- A line is a line break and spaces, or nothing where the layout is compact; this is the line of what
+-- stands inside, two spaces further on.
 abbrev pub inner : List ℕ → List ℕ
 inner [] = []
 inner (byte ∷ line) = byte ∷ (line ++ codes "  ")

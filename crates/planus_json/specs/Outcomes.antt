@@ -5,7 +5,7 @@ use Rattle.std.specs.String.{string_bytes}
 use Rattle.std.specs.declared.alloc.Global.{Global}
 use Rattle.planus_dump.specs.Schemas.{is_good}
 use Rattle.planus_dump.specs.declared.schemas.Schema.{Schema}
-use Rattle.planus_json.specs.Trees.{Tree, tree_of}
+use Rattle.planus_json.specs.Trees.{tree_of}
 use Rattle.planus_json.specs.Json.{Token, fault, deep, tokens, Shows, AreShown, are_first}
 use Rattle.planus_json.specs.declared.layout.Layout.{Layout}
 use Rattle.planus_json.specs.declared.json_error.JsonError.{JsonError}

@@ -6,55 +6,23 @@ ghost use Rattle.std.specs.Int.{byte_len, w32};
 ghost use Rattle.std.specs.String.{string_bytes};
 ghost use Rattle.planus_read.specs.Places.{place_bytes, place_offset};
 ghost use Rattle.planus_read.specs.Slices.{slice_bytes};
-ghost use Rattle.planus_dump.specs.Answers.{bits_at, leaf_at, vector_at};
+ghost use Rattle.planus_dump.specs.Answers.{bits_at, vector_at};
 ghost use Rattle.planus_dump.specs.Events as dump_spec;
 ghost use Rattle.planus_dump.specs.Lines.{field_path, item_path};
-ghost use Rattle.planus_dump.specs.declared.values.Leaf.TheVariants as leaves;
 ghost use Rattle.planus_json.specs.Json as json;
 ghost use Rattle.planus_json.specs.Trees as spec;
 ghost use Rattle.planus_json.specs.inner.Printing.{Prints};
 
 use crate::enums::{is_unnamed, spaced_names};
 use crate::json_error::JsonError;
+use crate::leaves::{print_number, print_truth};
 use crate::printer::{Printer, inner_line};
-use crate::readings::{number_at, truth_at};
+use crate::readings::number_at;
 use planus::{Place, SliceWithStartOffset};
 use planus_dump::readings::{double_at, led_place, read_bits, read_values, single_at, slice_from};
-use planus_dump::{EnumSchema, Fixed, Number, Schema, StructFieldSchema, StructSchema, fixed_size};
+use planus_dump::{EnumSchema, Fixed, Schema, StructFieldSchema, StructSchema, fixed_size};
 
 const GREATEST_NESTING: usize = 64;
-
-pub fn print_number(
-    out: &mut Printer,
-    path: &str,
-    line: &str,
-    number: Number,
-    place: Place<'_>,
-) -> Result<(), JsonError>
-    ensures { Prints out.old (json.tokens line.now (spec.word_tree path.now
-        (leaf_at (dump_spec.number_leaf number) (place_bytes place.entry)
-        (place_offset place.entry)))) result out.new }
-{
-    match number_at(place, number) {
-        Ok(value) => out.put_scalar(value),
-        Err(kind) => out.put_fault(path, kind),
-    }
-}
-
-pub fn print_truth(
-    out: &mut Printer,
-    path: &str,
-    line: &str,
-    place: Place<'_>,
-) -> Result<(), JsonError>
-    ensures { Prints out.old (json.tokens line.now (spec.word_tree path.now
-        (leaf_at leaves.Bool (place_bytes place.entry) (place_offset place.entry)))) result out.new }
-{
-    match truth_at(place) {
-        Ok(value) => out.put_truth(value),
-        Err(kind) => out.put_fault(path, kind),
-    }
-}
 
 fn print_enum(
     out: &mut Printer,

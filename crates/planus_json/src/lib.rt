@@ -1,5 +1,5 @@
 //! A buffer as JSON, by a schema that is a value: the text of what its readers return, or the first
-//! error in it. It stands on the readings of `planus_dump`, and has a text of its own for each kind.
+//! error in it. It stands on the readings of `planus_dump`, and walks over them by itself.
 //! Start with [`json`].
 #![tactic(auto)]
 
@@ -8,6 +8,7 @@ mod fixed;
 mod floats;
 mod json_error;
 mod layout;
+mod leaves;
 mod printer;
 mod readings;
 mod strings;

@@ -159,7 +159,8 @@ impl Printer {
     }
 
     pub fn put_error(&mut self, path: &str, message: String) -> Result<(), JsonError>
-        ensures { Prints self.old (spec.fault path.now (string_bytes message) ∷ []) result self.new }
+        ensures { Prints self.old (spec.fault path.now (string_bytes message) ∷ []) result
+            self.new }
     {
         let path = String::from_str(self.alloc, path)?;
         Err(JsonError::Fault(Fault { path, message }))

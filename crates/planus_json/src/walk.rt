@@ -1,8 +1,8 @@
 //! The walk over all tables that are reached from one.
 #![tactic(auto, using(crate::proofs::Printing::printed_refused))]
 
-ghost use Rattle.std.specs.Prelude.{◌≡◌, ◌-◌, ◌*◌, ◌≤◌, ◌∷◌, ◌++◌, [], slice_get, slice_index, Some, Ok};
-ghost use Rattle.std.specs.Prelude.{IfOk, false};
+ghost use Rattle.std.specs.Prelude.{◌≡◌, ◌-◌, ◌*◌, ◌≤◌, ◌∷◌, ◌++◌, [], slice_get, slice_index};
+ghost use Rattle.std.specs.Prelude.{Some, Ok, false};
 ghost use Rattle.std.specs.Int.{w32};
 ghost use Rattle.std.specs.String.{string_bytes};
 ghost use Rattle.planus_read.specs.Places.{place_bytes, place_offset, tagged_tag, tagged_place};
@@ -16,11 +16,12 @@ ghost use Rattle.planus_json.specs.Json as json;
 ghost use Rattle.planus_json.specs.Trees as spec;
 ghost use Rattle.planus_json.specs.inner.Printing.{Prints};
 
-use crate::fixed::{print_led, print_number, print_truth, print_value, print_values};
+use crate::fixed::{print_led, print_value, print_values};
 use crate::json_error::JsonError;
+use crate::leaves::{print_byte_list, print_bytes, print_number, print_text, print_truth};
 use crate::printer::{Printer, inner_line};
-use crate::readings::{Scalar, bytes_at, text_at};
-use crate::unions::print_type;
+use crate::readings::bytes_at;
+use crate::unions::{print_union_type, print_unions_type};
 use planus::errors::ErrorKind;
 use planus::table_reader::Table;
 use planus::{Place, SliceWithStartOffset, TaggedPlace};
@@ -30,55 +31,6 @@ use planus_dump::{
     FieldSchema, Item, Kind, Number, Schema, TableSchema, VariantKind, field_path, stride_of,
     variant_with, wrong_tag,
 };
-use std::alloc::{AllocError, Global};
-
-fn print_text(out: &mut Printer, path: &str, line: &str, place: Place<'_>) -> Result<(), JsonError>
-    ensures { Prints out.old (json.tokens line.now (spec.string_tree path.now
-        (spec.text_at (place_bytes place.entry) (place_offset place.entry)))) result out.new }
-{
-    match text_at(place) {
-        Ok(text) => out.put_string(text),
-        Err(kind) => out.put_fault(path, kind),
-    }
-}
-
-fn print_byte(out: &mut Printer, line: &str, byte: u8) -> Result<(), JsonError>
-    ensures { Prints out.old
-        (json.items_tokens line.now (spec.byte_trees (byte ∷ []))) result out.new }
-{
-    out.put_next(line)?;
-    out.put_scalar(Scalar::Unsigned(u64::from(byte)))
-}
-
-fn print_all_bytes(out: &mut Printer, line: &str, content: &[u8]) -> Result<(), JsonError>
-    ensures { Prints out.old
-        (json.items_tokens line.now (spec.byte_trees content.now)) result out.new }
-{
-    for byte in content {
-        print_byte(out, line, *byte)?;
-    }
-    Ok(())
-}
-
-fn print_byte_list(out: &mut Printer, line: &str, content: &[u8]) -> Result<(), JsonError>
-    ensures { Prints out.old
-        (json.tokens line.now (spec.list (spec.byte_trees content.now))) result out.new }
-{
-    let inner = inner_line(out.alloc, line)?;
-    out.put_open("[")?;
-    print_all_bytes(out, inner.as_str(), content)?;
-    out.put_close(line, "]")
-}
-
-fn print_bytes(out: &mut Printer, path: &str, line: &str, place: Place<'_>) -> Result<(), JsonError>
-    ensures { Prints out.old (json.tokens line.now (spec.bytes_tree path.now
-        (spec.bytes_at (place_bytes place.entry) (place_offset place.entry)))) result out.new }
-{
-    match bytes_at(place) {
-        Ok(content) => print_byte_list(out, line, content),
-        Err(kind) => out.put_fault(path, kind),
-    }
-}
 
 #[cycle(walk)]
 pub fn print_table(
@@ -467,30 +419,6 @@ fn print_union(
     }
 }
 
-fn type_name(alloc: Global, name: &str) -> Result<String, AllocError>
-    ensures { IfOk result (λ text. string_bytes text ≡ spec.type_name name.now) }
-{
-    format!(in alloc; "{name}_type")
-}
-
-fn print_union_type(
-    schema: &Schema,
-    out: &mut Printer,
-    line: &str,
-    field: &FieldSchema,
-    index: usize,
-    tag: u8,
-) -> Result<(), JsonError>
-    ensures { Prints out.old (json.begins line.now
-        ∷ json.plain (json.label line.now (spec.type_name (string_bytes field.now.name)))
-        ∷ json.tokens line.now (spec.type_tree (slice_get schema.now.unions.items index) tag))
-        result out.new }
-{
-    let name = type_name(out.alloc, field.name.as_str())?;
-    out.put_name(line, name.as_str())?;
-    print_type(schema, out, line, index, tag)
-}
-
 #[cycle(walk)]
 fn print_union_value(
     schema: &Schema,
@@ -534,73 +462,6 @@ fn print_union_members(
 {
     print_union_type(schema, out, line, field, index, tagged.tag())?;
     print_union_value(schema, out, left, path, line, field, index, tagged)
-}
-
-fn print_types_item(
-    schema: &Schema,
-    out: &mut Printer,
-    line: &str,
-    index: usize,
-    tag: u8,
-) -> Result<(), JsonError>
-    ensures { Prints out.old (json.begins line.now ∷ json.tokens line.now
-        (spec.type_tree (slice_get schema.now.unions.items index) tag)) result out.new }
-{
-    out.put_next(line)?;
-    print_type(schema, out, line, index, tag)
-}
-
-fn print_types_items(
-    schema: &Schema,
-    out: &mut Printer,
-    line: &str,
-    index: usize,
-    unions: &Unions<'_>,
-) -> Result<(), JsonError>
-    ensures { Prints out.old (json.items_tokens line.now (spec.types_trees schema.now index
-        (unions_seen unions.now) (unions_seen unions.now).count 0)) result out.new }
-{
-    for i in 0..unions.len() {
-        match unions.get(i) {
-            None => return Ok(()),
-            Some(tagged) => print_types_item(schema, out, line, index, tagged.tag())?,
-        }
-    }
-    Ok(())
-}
-
-fn print_types(
-    schema: &Schema,
-    out: &mut Printer,
-    line: &str,
-    index: usize,
-    unions: &Unions<'_>,
-) -> Result<(), JsonError>
-    ensures { Prints out.old (json.tokens line.now (spec.list (spec.types_trees schema.now index
-        (unions_seen unions.now) (unions_seen unions.now).count 0))) result out.new }
-{
-    let inner = inner_line(out.alloc, line)?;
-    out.put_open("[")?;
-    print_types_items(schema, out, inner.as_str(), index, unions)?;
-    out.put_close(line, "]")
-}
-
-fn print_unions_type(
-    schema: &Schema,
-    out: &mut Printer,
-    line: &str,
-    field: &FieldSchema,
-    index: usize,
-    unions: &Unions<'_>,
-) -> Result<(), JsonError>
-    ensures { Prints out.old (json.begins line.now
-        ∷ json.plain (json.label line.now (spec.type_name (string_bytes field.now.name)))
-        ∷ json.tokens line.now (spec.list (spec.types_trees schema.now index
-        (unions_seen unions.now) (unions_seen unions.now).count 0))) result out.new }
-{
-    let name = type_name(out.alloc, field.name.as_str())?;
-    out.put_name(line, name.as_str())?;
-    print_types(schema, out, line, index, unions)
 }
 
 #[cycle(walk)]

@@ -31,11 +31,11 @@ fn first_line(compact: bool) -> &'static str
 
 /// Returns the table at the root of a buffer as JSON, of at most `most` bytes.
 ///
-/// Only present fields are printed, in the schema's order. An enum's number is the name of its value;
-/// flags are a string of names with a space between each two; a number that these don't say is a
-/// number. A union `o` of type `T` is a member `o_type` with the string `T`, and `o`. A byte vector
-/// that is a buffer is its root, or a list of numbers where that can't be read. Where a reader fails
-/// or a field is wrong, the first such place, in the order of the text, is the error.
+/// Only present fields are printed, in the schema's order. An enum's number is the name of its
+/// value; flags are a string of names with a space between each two; a number that these don't say
+/// is a number. A union `o` of type `T` is a member `o_type` with the string `T`, and `o`. A byte
+/// vector that is a buffer is its root, or a list of numbers where that can't be read. Where a
+/// reader fails or a field is wrong, the first such place, in the order of the text, is the error.
 pub fn json(
     alloc: Global,
     schema: &Schema,

@@ -1,5 +1,5 @@
 -- What a walk adds to the text so far.
-use Rattle.std.specs.Prelude.{◌≡◌, ℕ, ◌+◌, ◌<◌, ◌≤◌, List, [], ◌∷◌, ◌++◌, length, ⊤, Result, Ok, Err, Bool}
+use Rattle.std.specs.Prelude.{◌≡◌, ℕ, ◌+◌, ◌<◌, ◌≤◌, List, ◌∷◌, ◌++◌, length, ⊤, Result, Ok, Err, Bool}
 use Rattle.std.specs.String.{string_bytes}
 use Rattle.planus_json.specs.Json.{Token, AreShown, are_first}
 use Rattle.planus_json.specs.Outcomes.{EndsAt}

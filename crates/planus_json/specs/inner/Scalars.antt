@@ -1,7 +1,6 @@
 -- Scalars that were read.
 use Rattle.std.specs.Prelude.{ℕ, List}
 use Rattle.std.specs.Fmt.{decimal, signed_decimal}
-use Rattle.planus_dump.specs.Lines.{truth_text}
 use Rattle.planus_json.specs.declared.readings.Scalar.{Scalar}
 use Rattle.planus_json.specs.declared.readings.Scalar.TheVariants.{Unsigned, Signed}
 

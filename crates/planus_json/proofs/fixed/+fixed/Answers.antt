@@ -1,13 +1,12 @@
-use Rattle.std.proofs.Common.{◌≡◌, ◌+◌, ◌-◌, ◌*◌, ◌^◌, ◌≤◌, ◌++◌, ◌∷◌, [], drop, ap, sym, subst, ◌∙◌, Ok, Some, None, slice_get, arith, refl, length}
+use Rattle.std.proofs.Common.{◌≡◌, ◌-◌, ◌^◌, ◌≤◌, ◌∷◌, [], ap, sym, subst, ◌∙◌, Some, None, slice_get, arith, refl, length}
 use Rattle.std.proofs.lemmas.Bool.{ltb-true, ltb-false}
 use Rattle.std.proofs.lemmas.Option.{slice_get_past, slice_get_read}
 use Rattle.std.specs.String.{string_bytes}
 use Rattle.planus_read.specs.Slices.{slice_bytes}
 use Rattle.planus_read.specs.Places.{place_bytes, place_offset}
-use Rattle.planus_dump.specs.Events.{fixed_size}
 use Rattle.planus_dump.specs.Lines.{item_path, field_path}
-use Rattle.planus_json.specs.Json.{begins, plain, label, tokens, items_tokens, members_tokens}
-use Rattle.planus_json.specs.Trees.{structs, struct_tree, struct_members, counted_tree, values_trees, fixed_tree, enum_tree, list, object}
+use Rattle.planus_json.specs.Json.{begins, plain, label, tokens, items_tokens}
+use Rattle.planus_json.specs.Trees.{structs, struct_tree, struct_members, counted_tree, values_trees, fixed_tree, enum_tree, object}
 use Rattle.planus_json.proofs.Printing.{printed_none, first_failed, second_failed, two, three, loop_failed, loop_on, loop_done, goes_begin, list_tokens, object_tokens}
 use Rattle.planus_json.proofs.FixedTrees.{structs-more, structs-none, values-split, values-none, fields-split, fields-none, struct-read, item-at}
 use Rattle.planus_json.proofs.fixed.+fixed.Goals as goal

@@ -1,16 +1,15 @@
-use Rattle.std.proofs.Common.{◌⊎◌, inl, inr, List, ℕ, ◌≡◌, ◌+◌, ◌-◌, ◌*◌, ◌≤◌, ◌++◌, ◌∷◌, [], drop, ap, sym, subst, ◌∙◌, Ok, Some, None, slice_get, arith, refl, length}
-use Rattle.std.specs.Prelude.{slice_index}
+use Rattle.std.proofs.Common.{◌⊎◌, inl, inr, List, ℕ, ◌≡◌, ◌-◌, ◌≤◌, ◌∷◌, [], ap, sym, subst, ◌∙◌, Some, None, slice_get, arith, refl, length}
 use Rattle.std.proofs.lemmas.Bool.{ltb-true, ltb-false}
 use Rattle.std.proofs.lemmas.Option.{slice_get_past, slice_get_read}
 use Rattle.std.specs.String.{string_bytes}
 use Rattle.planus_read.specs.declared.errors.ErrorKind.TheVariants.{UnknownUnionTag}
 use Rattle.planus_read.specs.Slices.{slice_bytes}
 use Rattle.planus_read.specs.Places.{place_bytes, place_offset, tagged_tag, tagged_place}
-use Rattle.planus_dump.specs.Events.{stride_of, variant_of, field_label}
-use Rattle.planus_dump.specs.Lines.{item_path, field_path}
+use Rattle.planus_dump.specs.Events.{variant_of}
+use Rattle.planus_dump.specs.Lines.{item_path}
 use Rattle.planus_dump.specs.Tests.{fault_text}
 use Rattle.planus_dump.specs.ReadingViews.{table_seen, unions_seen}
-use Rattle.planus_json.specs.Json.{Token, begins, plain, label, tokens, items_tokens, members_tokens}
+use Rattle.planus_json.specs.Json.{Token, begins, plain, label, tokens, items_tokens}
 use Rattle.planus_dump.specs.declared.schemas.Schema.{Schema}
 use Rattle.planus_dump.specs.declared.schemas.Kind.{Kind}
 use Rattle.planus_dump.specs.declared.schemas.Kind.TheVariants.{Union, UnionVector}

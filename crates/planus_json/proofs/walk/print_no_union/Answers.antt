@@ -1,6 +1,6 @@
-use Rattle.std.proofs.Common.{◌≡◌, ℕ, ◌+◌, ◌-◌, ◌*◌, ◌≤◌, ◌++◌, ◌∷◌, [], drop, ap, sym, ◌∙◌, slice_get, arith, refl, true, Some}
+use Rattle.std.proofs.Common.{ap, sym, ◌∙◌, refl}
 use Rattle.std.specs.String.{string_bytes}
-use Rattle.planus_json.specs.Json.{begins, plain, label, tokens, items_tokens, members_tokens}
+use Rattle.planus_json.specs.Json.{members_tokens}
 use Rattle.planus_json.specs.Trees.{no_union_members}
 use Rattle.planus_json.proofs.Printing.{named, first_failed, two}
 use Rattle.planus_json.proofs.walk.print_no_union.Goals as goal

@@ -1,4 +1,4 @@
-use Rattle.std.proofs.Common.{[], ◌∷◌, refl, sym, ap}
+use Rattle.std.proofs.Common.{[], ◌∷◌, sym, ap}
 use Rattle.std.specs.String.{string_bytes}
 use Rattle.planus_json.specs.Json.{fault}
 use Rattle.planus_json.proofs.Printing.{printed_as, printed_fault}

@@ -1,5 +1,4 @@
 use Rattle.std.proofs.Common.{[], ◌∷◌, refl, sym, subst}
-use Rattle.std.specs.String.{string_bytes}
 use Rattle.planus_json.specs.Json.{number, IsFloatText}
 use Rattle.planus_json.proofs.Printing.{printed_as, printed_one}
 use Rattle.planus_json.proofs.printer.Printer.put_float.Goals as goal

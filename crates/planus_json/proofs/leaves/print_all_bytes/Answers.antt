@@ -1,9 +1,7 @@
-use Rattle.std.proofs.Common.{◌≡◌, ℕ, ◌+◌, ◌-◌, ◌*◌, ◌≤◌, ◌++◌, ◌∷◌, [], drop, ap, sym, ◌∙◌, slice_get, arith, refl, true, Some}
-use Rattle.std.specs.String.{string_bytes}
-use Rattle.planus_json.specs.Json.{begins, plain, label, tokens, items_tokens, members_tokens}
+use Rattle.std.proofs.Common.{arith, refl}
 use Rattle.planus_json.proofs.Printing.{loop_failed, loop_on, loop_done, goes_begin}
 use Rattle.planus_json.proofs.TableTrees.{bytes-split, bytes-none}
-use Rattle.planus_json.proofs.walk.print_all_bytes.Goals as goal
+use Rattle.planus_json.proofs.leaves.print_all_bytes.Goals as goal
 
 pub loop-byte-init : goal.loop-byte-init
 loop-byte-init c = goes_begin c.args.out.now _ _ refl

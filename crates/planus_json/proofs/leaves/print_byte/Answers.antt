@@ -1,9 +1,8 @@
-use Rattle.std.proofs.Common.{◌≡◌, ℕ, ◌+◌, ◌-◌, ◌*◌, ◌≤◌, ◌++◌, ◌∷◌, [], drop, ap, sym, ◌∙◌, slice_get, arith, refl, true, Some}
+use Rattle.std.proofs.Common.{◌∷◌, [], ap, sym, ◌∙◌, refl}
 use Rattle.std.specs.Fmt.{decimal}
-use Rattle.std.specs.String.{string_bytes}
-use Rattle.planus_json.specs.Json.{begins, plain, label, tokens, items_tokens, members_tokens}
+use Rattle.planus_json.specs.Json.{begins, plain}
 use Rattle.planus_json.proofs.Printing.{first_failed, two}
-use Rattle.planus_json.proofs.walk.print_byte.Goals as goal
+use Rattle.planus_json.proofs.leaves.print_byte.Goals as goal
 
 pub returns-in_err-put_next : goal.returns-in_err-put_next
 returns-in_err-put_next c = λ ps same. first_failed _ _ _ _ _ _ _ _ c.from_residual.ensures.1 (c.in_err-put_next.ensures _ refl) same

@@ -1,11 +1,10 @@
-use Rattle.std.proofs.Common.{◌≡◌, ◌+◌, ◌-◌, ◌*◌, ◌∷◌, ap, sym, ◌∙◌, slice_get, arith, refl}
-use Rattle.std.specs.Prelude.{slice_index}
+use Rattle.std.proofs.Common.{◌≡◌, ◌-◌, ◌∷◌, ap, sym, ◌∙◌, slice_get, arith}
 use Rattle.planus_dump.specs.ReadingViews.{unions_seen}
 use Rattle.planus_json.specs.Json.{begins, tokens, items_tokens}
 use Rattle.planus_json.specs.Trees.{type_tree, types_trees}
 use Rattle.planus_json.proofs.Printing.{loop_failed, loop_on, loop_done, goes_begin}
 use Rattle.planus_json.proofs.TableTrees.{types-split, types-none}
-use Rattle.planus_json.proofs.walk.print_types_items.Goals as goal
+use Rattle.planus_json.proofs.unions.print_types_items.Goals as goal
 
 pub loop-i-init : goal.loop-i-init
 loop-i-init c =

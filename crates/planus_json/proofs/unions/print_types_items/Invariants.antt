@@ -3,7 +3,7 @@ use Rattle.planus_dump.specs.ReadingViews.{unions_seen}
 use Rattle.planus_json.specs.Json.{items_tokens}
 use Rattle.planus_json.specs.Trees.{types_trees}
 use Rattle.planus_json.proofs.Printing.{Goes}
-use Rattle.planus_json.proofs.walk.print_types_items.Given as goal
+use Rattle.planus_json.proofs.unions.print_types_items.Given as goal
 
 abbrev pub invariant-loop-i : goal.invariant-loop-i
 invariant-loop-i l =

@@ -1,8 +1,6 @@
-use Rattle.std.proofs.Common.{◌≡◌, ℕ, ◌+◌, ◌-◌, ◌*◌, ◌≤◌, ◌++◌, ◌∷◌, [], drop, ap, sym, ◌∙◌, slice_get, arith, refl, true, Some}
-use Rattle.std.specs.String.{string_bytes}
-use Rattle.planus_json.specs.Json.{begins, plain, label, tokens, items_tokens, members_tokens}
+use Rattle.std.proofs.Common.{refl}
 use Rattle.planus_json.proofs.Printing.{first_failed, two}
-use Rattle.planus_json.proofs.walk.print_types_item.Goals as goal
+use Rattle.planus_json.proofs.unions.print_types_item.Goals as goal
 
 pub returns-in_err-put_next : goal.returns-in_err-put_next
 returns-in_err-put_next c = λ ps same. first_failed _ _ _ _ _ _ _ _ c.from_residual.ensures.1 (c.in_err-put_next.ensures _ refl) same
