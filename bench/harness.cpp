@@ -254,7 +254,7 @@ static vector<Table> tables(const vector<Lib> &libs) {
 // The same work for growing numbers of items. Strings are different, of 8 bytes.
 static vector<Table> scaling(const vector<Lib> &libs) {
   vector<Row> all;
-  for (size_t n : {1000, 10000, 100000, 1000000}) {
+  for (size_t n : {10, 1000, 100000, 10000000}) {
     string s = ", n = " + std::to_string(n);
     all.push_back(writing("S1 strings of 8 bytes, caches on" + s, "texts", double(n), 7, keep(letters(8 * n)), 8));
     all.push_back(writing("S2 strings of 8 bytes, caches off" + s, "texts", double(n), 0, keep(letters(8 * n)), 8));
