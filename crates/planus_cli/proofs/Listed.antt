@@ -6,6 +6,7 @@ use Rattle.std.specs.Str.{bytes_eq}
 use Rattle.planus_cli.specs.declared.arguments.Command.{Command}
 use Rattle.planus_cli.specs.declared.arguments.Command.TheVariants.{Check, Format, View, Dot, Conform, Completions}
 use Rattle.planus_cli.specs.declared.arguments.Command.TheVariants.{Rattle as RattleCommand}
+use Rattle.planus_cli.specs.declared.arguments.Command.TheVariants.{Json as JsonCommand}
 use Rattle.planus_cli.specs.Arguments.{option_of, command_of}
 use Rattle.planus_cli.specs.Completions.{option_words, names}
 
@@ -51,21 +52,24 @@ options_listed Check w = simp some_of (move1 (bytes_eq w (codes "-I")) (bytes_eq
 options_listed Format w = simp some_of (move2 (bytes_eq w (codes "--write")) (bytes_eq w (codes "--check")) (bytes_eq w (codes "--help")) (bytes_eq w (codes "-h")))
 options_listed View w = simp some_of (move5 (bytes_eq w (codes "-I")) (bytes_eq w (codes "--root")) (bytes_eq w (codes "--size-prefixed")) (bytes_eq w (codes "--lines")) (bytes_eq w (codes "--bytes"))
     (bytes_eq w (codes "--help")) (bytes_eq w (codes "-h")))
+options_listed JsonCommand w = simp some_of (move6 (bytes_eq w (codes "-I")) (bytes_eq w (codes "--root")) (bytes_eq w (codes "--size-prefixed")) (bytes_eq w (codes "--compact")) (bytes_eq w (codes "--strict"))
+    (bytes_eq w (codes "--bytes")) (bytes_eq w (codes "--help")) (bytes_eq w (codes "-h")))
 options_listed RattleCommand w = simp some_of (move5 (bytes_eq w (codes "-I")) (bytes_eq w (codes "-o")) (bytes_eq w (codes "--check")) (bytes_eq w (codes "--no-verified")) (bytes_eq w (codes "--c")) (bytes_eq w (codes "--help")) (bytes_eq w (codes "-h")))
 options_listed Dot w = simp some_of (move1 (bytes_eq w (codes "-I")) (bytes_eq w (codes "--help")) (bytes_eq w (codes "-h")))
 options_listed Conform w = simp some_of (move6 (bytes_eq w (codes "-I")) (bytes_eq w (codes "--backward")) (bytes_eq w (codes "--forward")) (bytes_eq w (codes "--rename")) (bytes_eq w (codes "--against")) (bytes_eq w (codes "--json")) (bytes_eq w (codes "--help")) (bytes_eq w (codes "-h")))
 options_listed Completions w = simp some_of (move0 (bytes_eq w (codes "--help")) (bytes_eq w (codes "-h")))
 
-last7 : (a b c d e f g h : Bool) → (a || (b || (c || (d || (e || (f || (g || (h || false)))))))) ≡ ((a || (b || (c || (d || (e || (f || (g || false))))))) || h)
-last7 true b c d e f g h = refl
-last7 false true c d e f g h = refl
-last7 false false true d e f g h = refl
-last7 false false false true e f g h = refl
-last7 false false false false true f g h = refl
-last7 false false false false false true g h = refl
-last7 false false false false false false true h = refl
-last7 false false false false false false false true = refl
-last7 false false false false false false false false = refl
+last8 : (a b c d e f g h i : Bool) → (a || (b || (c || (d || (e || (f || (g || (h || (i || false))))))))) ≡ ((a || (b || (c || (d || (e || (f || (g || (h || false)))))))) || i)
+last8 true b c d e f g h i = refl
+last8 false true c d e f g h i = refl
+last8 false false true d e f g h i = refl
+last8 false false false true e f g h i = refl
+last8 false false false false true f g h i = refl
+last8 false false false false false true g h i = refl
+last8 false false false false false false true h i = refl
+last8 false false false false false false false true i = refl
+last8 false false false false false false false false true = refl
+last8 false false false false false false false false false = refl
 
 pub commands_listed : (w : List ℕ) → list_any (bytes_eq w) names ≡ (is_some (command_of w) || bytes_eq w (codes "help"))
-commands_listed w = simp some_of (last7 (bytes_eq w (codes "check")) (bytes_eq w (codes "format")) (bytes_eq w (codes "view")) (bytes_eq w (codes "rattle")) (bytes_eq w (codes "dot")) (bytes_eq w (codes "conform")) (bytes_eq w (codes "completions")) (bytes_eq w (codes "help")))
+commands_listed w = simp some_of (last8 (bytes_eq w (codes "check")) (bytes_eq w (codes "format")) (bytes_eq w (codes "view")) (bytes_eq w (codes "json")) (bytes_eq w (codes "rattle")) (bytes_eq w (codes "dot")) (bytes_eq w (codes "conform")) (bytes_eq w (codes "completions")) (bytes_eq w (codes "help")))

@@ -12,16 +12,16 @@ use Rattle.planus_cli.specs.SchemaTexts.{line_of}
 use Rattle.planus_cli.specs.Viewing.{EndsEarly}
 use Rattle.planus_cli.specs.Buffers.{Look, EndsSized, Views, ViewsAdvised, FailsAdvised, ViewsBytes, FailsViews, FailsBytes, look_by}
 
-pub ended : (look : Look) (bytes : List ℕ) (worst : ℕ) (before unsaid : Option (List ℕ)) → length bytes ≡ 0
-    → EndsSized look bytes worst worst before before unsaid unsaid
-ended look [] worst before unsaid none = (refl, Keeps-refl before, Keeps-refl unsaid)
-ended look (b ∷ bs) worst before unsaid none = absurd (omega arith)
+pub ended : (name bytes : List ℕ) (worst : ℕ) (before unsaid : Option (List ℕ)) → length bytes ≡ 0
+    → EndsSized name bytes worst worst before before unsaid unsaid
+ended name [] worst before unsaid none = (refl, Keeps-refl before, Keeps-refl unsaid)
+ended name (b ∷ bs) worst before unsaid none = absurd (omega arith)
 
-pub ended_early : (look : Look) (bytes : List ℕ) (worst : ℕ) (before unsaid said : Option (List ℕ)) → length bytes ≢ 0
-    → EndsEarly bytes → Appends unsaid said (line_of [] look.name (codes " ends before a buffer does"))
-    → EndsSized look bytes worst 1 before before unsaid said
-ended_early look [] worst before unsaid said some early told = absurd (some refl)
-ended_early look (b ∷ bs) worst before unsaid said some early told = (refl, early, Keeps-refl before, told)
+pub ended_early : (name bytes : List ℕ) (worst : ℕ) (before unsaid said : Option (List ℕ)) → length bytes ≢ 0
+    → EndsEarly bytes → Appends unsaid said (line_of [] name (codes " ends before a buffer does"))
+    → EndsSized name bytes worst 1 before before unsaid said
+ended_early name [] worst before unsaid said some early told = absurd (some refl)
+ended_early name (b ∷ bs) worst before unsaid said some early told = (refl, early, Keeps-refl before, told)
 
 pub held : (look : Look) (bytes : List ℕ) (prefixed way : Bool) (r : Result ℕ CallError) (before after unsaid said : Option (List ℕ)) → prefixed ≡ way
     → IfOk r (λ status. Views way look bytes status before after unsaid said) → IfOk r (λ status. Views prefixed look bytes status before after unsaid said)

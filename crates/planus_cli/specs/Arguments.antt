@@ -2,7 +2,7 @@
 use Rattle.std.specs.Prelude.{ℕ, Bool, true, false, ◌&&◌, ◌||◌, ◌==◌, nat_lt, List, [], ◌∷◌, ◌++◌}
 use Rattle.std.specs.Prelude.{fold, map, length, codes, slice_index, Option, Some, None, take}
 use Rattle.std.specs.Prelude.{if◌then◌else◌, not, nat_eq, drop}
-use Rattle.std.specs.Option.{option_map, option_or, unwrap_or}
+use Rattle.std.specs.Option.{option_and_then, option_map, option_or, unwrap_or}
 use Rattle.std.specs.List.{list_any, position_or_len, starts_with}
 use Rattle.std.specs.Str.{bytes_eq}
 use Rattle.planus_schema.specs.Numbers.{integer_said, without_mark, without_sign}
@@ -10,6 +10,7 @@ use Rattle.planus_schema.specs.declared.number.Number.{Number}
 use Rattle.planus_cli.specs.declared.arguments.Command.{Command}
 use Rattle.planus_cli.specs.declared.arguments.Command.TheVariants.{Check, Format, View}
 use Rattle.planus_cli.specs.declared.arguments.Command.TheVariants.{Rattle as RattleCommand}
+use Rattle.planus_cli.specs.declared.arguments.Command.TheVariants.{Json as JsonCommand}
 use Rattle.planus_cli.specs.declared.arguments.Command.TheVariants.{Dot, Conform, Completions}
 use Rattle.planus_cli.specs.declared.arguments.Shell.{Shell}
 use Rattle.planus_cli.specs.declared.arguments.Shell.TheVariants.{Bash, Zsh, Fish}
@@ -17,6 +18,7 @@ use Rattle.planus_cli.specs.declared.arguments.Choice.{Choice}
 use Rattle.planus_cli.specs.declared.arguments.Choice.TheVariants.{Folder, Write}
 use Rattle.planus_cli.specs.declared.arguments.Choice.TheVariants.{Root, SizePrefixed, Lines}
 use Rattle.planus_cli.specs.declared.arguments.Choice.TheVariants.{Bytes, Output}
+use Rattle.planus_cli.specs.declared.arguments.Choice.TheVariants.{Compact, Strict}
 use Rattle.planus_cli.specs.declared.arguments.Choice.TheVariants.{Check as CheckChoice}
 use Rattle.planus_cli.specs.declared.arguments.Choice.TheVariants.{NoVerified, Backward, Forward}
 use Rattle.planus_cli.specs.declared.arguments.Choice.TheVariants.{Rename, Against, Json}
@@ -35,6 +37,8 @@ pub record WordsV : Type 0 where
   pub size_prefixed : Bool
   pub lines : Option (List ℕ)
   pub bytes : Option (List ℕ)
+  pub compact : Bool
+  pub strict : Bool
   pub output : Option (List ℕ)
   pub check : Bool
   pub no_verified : Bool
@@ -58,6 +62,8 @@ no_words = record {
   size_prefixed = false;
   lines = None;
   bytes = None;
+  compact = false;
+  strict = false;
   output = None;
   check = false;
   no_verified = false;
@@ -82,6 +88,8 @@ words_of w = record {
   size_prefixed = w.size_prefixed;
   lines = option_map (λ s. s.now) w.lines;
   bytes = option_map (λ s. s.now) w.bytes;
+  compact = w.compact;
+  strict = w.strict;
   output = option_map (λ s. s.now) w.output;
   check = w.check;
   no_verified = w.no_verified;
@@ -106,6 +114,14 @@ view_option w = if bytes_eq w (codes "-I") then Some Folder
     else if bytes_eq w (codes "--root") then Some Root
     else if bytes_eq w (codes "--size-prefixed") then Some SizePrefixed
     else if bytes_eq w (codes "--lines") then Some Lines
+    else if bytes_eq w (codes "--bytes") then Some Bytes else None
+
+abbrev pub json_option : List ℕ → Option Choice
+json_option w = if bytes_eq w (codes "-I") then Some Folder
+    else if bytes_eq w (codes "--root") then Some Root
+    else if bytes_eq w (codes "--size-prefixed") then Some SizePrefixed
+    else if bytes_eq w (codes "--compact") then Some Compact
+    else if bytes_eq w (codes "--strict") then Some Strict
     else if bytes_eq w (codes "--bytes") then Some Bytes else None
 
 abbrev pub rattle_option : List ℕ → Option Choice
@@ -139,6 +155,7 @@ option_of command w = if is_help w then Some HelpChoice else option_in command
     option_in Format = if bytes_eq w (codes "--write") then Some Write
         else if bytes_eq w (codes "--check") then Some CheckChoice else None
     option_in View = view_option w
+    option_in JsonCommand = json_option w
     option_in RattleCommand = rattle_option w
     option_in Conform = conform_option w
     option_in Dot = if bytes_eq w (codes "-I") then Some Folder else None
@@ -165,6 +182,8 @@ joined_in Completions w = None
 joined_in View w = option_or (joined_by Folder (codes "-I") w)
     (option_or (joined_by Root (codes "--root=") w)
     (option_or (joined_by Lines (codes "--lines=") w) (joined_by Bytes (codes "--bytes=") w)))
+joined_in JsonCommand w = option_or (joined_by Folder (codes "-I") w)
+    (option_or (joined_by Root (codes "--root=") w) (joined_by Bytes (codes "--bytes=") w))
 joined_in RattleCommand w = option_or (joined_by Folder (codes "-I") w)
     (option_or (joined_by Output (codes "-o") w) (joined_by Foreign (codes "--c=") w))
 joined_in Conform w = option_or (joined_by Folder (codes "-I") w)
@@ -187,6 +206,8 @@ with_choice ws Backward = record ws { backward = true }
 with_choice ws Forward = record ws { forward = true }
 with_choice ws Json = record ws { json = true }
 with_choice ws SizePrefixed = record ws { size_prefixed = true }
+with_choice ws Compact = record ws { compact = true }
+with_choice ws Strict = record ws { strict = true }
 with_choice ws CheckChoice = record ws { check = true }
 with_choice ws NoVerified = record ws { no_verified = true }
 with_choice ws Write = record ws { write = true }
@@ -204,6 +225,8 @@ with_value ws Against w = record ws { against = Some w }
 with_value ws Foreign w = record ws { foreign = Some w }
 with_value ws Write w = ws
 with_value ws SizePrefixed w = ws
+with_value ws Compact w = ws
+with_value ws Strict w = ws
 with_value ws CheckChoice w = ws
 with_value ws NoVerified w = ws
 with_value ws Backward w = ws
@@ -288,6 +311,10 @@ digits_of w = without_mark (without_sign w)
 abbrev pub number_of : List ℕ → Option ℕ
 number_of w = if is_empty_word (digits_of w) then None else not_negative (integer_said w)
 
+-- the number of a word, if there is one
+abbrev pub limit_of : Option (List ℕ) → ℕ → ℕ
+limit_of word otherwise = unwrap_or (option_and_then number_of word) otherwise
+
 abbrev pub is_none : Option ℕ → Bool
 is_none None = true
 is_none (Some n) = false
@@ -308,11 +335,11 @@ pub data Asked : Type 0 where
   unknown_option : Command → List ℕ → Asked
   no_value : Command → Choice → Asked
   no_schema : Command → Asked
-  no_buffer : Asked
+  no_buffer : Command → Asked
   empty_value : Command → Choice → Asked
   empty_file : Command → Asked
   input_twice : Command → Asked
-  no_number : Choice → List ℕ → Asked
+  no_number : Command → Choice → List ℕ → Asked
   several_schemas : Command → Asked
   no_output : Asked
   write_and_check : Asked
@@ -332,11 +359,11 @@ asked (code.UnknownCommand w) = unknown_command w.now
 asked (code.UnknownOption command w) = unknown_option command w.now
 asked (code.NoValue command choice) = no_value command choice
 asked (code.NoSchema command) = no_schema command
-asked code.NoBuffer = no_buffer
+asked (code.NoBuffer command) = no_buffer command
 asked (code.EmptyValue command choice) = empty_value command choice
 asked (code.EmptyFile command) = empty_file command
 asked (code.InputTwice command) = input_twice command
-asked (code.NoNumber choice w) = no_number choice w.now
+asked (code.NoNumber command choice w) = no_number command choice w.now
 asked (code.SeveralSchemas command) = several_schemas command
 asked code.NoOutput = no_output
 asked code.WriteAndCheck = write_and_check
@@ -350,12 +377,12 @@ abbrev pub is_empty : List (List ℕ) → Bool
 is_empty [] = true
 is_empty (x ∷ xs) = false
 
--- `view` needs a schema, a buffer and numbers
-abbrev pub view_request : WordsV → Asked
-view_request ws = if not (length ws.files == 2) then no_buffer
-    else if is_no_number ws.lines then no_number Lines (unwrap_or ws.lines [])
-    else if is_no_number ws.bytes then no_number Bytes (unwrap_or ws.bytes [])
-    else run View ws
+-- `view` and `json` need a schema, a buffer and numbers
+abbrev pub buffer_request : Command → WordsV → Asked
+buffer_request command ws = if not (length ws.files == 2) then no_buffer command
+    else if is_no_number ws.lines then no_number command Lines (unwrap_or ws.lines [])
+    else if is_no_number ws.bytes then no_number command Bytes (unwrap_or ws.bytes [])
+    else run command ws
 
 abbrev pub run_with : Option (List ℕ) → WordsV → Asked
 run_with None ws = no_output
@@ -407,7 +434,8 @@ completions_request (w ∷ v ∷ ws) = no_shell
 abbrev pub run_request : Command → WordsV → Asked
 run_request Check ws = run Check ws
 run_request Format ws = format_request ws
-run_request View ws = view_request ws
+run_request View ws = buffer_request View ws
+run_request JsonCommand ws = buffer_request JsonCommand ws
 run_request RattleCommand ws = rattle_request ws
 run_request Dot ws = dot_request ws
 run_request Conform ws = conform_request ws
@@ -440,6 +468,7 @@ abbrev pub command_of : List ℕ → Option Command
 command_of w = if bytes_eq w (codes "check") then Some Check
     else if bytes_eq w (codes "format") then Some Format
     else if bytes_eq w (codes "view") then Some View
+    else if bytes_eq w (codes "json") then Some JsonCommand
     else if bytes_eq w (codes "rattle") then Some RattleCommand
     else if bytes_eq w (codes "dot") then Some Dot
     else if bytes_eq w (codes "conform") then Some Conform

@@ -2,7 +2,7 @@
 use Rattle.std.specs.Prelude.{◌≡◌, ◌⊎◌, ℕ, Bool, true, false, ◌&&◌, not, nat_lt, List, [], ◌∷◌, ◌++◌, codes}
 use Rattle.std.specs.Prelude.{◌+◌, ◌-◌, ◌==◌, if◌then◌else◌, MatchBool}
 use Rattle.std.specs.Prelude.{position, take, drop, length, max, Option, Some, None}
-use Rattle.std.specs.Option.{option_and_then, option_map, unwrap_or}
+use Rattle.std.specs.Option.{option_map}
 use Rattle.std.specs.Fmt.{decimal}
 use Rattle.std.specs.Str.{bytes_eq}
 use Rattle.std.specs.Io.KnownBytes.{Appends, Keeps}
@@ -19,7 +19,7 @@ use Rattle.planus_cli.specs.declared.view.View.{View}
 use Rattle.planus_cli.specs.declared.view.Viewing.{Viewing}
 use Rattle.planus_cli.specs.declared.viewing.Limits.{Limits}
 use Rattle.planus_cli.specs.Shown.{shown}
-use Rattle.planus_cli.specs.Arguments.{WordsV, number_of}
+use Rattle.planus_cli.specs.Arguments.{WordsV, limit_of}
 use Rattle.planus_cli.specs.SchemaTexts.{line_of}
 use Rattle.planus_cli.specs.Viewing.{WritesView, FailsViewing, SplitsSized, EndsEarly}
 use Rattle.planus_cli.specs.Viewing.{end_text, is_clean, is_cut}
@@ -129,13 +129,13 @@ FailsOne look bytes error before after unsaid said =
     × FailsViewing look.schema bytes look.lines look.bytes error before after)
 
 -- No bytes are left, and the status is the worst before; or they end before a buffer does.
-abbrev pub EndsSized : Look → List ℕ → ℕ → ℕ → Option (List ℕ) → Option (List ℕ)
+abbrev pub EndsSized : List ℕ → List ℕ → ℕ → ℕ → Option (List ℕ) → Option (List ℕ)
     → Option (List ℕ) → Option (List ℕ) → Type 0
-EndsSized look [] worst status before after unsaid said =
+EndsSized name [] worst status before after unsaid said =
     (status ≡ worst) × Keeps before after × Keeps unsaid said
-EndsSized look (b ∷ bs) worst status before after unsaid said =
+EndsSized name (b ∷ bs) worst status before after unsaid said =
     (status ≡ 1) × EndsEarly (b ∷ bs) × Keeps before after
-    × Appends unsaid said (line_of [] look.name (codes " ends before a buffer does"))
+    × Appends unsaid said (line_of [] name (codes " ends before a buffer does"))
 
 -- the line before a buffer of several: which it is, and where its first byte stands in the file
 abbrev pub header_text : ℕ → ℕ → List ℕ
@@ -236,7 +236,7 @@ pub record EndsCut (buffers : List (List ℕ)) (worst status : ℕ)
 abbrev pub ViewsSized : Look → ℕ → ℕ → List (List ℕ) → List ℕ → ℕ → ℕ → Option (List ℕ)
     → Option (List ℕ) → Option (List ℕ) → Option (List ℕ) → Type 0
 ViewsSized look number at [] bytes worst status before after unsaid said =
-    EndsSized look bytes worst status before after unsaid said
+    EndsSized look.name bytes worst status before after unsaid said
 ViewsSized look number at (buffer ∷ buffers) bytes worst status before after unsaid said =
     ViewsFirst look number at buffer bytes before unsaid (λ rest one written told.
     MatchBool one.is_cut
@@ -381,10 +381,6 @@ FailsBytes schema how name bytes error before after unsaid said =
     ((error ≡ OutOfMemory) × Keeps before after × Keeps unsaid said)
     ⊎ FailsFile schema how name bytes error before after unsaid said
 
--- the number of a word, if there is one
-abbrev pub limit_of : Option (List ℕ) → ℕ → ℕ
-limit_of word otherwise = unwrap_or (option_and_then number_of word) otherwise
-
 abbrev pub viewing_of : WordsV → ℕ → Viewing
 viewing_of words root = record {
   root = root;
@@ -392,13 +388,19 @@ viewing_of words root = record {
   limits = record { lines = limit_of words.lines 1000; bytes = limit_of words.bytes 1048576 };
 }
 
+-- It was said that there is no root, with status 2.
+abbrev pub HasNoRoot : Option (List ℕ) → ℕ → Option (List ℕ) → Option (List ℕ)
+    → Option (List ℕ) → Option (List ℕ) → Type 0
+HasNoRoot name status before after unsaid said =
+    (status ≡ 2) × Keeps before after × Appends unsaid said (no_root_text name)
+
 -- The buffers were viewed with this root, or it was said that there is none, with status 2.
 abbrev pub ViewsRoot : Option ℕ → Schema → WordsV → List ℕ → List ℕ → ℕ → Option (List ℕ)
     → Option (List ℕ) → Option (List ℕ) → Option (List ℕ) → Type 0
 ViewsRoot (Some root) schema words name bytes status before after unsaid said =
     ViewsBytes schema (viewing_of words root) name bytes status before after unsaid said
 ViewsRoot None schema words name bytes status before after unsaid said =
-    (status ≡ 2) × Keeps before after × Appends unsaid said (no_root_text words.root)
+    HasNoRoot words.root status before after unsaid said
 
 -- what `view` does with a schema and the bytes of a file, as these words say
 abbrev pub ViewsBy : Schema → WordsV → List ℕ → List ℕ → ℕ → Option (List ℕ) → Option (List ℕ)

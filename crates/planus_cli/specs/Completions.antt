@@ -6,6 +6,7 @@ use Rattle.planus_cli.specs.declared.arguments.Shell.TheVariants.{Bash, Zsh, Fis
 use Rattle.planus_cli.specs.declared.arguments.Command.{Command}
 use Rattle.planus_cli.specs.declared.arguments.Command.TheVariants.{Check, Format, View}
 use Rattle.planus_cli.specs.declared.arguments.Command.TheVariants.{Rattle as RattleCommand}
+use Rattle.planus_cli.specs.declared.arguments.Command.TheVariants.{Json as JsonCommand}
 use Rattle.planus_cli.specs.declared.arguments.Command.TheVariants.{Dot, Conform, Completions}
 use Rattle.planus_cli.specs.declared.completions.Frame.{Frame}
 
@@ -69,8 +70,8 @@ shells = codes "bash" ∷ codes "zsh" ∷ codes "fish" ∷ []
 
 -- the commands
 abbrev pub names : List (List ℕ)
-names = codes "check" ∷ codes "format" ∷ codes "view" ∷ codes "rattle" ∷ codes "dot"
-    ∷ codes "conform" ∷ codes "completions" ∷ codes "help" ∷ []
+names = codes "check" ∷ codes "format" ∷ codes "view" ∷ codes "json" ∷ codes "rattle"
+    ∷ codes "dot" ∷ codes "conform" ∷ codes "completions" ∷ codes "help" ∷ []
 
 -- the options of a command
 abbrev pub option_words : Command → List (List ℕ)
@@ -78,6 +79,8 @@ option_words Check = codes "-I" ∷ codes "--help" ∷ codes "-h" ∷ []
 option_words Format = codes "--write" ∷ codes "--check" ∷ codes "--help" ∷ codes "-h" ∷ []
 option_words View = codes "-I" ∷ codes "--root" ∷ codes "--size-prefixed" ∷ codes "--lines"
     ∷ codes "--bytes" ∷ codes "--help" ∷ codes "-h" ∷ []
+option_words JsonCommand = codes "-I" ∷ codes "--root" ∷ codes "--size-prefixed"
+    ∷ codes "--compact" ∷ codes "--strict" ∷ codes "--bytes" ∷ codes "--help" ∷ codes "-h" ∷ []
 option_words RattleCommand = codes "-I" ∷ codes "-o" ∷ codes "--check" ∷ codes "--no-verified"
     ∷ codes "--c" ∷ codes "--help" ∷ codes "-h" ∷ []
 option_words Dot = codes "-I" ∷ codes "--help" ∷ codes "-h" ∷ []
@@ -103,15 +106,16 @@ unfoldable pub other_rows : FrameV → List ℕ
 other_rows frame = row_text frame (codes "completions") (option_words Completions) shells
     ++ row_text frame (codes "help") [] names
 
--- a row for each command, with its options; files are the arguments of the first six
+-- a row for each command, with its options; files are the arguments of the first seven
 unfoldable pub rows_text : FrameV → List ℕ
 rows_text frame = row_text frame (codes "check") (option_words Check) []
     ++ (row_text frame (codes "format") (option_words Format) []
     ++ (row_text frame (codes "view") (option_words View) []
+    ++ (row_text frame (codes "json") (option_words JsonCommand) []
     ++ (row_text frame (codes "rattle") (option_words RattleCommand) []
     ++ (row_text frame (codes "dot") (option_words Dot) []
     ++ (row_text frame (codes "conform") (option_words Conform) []
-    ++ other_rows frame)))))
+    ++ other_rows frame))))))
 
 unfoldable pub script_in : FrameV → List ℕ
 script_in frame = frame.head ++ (rows_text frame ++ (frame.first ++ (spaced first_options

@@ -16,6 +16,7 @@ pub mod Distance
 pub mod Near
 pub mod Viewing
 pub mod Buffers
+pub mod PrintingJson
 pub mod Printing
 pub mod Drawing
 pub mod Changes

@@ -5,6 +5,7 @@ use Rattle.std.specs.Io.KnownBytes.{Appends, Keeps}
 use Rattle.planus_cli.specs.declared.arguments.Command.{Command}
 use Rattle.planus_cli.specs.declared.arguments.Command.TheVariants.{Check, Format, View}
 use Rattle.planus_cli.specs.declared.arguments.Command.TheVariants.{Rattle as RattleCommand}
+use Rattle.planus_cli.specs.declared.arguments.Command.TheVariants.{Json as JsonCommand}
 use Rattle.planus_cli.specs.declared.arguments.Command.TheVariants.{Dot, Conform, Completions}
 use Rattle.planus_cli.specs.Completions.{option_words, script_of}
 use Rattle.planus_cli.specs.declared.arguments.Choice.{Choice}
@@ -30,7 +31,7 @@ said_view said = record { wrong = said.wrong; text = said.text.items }
 
 -- the words that a call may begin with
 abbrev pub command_words : List (List ℕ)
-command_words = codes "check" ∷ codes "format" ∷ codes "view" ∷ codes "rattle"
+command_words = codes "check" ∷ codes "format" ∷ codes "view" ∷ codes "json" ∷ codes "rattle"
     ∷ codes "dot" ∷ codes "conform" ∷ codes "completions" ∷ codes "help"
     ∷ codes "--help" ∷ codes "-h" ∷ codes "--version" ∷ codes "-V" ∷ []
 
@@ -43,15 +44,16 @@ abbrev pub version_text : List ℕ
 version_text = codes "planus 0.1.0\n"
 
 abbrev pub help_text : List ℕ
-help_text = codes "planus reads schemas of flatbuffers, shows buffers by them, and prints their code.\n\nusage: planus check [-I FOLDER].. SCHEMA..\n       planus format [--write | --check] SCHEMA..\n       planus view [OPTION].. SCHEMA BUFFER\n       planus rattle [--check] [--no-verified] [--c PREFIX] [-I FOLDER].. SCHEMA -o FOLDER\n       planus dot [-I FOLDER].. SCHEMA\n       planus conform [OPTION].. OLD NEW\n       planus conform [OPTION].. --against FOLDER SCHEMA..\n       planus completions bash|zsh|fish\n       planus help [COMMAND], planus [COMMAND] --help, planus --version\n\nSCHEMA, BUFFER, OLD and NEW are files, or - for standard input; after --, each word is\none. The value of an option may be in the same word: -IFOLDER, -oFOLDER, --root=NAME.\n-h is --help, and -V is --version.\n"
+help_text = codes "planus reads schemas of flatbuffers, shows buffers by them, and prints their code.\n\nusage: planus check [-I FOLDER].. SCHEMA..\n       planus format [--write | --check] SCHEMA..\n       planus view [OPTION].. SCHEMA BUFFER\n       planus json [OPTION].. SCHEMA BUFFER\n       planus rattle [--check] [--no-verified] [--c PREFIX] [-I FOLDER].. SCHEMA -o FOLDER\n       planus dot [-I FOLDER].. SCHEMA\n       planus conform [OPTION].. OLD NEW\n       planus conform [OPTION].. --against FOLDER SCHEMA..\n       planus completions bash|zsh|fish\n       planus help [COMMAND], planus [COMMAND] --help, planus --version\n\nSCHEMA, BUFFER, OLD and NEW are files, or - for standard input; after --, each word is\none. The value of an option may be in the same word: -IFOLDER, -oFOLDER, --root=NAME.\n-h is --help, and -V is --version.\n"
 
 -- the usage line of a command, with which its help begins, or of the program; what is said of a
 -- wrong call ends with it
 unfoldable pub usage_of : Option Command → List ℕ
-usage_of None = codes "usage: planus COMMAND ..; the commands are check, format, view, rattle, dot, conform, completions and help\n"
+usage_of None = codes "usage: planus COMMAND ..; the commands are check, format, view, json, rattle, dot, conform, completions and help\n"
 usage_of (Some Check) = codes "usage: planus check [-I FOLDER].. SCHEMA..\n"
 usage_of (Some Format) = codes "usage: planus format [--write | --check] SCHEMA..\n"
 usage_of (Some View) = codes "usage: planus view [OPTION].. SCHEMA BUFFER\n"
+usage_of (Some JsonCommand) = codes "usage: planus json [OPTION].. SCHEMA BUFFER\n"
 usage_of (Some RattleCommand) = codes "usage: planus rattle [--check] [--no-verified] [--c PREFIX] [-I FOLDER].. SCHEMA -o FOLDER\n"
 usage_of (Some Dot) = codes "usage: planus dot [-I FOLDER].. SCHEMA\n"
 usage_of (Some Conform) = codes "usage: planus conform [OPTION].. OLD NEW\n       planus conform [OPTION].. --against FOLDER SCHEMA..\n"
@@ -61,6 +63,7 @@ abbrev pub details_of : Command → List ℕ
 details_of Check = codes "\nSays on standard error what is wrong with each schema and the files that it includes,\nor nothing. Included files are sought beside the file and in each FOLDER.\nEnds with 0 where nothing is wrong, with 1 where a schema has a fault, and with 2\nwhere the call is wrong or a file can't be read.\n"
 details_of Format = codes "\nPrints the canonical text of each schema, with its comments.\n\n  --write  replaces each file by its text\n  --check  prints nothing, and says which files don't have that text\n\nEnds with 0 where nothing is wrong, with 1 where a schema has a fault or --check names\na file, and with 2 where the call is wrong or a file can't be read or written.\n"
 details_of View = codes "\nPrints what a buffer holds, a line a value, as far as the lines and bytes go.\n\n  --root NAME      the root is this table, and not that of the schema\n  --size-prefixed  BUFFER is any number of buffers, each after its size\n  --lines N        at most N lines, and not 1000\n  --bytes N        at most N bytes, and not 1048576\n  -I FOLDER        included files are sought in this folder too\n\nEnds with 0 where all is shown, with 1 where something is wrong with the buffer or\nmore follows, and with 2 where the call is wrong or a file can't be read.\n"
+details_of JsonCommand = codes "\nPrints a buffer as JSON, a member or an item a line, with the fields that it has. If\nsomething is wrong with the buffer it prints nothing, and says where and what.\n\n  --root NAME      the root is this table, and not that of the schema\n  --size-prefixed  BUFFER is any number of buffers, each after its size\n  --compact        each buffer is one line, without spaces\n  --strict         a float that JSON has no number for is in quotes\n  --bytes N        at most N bytes for each buffer, and not 67108864\n  -I FOLDER        included files are sought in this folder too\n\nThe JSON of a buffer is held whole before it is printed, so --bytes says how much\nmemory that takes. 67108864 is four times the size of the largest file that is read.\nEnds with 0 where all is printed, with 1 where something is wrong with a buffer or its\nJSON is longer, and with 2 where the call is wrong or a file can't be read.\n"
 details_of Dot = codes "\nPrints the graph of a schema for Graphviz: a node for each declaration, with its\nfields and their types, and an edge for each that names a declaration. For a picture,\nplanus dot a.fbs | dot -Tsvg -o a.svg. Included files are sought beside the file and\nin each FOLDER.\nEnds with 0 where the graph is printed, with 1 where the schema has a fault, and with\n2 where the call is wrong or a file can't be read.\n"
 details_of Conform = codes "\nSays on standard error what breaks where the schema NEW replaces OLD: each change by\nwhich code of one reads data of the other otherwise, and what to do instead. A note\nsays what changes your own code alone.\n\n  --against FOLDER  SCHEMA is NEW, and OLD the file of its name in this folder\n  --backward        only what breaks new code that reads old data\n  --forward         only what breaks old code that reads new data\n  --rename OLD=NEW  what is OLD in the old schema is NEW in the new one\n  --json            a line of JSON on standard output for each change, for a program\n  -I FOLDER         included files are sought in this folder too\n\nEnds with 0 where nothing breaks, with 1 where something does or a schema has a fault,\nand with 2 where the call is wrong or a file can't be read.\n"
 details_of Completions = codes "\nPrints the script by which this shell completes calls of planus: commands, their\noptions, and files. It says how it is used.\n"
@@ -81,6 +84,10 @@ no_value_text choice = codes "planus: no folder follows -I\n"
 
 abbrev pub no_shell_text : List ℕ
 no_shell_text = codes "planus: completions has one shell: bash, zsh or fish\n"
+
+abbrev pub no_buffer_text : Command → List ℕ
+no_buffer_text JsonCommand = codes "planus: json has a schema and a buffer\n"
+no_buffer_text command = codes "planus: view has a schema and a buffer\n"
 
 abbrev pub several_schemas_text : Command → List ℕ
 several_schemas_text Dot = codes "planus: dot has one schema\n"
@@ -129,14 +136,14 @@ said_of (no_value command choice) = on_errors (no_value_text choice ++ usage_of 
 said_of (no_schema command) = on_errors (no_schema_text command ++ usage_of (Some command))
 said_of (completions shell) = on_output (script_of shell)
 said_of no_shell = on_errors (no_shell_text ++ usage_of (Some Completions))
-said_of no_buffer = on_errors (codes "planus: view has a schema and a buffer\n" ++ usage_of (Some View))
+said_of (no_buffer command) = on_errors (no_buffer_text command ++ usage_of (Some command))
 said_of (empty_value command choice) = on_errors (empty_value_text choice ++ usage_of (Some command))
 said_of (empty_file command) = on_errors (codes "planus: the name of a file is empty\n"
     ++ usage_of (Some command))
 said_of (input_twice command) = on_errors (codes "planus: standard input is read once, and - stands here twice\n"
     ++ usage_of (Some command))
-said_of (no_number choice w) = on_errors (codes "planus: `" ++ (shown w
-    ++ (codes "`" ++ (no_number_text choice ++ (codes "\n" ++ usage_of (Some View))))))
+said_of (no_number command choice w) = on_errors (codes "planus: `" ++ (shown w
+    ++ (codes "`" ++ (no_number_text choice ++ (codes "\n" ++ usage_of (Some command))))))
 said_of (several_schemas command) =
     on_errors (several_schemas_text command ++ usage_of (Some command))
 said_of no_output = on_errors (codes "planus: no folder is given: -o FOLDER\n"

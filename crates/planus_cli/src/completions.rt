@@ -99,6 +99,7 @@ fn names() -> &'static [&'static str]
         "check",
         "format",
         "view",
+        "json",
         "rattle",
         "dot",
         "conform",
@@ -183,6 +184,7 @@ fn put_rows(text: &mut Vec<u8>, frame: &Frame) -> Result<(), AllocError>
     put_command(text, frame, "check", Command::Check)?;
     put_command(text, frame, "format", Command::Format)?;
     put_command(text, frame, "view", Command::View)?;
+    put_command(text, frame, "json", Command::Json)?;
     put_command(text, frame, "rattle", Command::Rattle)?;
     put_command(text, frame, "dot", Command::Dot)?;
     put_command(text, frame, "conform", Command::Conform)?;

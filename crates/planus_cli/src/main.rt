@@ -1,6 +1,7 @@
 //! The program `planus`: checks schemas of flatbuffers, prints them in their canonical layout,
-//! shows what buffers hold by them, prints their code as the files of a crate, draws their graphs,
-//! and says what breaks from one to another. A command is a file of its name; start at `program`.
+//! shows what buffers hold by them, prints buffers as JSON, prints their code as the files of a
+//! crate, draws their graphs, and says what breaks from one to another. A command is a file of its
+//! name, and `json` is `print_json`; start at `program`.
 #![tactic(auto)]
 
 mod arguments;
@@ -15,6 +16,7 @@ mod file_error;
 mod files;
 mod format;
 mod formatted;
+mod identifier;
 mod include;
 mod json;
 mod laws;
@@ -23,14 +25,18 @@ mod meaning;
 mod message;
 mod near;
 mod output;
+mod pairs;
 mod parsed;
 mod parts;
 mod placed;
+mod print_json;
 mod program;
 mod rattle;
 mod report;
+mod root;
 mod said;
 mod shown;
+mod sized;
 mod sources;
 mod spots;
 mod streams;

@@ -14,11 +14,11 @@ use crate::dot::draw_graph;
 use crate::files::{Files, HostFiles};
 use crate::format::format_file;
 use crate::output::Output;
+use crate::pairs::show_files;
 use crate::rattle::print_code;
 use crate::said::{CLEAN, FAILED, say as say_of};
 use crate::sources::check_at;
 use crate::streams::{CallError, reason_of, write_out};
-use crate::view::view_file;
 use std::alloc::Global;
 use std::env;
 use std::io::Write;
@@ -81,7 +81,8 @@ fn run_request<F: Files, W: Write, X: Write>(
         return Ok(FAILED);
     };
     match command {
-        Command::View => view_file(files, alloc, words, writer, errors),
+        Command::View => show_files(files, alloc, false, words, writer, errors),
+        Command::Json => show_files(files, alloc, true, words, writer, errors),
         Command::Rattle => print_code(files, alloc, words, errors),
         Command::Dot => draw_graph(files, alloc, words, writer, errors),
         Command::Conform => conform(files, alloc, words, writer, errors),

@@ -30,6 +30,7 @@ planus reads schemas of flatbuffers, shows buffers by them, and prints their cod
 usage: planus check [-I FOLDER].. SCHEMA..
        planus format [--write | --check] SCHEMA..
        planus view [OPTION].. SCHEMA BUFFER
+       planus json [OPTION].. SCHEMA BUFFER
        planus rattle [--check] [--no-verified] [--c PREFIX] [-I FOLDER].. SCHEMA -o FOLDER
        planus dot [-I FOLDER].. SCHEMA
        planus conform [OPTION].. OLD NEW
@@ -43,7 +44,7 @@ one. The value of an option may be in the same word: -IFOLDER, -oFOLDER, --root=
 ";
 
 const PROGRAM_USAGE: &str =
-    "usage: planus COMMAND ..; the commands are check, format, view, rattle, dot, conform, completions and help\n";
+    "usage: planus COMMAND ..; the commands are check, format, view, json, rattle, dot, conform, completions and help\n";
 
 const USAGE_OF_CHECK: &str = "usage: planus check [-I FOLDER].. SCHEMA..\n";
 
@@ -79,6 +80,25 @@ Prints what a buffer holds, a line a value, as far as the lines and bytes go.
 
 Ends with 0 where all is shown, with 1 where something is wrong with the buffer or
 more follows, and with 2 where the call is wrong or a file can't be read.
+";
+
+const USAGE_OF_JSON: &str = "usage: planus json [OPTION].. SCHEMA BUFFER\n";
+
+const DETAILS_OF_JSON: &str = "
+Prints a buffer as JSON, a member or an item a line, with the fields that it has. If
+something is wrong with the buffer it prints nothing, and says where and what.
+
+  --root NAME      the root is this table, and not that of the schema
+  --size-prefixed  BUFFER is any number of buffers, each after its size
+  --compact        each buffer is one line, without spaces
+  --strict         a float that JSON has no number for is in quotes
+  --bytes N        at most N bytes for each buffer, and not 67108864
+  -I FOLDER        included files are sought in this folder too
+
+The JSON of a buffer is held whole before it is printed, so --bytes says how much
+memory that takes. 67108864 is four times the size of the largest file that is read.
+Ends with 0 where all is printed, with 1 where something is wrong with a buffer or its
+JSON is longer, and with 2 where the call is wrong or a file can't be read.
 ";
 
 const USAGE_OF_RATTLE: &str =
@@ -150,6 +170,8 @@ const INPUT_TWICE: &str = "planus: standard input is read once, and - stands her
 
 const NO_BUFFER: &str = "planus: view has a schema and a buffer\n";
 
+const NO_BUFFER_FOR_JSON: &str = "planus: json has a schema and a buffer\n";
+
 const SEVERAL_SCHEMAS: &str = "planus: rattle has one schema\n";
 
 const SEVERAL_FOR_DOT: &str = "planus: dot has one schema\n";
@@ -200,6 +222,7 @@ fn command_words() -> &'static [&'static str]
         "check",
         "format",
         "view",
+        "json",
         "rattle",
         "dot",
         "conform",
@@ -224,6 +247,18 @@ pub(crate) fn option_words(command: Command) -> &'static [&'static str]
                 "--root",
                 "--size-prefixed",
                 "--lines",
+                "--bytes",
+                "--help",
+                "-h",
+            ]
+        }
+        Command::Json => {
+            &[
+                "-I",
+                "--root",
+                "--size-prefixed",
+                "--compact",
+                "--strict",
                 "--bytes",
                 "--help",
                 "-h",
@@ -287,6 +322,7 @@ fn usage_of(command: Option<Command>) -> &'static str
         Some(Command::Check) => USAGE_OF_CHECK,
         Some(Command::Format) => USAGE_OF_FORMAT,
         Some(Command::View) => USAGE_OF_VIEW,
+        Some(Command::Json) => USAGE_OF_JSON,
         Some(Command::Rattle) => USAGE_OF_RATTLE,
         Some(Command::Dot) => USAGE_OF_DOT,
         Some(Command::Conform) => USAGE_OF_CONFORM,
@@ -301,6 +337,7 @@ fn details_of(command: Command) -> &'static str
         Command::Check => DETAILS_OF_CHECK,
         Command::Format => DETAILS_OF_FORMAT,
         Command::View => DETAILS_OF_VIEW,
+        Command::Json => DETAILS_OF_JSON,
         Command::Rattle => DETAILS_OF_RATTLE,
         Command::Dot => DETAILS_OF_DOT,
         Command::Conform => DETAILS_OF_CONFORM,
@@ -404,6 +441,15 @@ fn no_schema(command: Command) -> &'static str
     }
 }
 
+fn no_buffer(command: Command) -> &'static str
+    ensures { result.now ≡ spec.no_buffer_text command }
+{
+    match command {
+        Command::Json => NO_BUFFER_FOR_JSON,
+        _ => NO_BUFFER,
+    }
+}
+
 fn several_schemas(command: Command) -> &'static str
     ensures { result.now ≡ spec.several_schemas_text command }
 {
@@ -461,19 +507,12 @@ pub fn said_of(alloc: Global, request: &Request<'_>) -> Result<Option<Said>, All
         Request::UnknownOption(command, word) => unknown_option(alloc, *command, *word),
         Request::NoValue(command, choice) => wrong(alloc, no_value(*choice), Some(*command)),
         Request::NoSchema(command) => wrong(alloc, no_schema(*command), Some(*command)),
-        Request::NoBuffer => wrong(alloc, NO_BUFFER, Some(Command::View)),
+        Request::NoBuffer(command) => wrong(alloc, no_buffer(*command), Some(*command)),
         Request::EmptyValue(command, choice) => wrong(alloc, empty_value(*choice), Some(*command)),
         Request::EmptyFile(command) => wrong(alloc, EMPTY_FILE, Some(*command)),
         Request::InputTwice(command) => wrong(alloc, INPUT_TWICE, Some(*command)),
-        Request::NoNumber(choice, word) => {
-            about(
-                alloc,
-                "",
-                *word,
-                no_number(*choice),
-                b"",
-                Some(Command::View),
-            )
+        Request::NoNumber(command, choice, word) => {
+            about(alloc, "", *word, no_number(*choice), b"", Some(*command))
         }
         Request::SeveralSchemas(command) => wrong(alloc, several_schemas(*command), Some(*command)),
         Request::NoOutput => wrong(alloc, NO_OUTPUT, Some(Command::Rattle)),

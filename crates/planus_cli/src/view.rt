@@ -1,25 +1,21 @@
 //! The command `view`: what a buffer holds by a schema.
 
-ghost use Rattle.std.specs.Prelude.{◌≡◌, ℕ, List, MatchOption, IfOk, IfErr, OnOk, OnErr, position};
+ghost use Rattle.std.specs.Prelude.{◌≡◌, ℕ, List, IfOk, IfErr, OnOk, OnErr};
 ghost use Rattle.std.specs.Option.{option_map};
-ghost use Rattle.std.specs.Io.KnownBytes.{Appends};
 ghost use Rattle.planus_cli.specs.Buffers as spec;
 ghost use Rattle.planus_cli.specs.Buffers.{Views};
-ghost use Rattle.planus_dump.specs.Writing.{WritesBeginning};
 ghost use Rattle.planus_cli.specs.Arguments.{words_of};
-ghost use Rattle.planus_cli.specs.Running.{ViewsFile, ViewsPair, ViewsFiles};
-ghost use Rattle.planus_cli.specs.Viewing.{SplitsSized, EndsEarly};
 
-use crate::arguments::{Words, number_of};
-use crate::files::Files;
+use crate::arguments::{Words, limit};
+use crate::identifier::check_identifier;
+use crate::root::{root_of, say_no_root};
 use crate::said::{CLEAN, FAILED, FAULTY};
-use crate::shown::put_shown;
-use crate::sources::{bytes_of, schema_at};
+use crate::sized::{header, split_sized};
 use crate::streams::{CallError, say, write_out};
 use crate::viewing::{Limits, end_text, is_clean, is_cut, view_buffer};
 use planus_dump::{End, Seen, view};
 use planus_inspect::dump_schema;
-use planus_schema::{Body, Declared, Schema};
+use planus_schema::Schema;
 use std::alloc::{AllocError, Global};
 use std::io::Write;
 
@@ -28,110 +24,6 @@ const LINES: usize = 1000;
 
 /// The default of `--bytes`.
 const BYTES: usize = 1048576;
-
-/// Where the identifier begins, in bytes.
-const IDENTIFIER: usize = 4;
-
-fn limit(word: Option<&str>, otherwise: usize) -> usize
-    ensures { result ≡ spec.limit_of (option_map (λ w. w.now) word.entry) otherwise }
-{
-    match word {
-        Some(word) => number_of(word).unwrap_or(otherwise),
-        None => otherwise,
-    }
-}
-
-fn is_table_named(declared: &Declared, name: &str) -> bool
-    ensures { result ≡ spec.is_table_named name.now declared.now }
-{
-    matches!(declared.body, Body::Table(_)) && declared.name.as_slice() == name.as_bytes()
-}
-
-fn table_named(declared: &[Declared], name: &str) -> Option<usize>
-    ensures { result ≡ position (spec.is_table_named name.now) declared.now }
-{
-    let mut n = 0;
-    'declared: while n < declared.len() && !is_table_named(&declared[n], name) {
-        n += 1;
-    }
-    if n < declared.len() { Some(n) } else { None }
-}
-
-fn root_of(schema: &Schema, root: Option<&str>) -> Option<usize>
-    ensures { result ≡ spec.root_of schema.now (option_map (λ name. name.now) root.entry) }
-{
-    match root {
-        Some(name) => table_named(&schema.declarations, name),
-        None => schema.statements.root,
-    }
-}
-
-fn say_no_root<X: Write>(alloc: Global, root: Option<&str>, errors: &mut X) -> Result<(), CallError>
-    ensures said { OnOk result (Appends (X.contents errors.old) (X.contents errors.new)
-        (spec.no_root_text (option_map (λ name. name.now) root.entry))) }
-    ensures begun { OnErr result (WritesBeginning
-        (spec.no_root_text (option_map (λ name. name.now) root.entry))
-        (X.contents errors.old) (X.contents errors.new)) }
-{
-    match root {
-        Some(name) => say(alloc, errors, "the schema has no table `", name, "`"),
-        None => say(alloc, errors, "the schema has no root; see --root", "", ""),
-    }
-}
-
-fn has_identifier(bytes: &[u8], identifier: &[u8]) -> bool
-    ensures { result ≡ spec.has_identifier identifier.now bytes.now }
-{
-    match bytes.get(IDENTIFIER..IDENTIFIER + 4) {
-        Some(found) => found == identifier,
-        None => false,
-    }
-}
-
-fn other_identifier(alloc: Global, name: &str, identifier: &[u8]) -> Result<Vec<u8>, AllocError>
-    ensures { IfOk result (λ text. text.items
-        ≡ spec.other_identifier_text name.now identifier.now) }
-{
-    let mut text = Vec::from_slice(alloc, b"planus: ")?;
-    put_shown(&mut text, name.as_bytes())?;
-    text.extend_from_slice(b" doesn't have the identifier `")?;
-    put_shown(&mut text, identifier)?;
-    text.extend_from_slice(b"`\n")?;
-    Ok(text)
-}
-
-fn check_identifier<X: Write>(
-    alloc: Global,
-    schema: &Schema,
-    name: &str,
-    bytes: &[u8],
-    errors: &mut X,
-) -> Result<bool, CallError>
-    ensures told { IfOk result (λ known. spec.ChecksIdentifier
-        (option_map (λ v. v.items) schema.now.statements.identifier) name.now bytes.now known
-        (X.contents errors.old) (X.contents errors.new)) }
-    ensures failed { OnErr result (spec.FailsIdentifier
-        (option_map (λ v. v.items) schema.now.statements.identifier) name.now bytes.now
-        (X.contents errors.old) (X.contents errors.new)) }
-{
-    match &schema.statements.identifier {
-        Some(identifier) if !has_identifier(bytes, identifier) => {
-            let text = other_identifier(alloc, name, identifier)?;
-            write_out(errors, &text)?;
-            Ok(false)
-        }
-        _ => Ok(true),
-    }
-}
-
-fn split_sized(bytes: &[u8]) -> Option<(&[u8], &[u8])>
-    ensures { MatchOption result (EndsEarly bytes.now)
-        (λ parts. SplitsSized bytes.now parts.0.now parts.1.now) }
-{
-    let (head, rest) = bytes.split_first_chunk::<4>()?;
-    let size = u32::from_le_bytes(*head) as usize;
-    rest.split_at_checked(size)
-}
 
 #[derive(Clone, Copy)]
 struct View<'a> {
@@ -206,18 +98,6 @@ fn view_alone<W: Write, X: Write>(
         Ok(one) => Ok(one.status),
         Err(error) => Err(error),
     }
-}
-
-/// Returns the line before a buffer, without its line feed.
-fn header(alloc: Global, number: usize, at: usize) -> Result<Vec<u8>, AllocError>
-    ensures { IfOk result (λ text. text.items ≡ spec.header_text number at) }
-{
-    let mut text = Vec::from_slice(alloc, b"buffer ")?;
-    text.extend_from_slice(format!(in alloc; "{number}")?.as_bytes())?;
-    text.extend_from_slice(b" at byte ")?;
-    text.extend_from_slice(format!(in alloc; "{at}")?.as_bytes())?;
-    text.push(b':')?;
-    Ok(text)
 }
 
 /// Returns which limit has no room for a line.
@@ -532,63 +412,4 @@ pub fn view_by<W: Write, X: Write>(
         },
     };
     view_bytes(alloc, schema, how, name, bytes, writer, errors)
-}
-
-/// Reads a file, and does what [`view_by`] does.
-fn view_by_file<F: Files, W: Write, X: Write>(
-    files: &F,
-    alloc: Global,
-    schema: &Schema,
-    words: &Words<'_>,
-    name: &str,
-    writer: &mut W,
-    errors: &mut X,
-) -> Result<u8, CallError>
-    ensures { IfOk result (λ status. ViewsFile (F.disk files.now) schema.now (words_of words.now)
-        name.now status (W.contents writer.old) (W.contents writer.new)
-        (X.contents errors.old) (X.contents errors.new)) }
-{
-    match bytes_of(files, alloc, name, errors)? {
-        Some(bytes) => view_by(alloc, schema, words, name, &bytes, writer, errors),
-        None => Ok(FAILED),
-    }
-}
-
-/// Reads a schema, and does what [`view_by_file`] does.
-fn view_pair<F: Files, W: Write, X: Write>(
-    files: &F,
-    alloc: Global,
-    words: &Words<'_>,
-    schema: &str,
-    buffer: &str,
-    writer: &mut W,
-    errors: &mut X,
-) -> Result<u8, CallError>
-    ensures { IfOk result (λ status. ViewsPair (F.disk files.now) (words_of words.now)
-        schema.now buffer.now status (W.contents writer.old) (W.contents writer.new)
-        (X.contents errors.old) (X.contents errors.new)) }
-{
-    let found = schema_at(files, alloc, &words.folders, schema, errors)?;
-    match &found {
-        Ok(schema) => view_by_file(files, alloc, schema, words, buffer, writer, errors),
-        Err(status) => Ok(*status),
-    }
-}
-
-/// Writes what a buffer holds by a schema, both of which are files. Returns the exit status.
-pub fn view_file<F: Files, W: Write, X: Write>(
-    files: &F,
-    alloc: Global,
-    words: &Words<'_>,
-    writer: &mut W,
-    errors: &mut X,
-) -> Result<u8, CallError>
-    ensures { IfOk result (λ status. ViewsFiles (F.disk files.now) (words_of words.now)
-        (words_of words.now).files status (W.contents writer.old) (W.contents writer.new)
-        (X.contents errors.old) (X.contents errors.new)) }
-{
-    match words.files.as_slice() {
-        [schema, buffer] => view_pair(files, alloc, words, *schema, *buffer, writer, errors),
-        _ => Ok(FAILED),
-    }
 }

@@ -66,7 +66,7 @@ pub returns-in_default-clause-views : goal.returns-in_default-clause-views
 returns-in_default-clause-views g c =
     let some : length c.buffers.rest.now ≢ 0 = search rules in
     c.buffers.invariant.views [] 1 (g.W.Write.contents c.buffers.writer) (g.X.Write.contents c.say.new.errors)
-    (ended_early (look_left (look_of c.args.view.now) c.buffers.left) c.buffers.rest.now c.buffers.worst (g.W.Write.contents c.buffers.writer)
+    (ended_early c.args.view.now.name.now c.buffers.rest.now c.buffers.worst (g.W.Write.contents c.buffers.writer)
     (g.X.Write.contents c.buffers.errors) (g.X.Write.contents c.say.new.errors) some c.in_default.ensures c.in_ok-say.ensures.said)
 
 pub returns-then-one-clause-views : goal.returns-then-one-clause-views
@@ -81,5 +81,5 @@ pub returns-clause-views : goal.returns-clause-views
 returns-clause-views g c =
     let none : length c.buffers.rest.now ≡ 0 = search rules in
     c.buffers.invariant.views [] c.buffers.worst (g.W.Write.contents c.buffers.writer) (g.X.Write.contents c.buffers.errors)
-    (ended (look_left (look_of c.args.view.now) c.buffers.left) c.buffers.rest.now c.buffers.worst (g.W.Write.contents c.buffers.writer)
+    (ended c.args.view.now.name.now c.buffers.rest.now c.buffers.worst (g.W.Write.contents c.buffers.writer)
     (g.X.Write.contents c.buffers.errors) none)

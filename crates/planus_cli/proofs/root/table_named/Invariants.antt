@@ -1,7 +1,7 @@
 use Rattle.std.proofs.Common.{◌≡◌, ◌≤◌, ◌+◌, ◌-◌, drop, length}
 use Rattle.std.specs.List.{position_or_len}
 use Rattle.planus_cli.specs.Buffers.{is_table_named}
-use Rattle.planus_cli.proofs.view.table_named.Given as goal
+use Rattle.planus_cli.proofs.root.table_named.Given as goal
 
 abbrev pub invariant-declared : goal.invariant-declared
 invariant-declared l = record {

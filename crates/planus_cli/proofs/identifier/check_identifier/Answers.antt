@@ -5,7 +5,7 @@ use Rattle.std.specs.Io.KnownBytes.{Appends}
 use Rattle.planus_dump.specs.Writing.{WritesBeginning}
 use Rattle.planus_cli.specs.Buffers.{has_identifier, other_identifier_text}
 use Rattle.planus_cli.proofs.Failing.{on_err, none_begun, other_begun, other_said}
-use Rattle.planus_cli.proofs.view.check_identifier.Goals as goal
+use Rattle.planus_cli.proofs.identifier.check_identifier.Goals as goal
 
 pub returns-in_err-text-in-Some-clause-failed : goal.returns-in_err-text-in-Some-clause-failed
 returns-in_err-text-in-Some-clause-failed g c =
