@@ -19,7 +19,7 @@ OTHER = re.compile(r"\| dot .*")
 
 # The words of a call up to where it is completed, and what may stand there.
 COMPLETED = {
-    ("",): "check format view rattle dot conform completions help",
+    ("",): "check format view json rattle dot conform completions help",
     ("c",): "check conform completions",
     ("--v",): "--version",
     ("view", ""): "",

@@ -21,6 +21,7 @@ CANT_WRITE = b"planus: can't write\n"
 WRITING = [
     ["view", SCHEMA, BUFFER],
     ["view", "--lines", "100000", "--bytes", "10000000", "wide.fbs", "wide.bin"],
+    ["json", "wide.fbs", "wide.bin"],
     ["format", SCHEMA],
     ["help"],
     ["view", "--help"],

@@ -36,7 +36,7 @@ abbrev pub strictly : Bool → List ℕ → List ℕ
 strictly true text = 34 ∷ (text ++ codes "\"")
 strictly false text = text
 
--- A decimal that reads back to the same bits; where `std` prints none, the bits in quotes.
+-- A decimal that reads back to the same bits, or the bits in quotes. No clause says which of these.
 abbrev pub IsFloatText : Bool → Bits → List ℕ → Type 0
 IsFloatText strict b text =
     (IsNan b × (text ≡ strictly strict (codes "nan")))

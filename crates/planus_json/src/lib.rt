@@ -12,8 +12,6 @@ mod leaves;
 mod printer;
 mod readings;
 mod strings;
-#[cfg(test)]
-mod tests;
 mod unions;
 mod walk;
 mod whole;
