@@ -15,10 +15,12 @@ A case is some lines of a file, and an empty line ends it. The first mark of a l
     s.fbs> table A {        a line that the file has afterwards
     # ..                    a comment
 
-After a `view` of a file of bytes that is as the case says, it is viewed with each byte changed: the
-call has to end with a status of 0 or 1 and within the limits.
+After a `view` or a `json` of a file of bytes that is as the case says, it is shown with each byte
+changed: the call has to end with a status of 0 or 1 and within the limits. What `json --strict` prints
+of one buffer has to be JSON or nothing.
 """
 
+import json
 import pathlib
 import re
 import subprocess
@@ -29,6 +31,11 @@ HERE = pathlib.Path(__file__).resolve().parent
 
 LINES = 50
 BYTES = 2000
+
+LIMITS = {
+    "view": ["--lines", str(LINES), "--bytes", str(BYTES)],
+    "json": ["--strict", "--bytes", str(BYTES)],
+}
 
 
 class Case:
@@ -92,17 +99,32 @@ def text_of(written):
     return written.decode(errors="backslashreplace")
 
 
+def is_json(text):
+    try:
+        json.loads(text)
+    except ValueError:
+        return False
+    return True
+
+
+def ends_within(case, ended):
+    """Whether a call ended within the limits."""
+    if ended.returncode not in (0, 1) or len(ended.stdout) > BYTES + LINES + 40:
+        return False
+    is_one = case.words[0] == "json" and "--size-prefixed" not in case.words
+    return not is_one or not ended.stdout or is_json(ended.stdout)
+
+
 def ends_damaged(program, folder, case):
     """Whether the call ends within the limits for each change of a byte of a file."""
-    limits = ["--lines", str(LINES), "--bytes", str(BYTES)]
+    limits = LIMITS[case.words[0]]
     for name, whole in case.bytes.items():
         for at in range(len(whole)):
             for change in (1, 127, 255):
                 damaged = bytearray(whole)
                 damaged[at] ^= change
                 (folder / name).write_bytes(damaged)
-                ended = called(program, folder, case, limits)
-                if ended.returncode not in (0, 1) or len(ended.stdout) > BYTES + LINES + 40:
+                if not ends_within(case, called(program, folder, case, limits)):
                     return False
     return True
 
@@ -120,7 +142,8 @@ def difference(program, folder, case):
     for name, text in case.left.items():
         if (folder / name).read_bytes() != text.encode():
             return f"{name} holds {(folder / name).read_bytes()}"
-    if case.words[:1] == ["view"] and not ends_damaged(program, folder, case):
+    shows = bool(case.words) and case.words[0] in LIMITS
+    if shows and not ends_damaged(program, folder, case):
         return "it doesn't end so for each changed byte"
     return ""
 
