@@ -1,5 +1,5 @@
 -- What `json` writes of a file of buffers.
-use Rattle.std.specs.Prelude.{◌≡◌, ⊥, ℕ, Bool, true, false, ◌&&◌, ◌+◌, List, [], ◌∷◌, ◌++◌, codes}
+use Rattle.std.specs.Prelude.{◌≡◌, ℕ, Bool, true, false, ◌&&◌, ◌+◌, List, [], ◌∷◌, ◌++◌, codes}
 use Rattle.std.specs.Prelude.{length, max, MatchBool, Option, Some, None, Result, Ok, Err}
 use Rattle.std.specs.Option.{option_map}
 use Rattle.std.specs.String.{string_bytes}

@@ -9,10 +9,10 @@ ghost use Rattle.planus_cli.specs.Arguments.{words_of};
 
 use crate::arguments::{Words, limit};
 use crate::identifier::check_identifier;
+use crate::prefixed::{header, split_sized};
 use crate::root::{root_of, say_no_root};
 use crate::said::{CLEAN, FAILED, FAULTY};
 use crate::shown::put_shown;
-use crate::sized::{header, split_sized};
 use crate::streams::{CallError, say, write_out};
 use planus_inspect::dump_schema;
 use planus_json::{JsonError, Layout, json};

@@ -8,9 +8,9 @@ ghost use Rattle.planus_cli.specs.Arguments.{words_of};
 
 use crate::arguments::{Words, limit};
 use crate::identifier::check_identifier;
+use crate::prefixed::{header, split_sized};
 use crate::root::{root_of, say_no_root};
 use crate::said::{CLEAN, FAILED, FAULTY};
-use crate::sized::{header, split_sized};
 use crate::streams::{CallError, say, write_out};
 use crate::viewing::{Limits, end_text, is_clean, is_cut, view_buffer};
 use planus_dump::{End, Seen, view};
