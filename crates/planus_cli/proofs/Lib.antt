@@ -11,6 +11,7 @@ pub mod Seen
 mod ViewedBuffer
 mod Failing
 mod Led
+mod PrintedJson
 pub mod Listed
 mod Rows
 pub mod Conformed

@@ -1,5 +1,5 @@
 -- What `json` writes of a file of buffers.
-use Rattle.std.specs.Prelude.{◌≡◌, ℕ, Bool, true, false, ◌&&◌, ◌+◌, List, [], ◌∷◌, ◌++◌, codes}
+use Rattle.std.specs.Prelude.{◌≡◌, ℕ, Bool, true, false, ◌&&◌, not, ◌+◌, List, [], ◌∷◌, ◌++◌, codes}
 use Rattle.std.specs.Prelude.{length, max, MatchBool, Option, Some, None, Result, Ok, Err}
 use Rattle.std.specs.Option.{option_map}
 use Rattle.std.specs.String.{string_bytes}
@@ -62,32 +62,32 @@ SaysFault name place error unsaid said = SaysReason name place (reason error) un
 -- The text and a line break were written, and nothing was said; or only the fault was.
 abbrev pub PrintsOutcome : List ℕ → Option Numbered → Result (String Global) JsonError → Bool
     → Option (List ℕ) → Option (List ℕ) → Option (List ℕ) → Option (List ℕ) → Type 0
-PrintsOutcome name place (Ok text) whole before after unsaid said =
-    (whole ≡ true) × Appends before after (string_bytes text ++ codes "\n") × (said ≡ unsaid)
-PrintsOutcome name place (Err error) whole before after unsaid said =
-    (whole ≡ false) × (after ≡ before) × SaysFault name place error unsaid said
+PrintsOutcome name place (Ok text) fault before after unsaid said =
+    (fault ≡ false) × Appends before after (string_bytes text ++ codes "\n") × (said ≡ unsaid)
+PrintsOutcome name place (Err error) fault before after unsaid said =
+    (fault ≡ true) × (after ≡ before) × SaysFault name place error unsaid said
 
--- The JSON of a buffer was written, or its first fault said. `whole`: it has no fault.
-pub record PrintsValue (how : Manner) (place : Option Numbered) (bytes : List ℕ) (whole : Bool)
+-- The JSON of a buffer was written, or its first fault said. `fault`: it has one.
+pub record PrintsValue (how : Manner) (place : Option Numbered) (bytes : List ℕ) (fault : Bool)
     (before after unsaid said : Option (List ℕ)) : Type 0 where
   pub outcome : Result (String Global) JsonError
   pub is : IsJson how.schema bytes how.layout how.most outcome
-  pub printed : PrintsOutcome how.name place outcome whole before after unsaid said
+  pub printed : PrintsOutcome how.name place outcome fault before after unsaid said
 
 -- `known`: the buffer has the schema's identifier.
 abbrev pub printed_of : Bool → Bool → Printed
-printed_of known whole = record { status = status_of (known && whole); is_whole = whole }
+printed_of known fault = record { status = status_of (known && not fault); has_fault = fault }
 
 -- What is wrong with the identifier was said; and the JSON was written, or the fault said. The status
 -- is 0 if nothing was said.
 pub record PrintsOne (how : Manner) (place : Option Numbered) (bytes : List ℕ) (one : Printed)
     (before after unsaid said : Option (List ℕ)) : Type 0 where
   pub known : Bool
-  pub whole : Bool
+  pub fault : Bool
   pub told : Option (List ℕ)
   pub checks : ChecksIdentifier how.identifier how.name bytes known unsaid told
-  pub prints : PrintsValue how place bytes whole before after told said
-  pub is : one ≡ printed_of known whole
+  pub prints : PrintsValue how place bytes fault before after told said
+  pub is : one ≡ printed_of known fault
 
 -- the same, of a file that is one buffer
 abbrev pub PrintsAlone : Manner → List ℕ → ℕ → Option (List ℕ) → Option (List ℕ)
@@ -127,10 +127,10 @@ PrintsSized how number at [] bytes worst status before after unsaid said =
     EndsSized how.name bytes worst status before after unsaid said
 PrintsSized how number at (buffer ∷ buffers) bytes worst status before after unsaid said =
     PrintsFirst how number at buffer bytes before unsaid (λ rest one written told.
-    MatchBool one.is_whole
+    MatchBool one.has_fault
+    (EndsFaulty buffers status written after told said)
     (PrintsSized how (number + 1) (at + (4 + length buffer)) buffers rest
-    (max worst one.status) status written after told said)
-    (EndsFaulty buffers status written after told said))
+    (max worst one.status) status written after told said))
 
 -- One buffer was printed, or several, each after its size.
 abbrev pub Prints : Bool → Manner → List ℕ → ℕ → Option (List ℕ) → Option (List ℕ)

@@ -46,16 +46,15 @@ struct Numbered {
 #[derive(Clone, Copy)]
 struct Printed {
     status: u8,
-    /// Whether it has no fault.
-    is_whole: bool,
+    has_fault: bool,
 }
 
-fn printed_of(known: bool, whole: bool) -> Printed
-    ensures { result ≡ spec.printed_of known whole }
+fn printed_of(known: bool, fault: bool) -> Printed
+    ensures { result ≡ spec.printed_of known fault }
 {
     Printed {
-        status: if known && whole { CLEAN } else { FAULTY },
-        is_whole: whole,
+        status: if known && !fault { CLEAN } else { FAULTY },
+        has_fault: fault,
     }
 }
 
@@ -128,7 +127,7 @@ fn print_line<W: Write>(text: String, writer: &mut W) -> Result<(), CallError>
     write_out(writer, line.as_bytes())
 }
 
-/// Writes the JSON of a buffer and a line break, or says why it has none. Returns whether it has.
+/// Writes the JSON of a buffer and a line break, or says its fault. Returns whether it has one.
 fn print_value<W: Write, X: Write>(
     alloc: Global,
     print: &Print<'_>,
@@ -137,18 +136,18 @@ fn print_value<W: Write, X: Write>(
     writer: &mut W,
     errors: &mut X,
 ) -> Result<bool, CallError>
-    ensures { IfOk result (λ whole. spec.PrintsValue (spec.manner_of print.now) place bytes.now
-        whole (W.contents writer.old) (W.contents writer.new)
+    ensures { IfOk result (λ fault. spec.PrintsValue (spec.manner_of print.now) place bytes.now
+        fault (W.contents writer.old) (W.contents writer.new)
         (X.contents errors.old) (X.contents errors.new)) }
 {
     match json(alloc, print.shown, bytes, print.layout, print.most) {
         Ok(text) => {
             print_line(text, writer)?;
-            Ok(true)
+            Ok(false)
         }
         Err(error) => {
             say_fault(alloc, print.name, place, &error, errors)?;
-            Ok(false)
+            Ok(true)
         }
     }
 }
@@ -166,8 +165,8 @@ fn print_one<W: Write, X: Write>(
         (X.contents errors.old) (X.contents errors.new)) }
 {
     let known = check_identifier(alloc, print.schema, print.name, bytes, errors)?;
-    let whole = print_value(alloc, print, place, bytes, writer, errors)?;
-    Ok(printed_of(known, whole))
+    let fault = print_value(alloc, print, place, bytes, writer, errors)?;
+    Ok(printed_of(known, fault))
 }
 
 fn print_alone<W: Write, X: Write>(
@@ -211,10 +210,10 @@ fn print_sized<W: Write, X: Write>(
             at: at + 4,
         });
         let one = print_one(alloc, print, place, buffer, writer, errors)?;
-        worst = worst.max(one.status);
-        if !one.is_whole {
-            return Ok(worst);
+        if one.has_fault {
+            return Ok(FAULTY);
         }
+        worst = worst.max(one.status);
         number += 1;
         at += 4 + buffer.len();
         rest = after;

@@ -29,3 +29,29 @@ returns-in-Format g c =
     subst (λ request. Runs disk (asked request) status before after unsaid said) (sym c.in-Run.is)
     (subst (λ command. RunsCommand disk command (words_of c.in-Run.words) status before after unsaid said) (sym c.in-Format.is) runs))
     c.run_files-in-Format.ensures
+
+pub returns-in-View : goal.returns-in-View
+returns-in-View g c =
+    let disk = g.F.Files.disk c.args.files.now in
+    let before = g.W.Write.contents c.args.writer.now in
+    let after = g.W.Write.contents c.show_files.new.writer in
+    let unsaid = g.X.Write.contents c.args.errors.now in
+    let said = g.X.Write.contents c.show_files.new.errors in
+    if_ok c.show_files.result
+    (λ status runs.
+    subst (λ request. Runs disk (asked request) status before after unsaid said) (sym c.in-Run.is)
+    (subst (λ command. RunsCommand disk command (words_of c.in-Run.words) status before after unsaid said) (sym c.in-View.is) runs))
+    c.show_files.ensures
+
+pub returns-in-Json : goal.returns-in-Json
+returns-in-Json g c =
+    let disk = g.F.Files.disk c.args.files.now in
+    let before = g.W.Write.contents c.args.writer.now in
+    let after = g.W.Write.contents c.show_files-in-Json.new.writer in
+    let unsaid = g.X.Write.contents c.args.errors.now in
+    let said = g.X.Write.contents c.show_files-in-Json.new.errors in
+    if_ok c.show_files-in-Json.result
+    (λ status runs.
+    subst (λ request. Runs disk (asked request) status before after unsaid said) (sym c.in-Run.is)
+    (subst (λ command. RunsCommand disk command (words_of c.in-Run.words) status before after unsaid said) (sym c.in-Json.is) runs))
+    c.show_files-in-Json.ensures
