@@ -1,10 +1,10 @@
 -- What is told of breaks, and renames.
-use Rattle.std.proofs.Common.{◌≡◌, ℕ, Bool, List, [], ◌∷◌, ◌++◌, Option, map, refl, sym, ap, ◌∙◌, append-nil, append_assoc}
+use Rattle.std.proofs.Common.{◌≡◌, ℕ, Bool, List, [], ◌∷◌, ◌++◌, map, refl, sym, ap, ◌∙◌, append-nil, append_assoc}
 use Rattle.std.specs.Borrow.{Bor}
 use Rattle.planus_conform.specs.declared.breaks.Break.{Break}
 use Rattle.planus_conform.specs.declared.rename.Rename.{Rename}
 use Rattle.planus_cli.specs.declared.meaning.Meaning.{Meaning}
-use Rattle.planus_cli.specs.Conforming.{IsRenameOf, AreRenamesOf, AreWritten, TellsAll, status_of}
+use Rattle.planus_cli.specs.Conforming.{IsRenameOf, AreRenamesOf}
 use Rattle.planus_cli.specs.Telling.{TellsBreak, TellsBreaks}
 
 -- one more break
@@ -33,21 +33,3 @@ renames_push [] [] w r are is = (is, tt)
 renames_push [] (q ∷ rs) w r are is = absurd are
 renames_push (v ∷ ws) [] w r are is = absurd are
 renames_push (v ∷ ws) (q ∷ rs) w r are is = (are.0, renames_push ws rs w r are.1 is)
-
--- nothing is told
-pub tells_none : (json : Bool) (rs : List Rename) (old new : Meaning) (bs : List Break) (before unsaid : Option (List ℕ)) → bs ≡ []
-    → TellsAll json rs old new bs before before unsaid unsaid
-tells_none json rs old new [] before unsaid none = (refl, refl)
-tells_none json rs old new (b ∷ bs) before unsaid none = absurd cc
-
--- all is told
-pub tells_some : (json : Bool) (rs : List Rename) (old new : Meaning) (bs : List Break) (out : List ℕ)
-    (before after unsaid said : Option (List ℕ)) → ¬ (bs ≡ [])
-    → TellsBreaks json rs old new bs out → AreWritten json out before after unsaid said → TellsAll json rs old new bs before after unsaid said
-tells_some json rs old new [] out before after unsaid said some are written = absurd (some refl)
-tells_some json rs old new (b ∷ bs) out before after unsaid said some are written = (out, are, written)
-
--- with status 0 nothing breaks
-pub none_breaks : (bs : List Break) → status_of bs ≡ 0 → bs ≡ []
-none_breaks [] e = refl
-none_breaks (b ∷ bs) e = absurd cc

@@ -111,7 +111,8 @@ crate's name. A file that has its text already is left alone.
   -o FOLDER        the folder of the crate, which is made if it isn't there
   --check          writes nothing, and says which files aren't what is printed
   --no-verified    prints no views of verified buffers, so that less is to be proved
-  --c PREFIX       prints a crate with calls for C too, FOLDER_c, and PREFIX.h in it;
+  --c PREFIX       prints a crate with calls for C too, FOLDER_c, and in it PREFIX.h,
+                   and PREFIX.hpp, PREFIX.py and PREFIX.rs for C++, Python and Rust;
                    the names of calls begin with PREFIX
   -I FOLDER        included files are sought in this folder too
 
