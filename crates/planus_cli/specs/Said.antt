@@ -30,7 +30,7 @@ abbrev pub said_view : Said → SaidV
 said_view said = record { wrong = said.wrong; text = said.text.items }
 
 -- the words that a call may begin with
-abbrev pub command_words : List (List ℕ)
+unfoldable pub command_words : List (List ℕ)
 command_words = codes "check" ∷ codes "format" ∷ codes "view" ∷ codes "json" ∷ codes "rattle"
     ∷ codes "dot" ∷ codes "conform" ∷ codes "completions" ∷ codes "help"
     ∷ codes "--help" ∷ codes "-h" ∷ codes "--version" ∷ codes "-V" ∷ []

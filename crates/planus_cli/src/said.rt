@@ -216,6 +216,7 @@ pub struct Said {
     pub text: Vec<u8>,
 }
 
+#[tactic(auto, unfolding(crate::specs::Said::command_words))]
 fn command_words() -> &'static [&'static str]
     ensures { map (λ w. w.now) result.now ≡ spec.command_words }
 {
