@@ -1,5 +1,5 @@
 -- What is read of a table by its field lines.
-use Rattle.std.proofs.Common.{◌≡◌, ℕ, List, [], ◌∷◌, ◌++◌, map, refl, sym, subst, ap, ◌∙◌, Bool, true, false, Option, Result, Ok, Err, to_z-of_z}
+use Rattle.std.proofs.Common.{◌≡◌, ℕ, List, [], ◌∷◌, ◌++◌, map, refl, sym, subst, ap, ◌∙◌, Bool, true, false, Option, Some, None, Result, Ok, Err, to_z-of_z}
 use Rattle.std.specs.Prelude.{not, ◌==◌, if◌then◌else◌, ⊤, IfOk, IsOkAnd}
 use Rattle.std.specs.Ordering.{int_eq}
 use Rattle.std.proofs.lemmas.Bool.{and_parts, eqb-true, eqb-false, eq-eqb, ne_eqb, not-true}
@@ -18,6 +18,7 @@ use Rattle.planus.specs.ReadPlain.{IsPlainFieldOr}
 use Rattle.planus.specs.ReadBack.{SlotHolds, TableHolds, content_at, is_other, are_apart}
 use Rattle.planus.specs.FieldLines.{FieldLine, holds_first, holds_last, all_first, all_last}
 use Rattle.planus.specs.FieldLines.{contents_of, Returns, ReturnsGiven, AllReturnGiven}
+use Rattle.planus.specs.FieldLines.{UnionOfIsRead, UnionsAreRead}
 use Rattle.planus.specs.KeptValues.{ValuesStandIn}
 use Rattle.planus.specs.FieldLines.{KeptTablesStandIn, RootIsRead, LinesReadBack}
 use Rattle.planus.specs.FieldLines.FieldLine.{optional, required, plain_if, plain_or, number_or, signed_or, union, union_required, unions, unions_required}
@@ -120,6 +121,33 @@ module _ (B : List ℕ) (table : Table) where
         (last_hold (holds_last line) (all_last lines) last),
   )
 
+  module _ (builder : State) (keeps_values : ValuesStandIn B builder) where
+    union_is_read : (line : FieldLine) → AllHold (holds_first line) → AllHold (holds_last line)
+        → UnionOfIsRead builder table line
+    union_is_read (union variants slot (Some given)) first last =
+        record { bytes = B; keeps_values = keeps_values; tag = last.0; value = first.0 }
+    union_is_read (union variants slot None) first last = tt
+    union_is_read (union_required variants slot given) first last =
+        record { bytes = B; keeps_values = keeps_values; tag = last.0; value = first.0 }
+    union_is_read (optional kind slot given) first last = tt
+    union_is_read (required kind slot given) first last = tt
+    union_is_read (plain_if shape slot given) first last = tt
+    union_is_read (plain_or shape equal slot default given) first last = tt
+    union_is_read (number_or shape slot default given) first last = tt
+    union_is_read (signed_or shape width slot default given) first last = tt
+    union_is_read (unions T slot given) first last = tt
+    union_is_read (unions_required T slot given) first last = tt
+
+    unions_are_read : (lines : List FieldLine) → AllHold (all_first lines) → AllHold (all_last lines)
+        → UnionsAreRead builder table lines
+    unions_are_read [] first last = tt
+    unions_are_read (line ∷ lines) first last = (
+      union_is_read line (first_hold (holds_first line) (all_first lines) first)
+          (first_hold (holds_last line) (all_last lines) last),
+      unions_are_read lines (last_hold (holds_first line) (all_first lines) first)
+          (last_hold (holds_last line) (all_last lines) last),
+    )
+
 -- Where the table holds what the lines say, each method returns what was given.
 pub reads_back : (builder : State) (lines : List FieldLine) (B : List ℕ) (table : Table)
     → KeptTablesStandIn B builder → ValuesStandIn B builder → TableHolds B (contents_of lines) table
@@ -132,6 +160,9 @@ reads_back builder lines B table keeps keeps_values holds apart =
       keeps_values = keeps_values;
       holds = holds;
       returns = all_given_back B table lines (first_hold B table (all_first lines) (all_last lines) hold)
+          (last_hold B table (all_first lines) (all_last lines) hold);
+      unions = unions_are_read B table builder keeps_values lines
+          (first_hold B table (all_first lines) (all_last lines) hold)
           (last_hold B table (all_first lines) (all_last lines) hold);
     }
 

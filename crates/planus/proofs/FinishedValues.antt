@@ -1,5 +1,5 @@
 -- What is stored is encoded in a finish.
-use Rattle.std.proofs.Common.{◌≡◌, ℕ, ◌+◌, ◌-◌, ◌*◌, ◌≤◌, List, [], ◌∷◌, ◌++◌, length, drop, replicate}
+use Rattle.std.proofs.Common.{◌≡◌, ℕ, ◌+◌, ◌*◌, ◌≤◌, List, [], ◌++◌, length, drop, replicate}
 use Rattle.std.proofs.Common.{refl, sym, subst, ap, ◌∙◌, arith, append_assoc, length-append, None, Ok}
 use Rattle.std.proofs.lemmas.List.{drop-append-le}
 use Rattle.planus_back.specs.Promises.{Keep}

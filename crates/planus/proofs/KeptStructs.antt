@@ -1,5 +1,5 @@
 -- A struct that is written by itself is stored.
-use Rattle.std.proofs.Common.{ℕ, List, [], ◌∷◌, length, refl, sym, subst, Result, Ok, Err}
+use Rattle.std.proofs.Common.{ℕ, ◌≤◌, [], ◌∷◌, length, refl, sym, subst, Result, Ok, Err}
 use Rattle.std.specs.Prelude.{IfOk}
 use Rattle.planus_read.specs.Plain.{IsLayout, Shape}
 use Rattle.planus_read.specs.Values.{Plain, apart}
@@ -14,7 +14,7 @@ use Rattle.planus_write.specs.lemmas.ContentLaws.{value_added}
 use Rattle.planus_write.specs.lemmas.Laws.{entry_is_lawful}
 use Rattle.planus_write.specs.lemmas.Staying.{kept_stays}
 use Rattle.planus_read.specs.Stands.{Stands}
-use Rattle.planus.specs.KeptValues.{KeepsValue, StandsFromEnd}
+use Rattle.planus.specs.KeptValues.{KeepsValue, StandsFromEnd, StructStandsIn}
 
 module _ {T : Type 0} (item : Plain) (layout : IsLayout (length item.bytes) item.alignment)
     (old new : State) where
@@ -38,6 +38,13 @@ module _ {T : Type 0} (item : Plain) (layout : IsLayout (length item.bytes) item
       subst (λ B. Stands B (position_in B (named_at offset.distance)) (apart item)) after.1.bytes
       after.3.1.stands
   stands history is (Err error) done = tt
+
+  pub stands_in : (r : Result (Offset T) BuildError)
+      → IfOk r (λ offset. StandsFromEnd new.bytes (apart item) offset.distance)
+      → IfOk r (λ offset. offset.distance ≤ length new.bytes)
+      → IfOk r (λ offset. StructStandsIn new item.bytes offset.distance)
+  stands_in (Ok offset) stands reached = record { reached = reached; stands = stands }
+  stands_in (Err error) stands reached = tt
 
   pub grows : (r : Result (Offset T) BuildError) → WritesApart item old r new → Grows old new
   grows r done = (entry_is_lawful {X = Plain} {T = T} apart_entry).grows item old r new tt done

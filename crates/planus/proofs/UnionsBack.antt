@@ -11,9 +11,15 @@ use Rattle.planus_read.specs.Stands.{ApartStands}
 use Rattle.planus_write.specs.Contents.{Content, written}
 use Rattle.planus_write.specs.declared.union_offset.UnionOffset.{UnionOffset}
 use Rattle.planus.specs.Accessors.{SameIf}
+use Rattle.planus.specs.UnionAccessors.{IsUnionField, IsUnionRequired}
 use Rattle.planus.specs.UnionsBack.{HasTag, VariantsReadBack, RequiredVariantsReadBack}
 use Rattle.planus.specs.UnionsBack.{VariantItemsReadBack, StructsHaveTheirBytes, HasStruct}
-use Rattle.planus.specs.UnionsBack.{StructsOfUnionsReadBack}
+use Rattle.planus.specs.UnionsBack.{StructsOfUnionsReadBack, StructIsAt}
+use Rattle.planus.specs.UnionsBack.{ReturnsStruct, ReturnsRequiredStruct}
+use Rattle.planus_read.specs.declared.table_reader.Table.{Table}
+use Rattle.planus_read.specs.Tables.{ReadsBoth}
+use Rattle.planus_read.specs.Values.{apart}
+use Rattle.planus.specs.Unions.{HasVariants}
 use Rattle.planus.specs.Unions.{UnionVariant, struct_variant, tag_of, has_tag, variant_at}
 use Rattle.planus.specs.Unions.{IsKnown, VariantStands, EachStands, UnionStands, IsVariant, IsUnion}
 
@@ -206,3 +212,70 @@ structs_read_back {K} {U} variants tag size slice_of has B table slot given retu
     there (Ok (Some one)) h = parts.1 one h
     there (Ok None) h = h
     there (Err e) h = h
+
+module _ {K U : Type 0} (reads : ReadsBoth U) (bytes : List ℕ) (given : UnionOffset K) (table : Table)
+    (slot : ℕ) (is : StructIsAt reads bytes given table slot)
+  where
+    abbrev content : Content
+    content = written given.offset.distance
+
+    abbrev buffer : List ℕ
+    buffer = is.is_read.bytes
+
+    module _ (variants : List (UnionVariant U)) (size : ℕ) (slice_of : U → Option SliceWithStartOffset)
+        (has : HasVariants reads variants)
+        (has_tag : HasTag variants given.tag (struct_variant given.tag size slice_of))
+        (sized : length bytes ≡ size)
+      where
+        -- it stands in the buffer as the struct of the variant
+        stands_as : VariantStands (struct_variant given.tag size slice_of) buffer content
+            × ((one : U) → IsVariant (struct_variant given.tag size slice_of) buffer content one
+            → HasStruct slice_of bytes one)
+        stands_as =
+            structs_have_bytes given.tag size slice_of buffer bytes 1 given.offset.distance sized
+            (is.is_read.keeps_values (apart (record { bytes = bytes; alignment = 1 }))
+            given.offset.distance is.stands.reached is.stands.stands)
+
+        union_is : UnionStands variants buffer given.tag content
+        union_is =
+            union_stands buffer content variants given.tag (struct_variant given.tag size slice_of)
+            has_tag stands_as.0
+
+        struct_of : (one : U) → IsUnion variants buffer given.tag content one
+            → HasStruct slice_of bytes one
+        struct_of one is_union =
+            stands_as.1 one (variant_read buffer content variants given.tag
+            (struct_variant given.tag size slice_of) has_tag.only one is_union)
+
+        found_struct : (r : Result (Option U) Error)
+            → IsOkAnd r (λ found. IsSomeAnd found (IsUnion variants buffer given.tag content))
+            → IsOkAnd r (λ found. IsSomeAnd found (HasStruct slice_of bytes))
+        found_struct (Ok (Some one)) h = struct_of one h
+        found_struct (Ok None) h = h
+        found_struct (Err e) h = h
+
+        read_struct : (r : Result U Error) → IsOkAnd r (IsUnion variants buffer given.tag content)
+            → IsOkAnd r (HasStruct slice_of bytes)
+        read_struct (Ok one) h = struct_of one h
+        read_struct (Err e) h = h
+
+    pub given_is_read : (type_ method : List ℕ) (r : Result (Option U) Error)
+        → IsUnionField reads table slot type_ method K r → ReturnsStruct reads given.tag bytes r
+    given_is_read type_ method r field =
+        record {
+          has = λ variants size slice_of has has_tag sized.
+              found_struct variants size slice_of has has_tag sized r
+              (field.read_back_if buffer variants has (Some given) is.is_read.tag is.is_read.value
+              (union_is variants size slice_of has has_tag sized));
+        }
+
+    pub required_is_read : (type_ method : List ℕ) (r : Result U Error)
+        → IsUnionRequired reads table slot type_ method r
+        → ReturnsRequiredStruct reads given.tag bytes r
+    required_is_read type_ method r field =
+        record {
+          has = λ variants size slice_of has has_tag sized.
+              read_struct variants size slice_of has has_tag sized r
+              (field.read_back buffer variants has given.tag content is.is_read.tag is.is_read.value
+              (union_is variants size slice_of has has_tag sized));
+        }

@@ -28,7 +28,7 @@ use Rattle.planus.specs.Holds.{holds_any_union_tags, holds_any_union_values, hol
 use Rattle.planus.specs.Holds.{holds_union_values, as_signed}
 use Rattle.planus.specs.Contents.{TableIsKept, WritesContents}
 use Rattle.planus.specs.KeptValues.{ValuesStandIn}
-use Rattle.planus.specs.ReadBack.{ContentsStand, TableHolds, are_apart}
+use Rattle.planus.specs.ReadBack.{ContentsStand, SlotHolds, TableHolds, are_apart}
 use Rattle.planus.specs.ReadPlain.{IsPlainField, IsPlainFieldOr}
 use Rattle.planus.specs.UnionAccessors.{IsUnionField, IsUnionRequired, IsUnionVector}
 use Rattle.planus.specs.UnionAccessors.{IsUnionVectorRequired, AreAnyUnions, AreUnionsOf}
@@ -189,6 +189,27 @@ RootIsRead table_of root identifier builder read =
     × KeptTablesStandIn B before × ValuesStandIn B before
     × TableHolds B contents (table_of view))
 
+-- Over what a builder had a table was written and read, whose slot and the next hold this union.
+pub record UnionIsRead {K : Type 0} (builder : State) (table : Table) (slot : ℕ)
+    (given : UnionOffset K)
+    : Type 0 where
+  pub bytes : List ℕ
+  pub keeps_values : ValuesStandIn bytes builder
+  pub tag : SlotHolds bytes table slot (holds_union_tag (Some given))
+  pub value : SlotHolds bytes table (slot + 1) (holds_union_value (Some given))
+
+abbrev pub UnionOfIsRead : State → Table → FieldLine → Type 0
+UnionOfIsRead builder table (union variants slot given) =
+    MatchOption given ⊤ (UnionIsRead builder table slot)
+UnionOfIsRead builder table (union_required variants slot given) =
+    UnionIsRead builder table slot given
+UnionOfIsRead builder table _ = ⊤
+
+abbrev pub UnionsAreRead : State → Table → List FieldLine → Type 0
+UnionsAreRead builder table [] = ⊤
+UnionsAreRead builder table (line ∷ lines) =
+    UnionOfIsRead builder table line × UnionsAreRead builder table lines
+
 -- A table was written with these fields over what a builder had, and is read: each method returns
 -- what was given for its field.
 pub record LinesReadBack (builder : State) (lines : List FieldLine) (table : Table) : Type 0 where
@@ -197,3 +218,4 @@ pub record LinesReadBack (builder : State) (lines : List FieldLine) (table : Tab
   pub keeps_values : ValuesStandIn bytes builder
   pub holds : TableHolds bytes (contents_of lines) table
   pub returns : AllReturnGiven bytes table lines
+  pub unions : UnionsAreRead builder table lines

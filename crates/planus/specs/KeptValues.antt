@@ -2,7 +2,7 @@
 use Rattle.std.specs.Prelude.{ℕ, ◌≤◌, List, drop, length, Option}
 use Rattle.planus_read.specs.Aligned.{AlignedAt}
 use Rattle.planus_read.specs.Bytes.{position_of}
-use Rattle.planus_read.specs.Stands.{Stands, at}
+use Rattle.planus_read.specs.Stands.{Stands, ApartStands, at}
 use Rattle.planus_read.specs.Values.{Value}
 use Rattle.planus_write.specs.Contents.{Comes, named_at}
 use Rattle.planus_write.specs.Finishing.{FinishGives, SizedFinishGives}
@@ -24,6 +24,11 @@ KeepsValue value old distance new =
 -- the value is encoded at a distance from the end
 abbrev pub StandsFromEnd : List ℕ → Value → ℕ → Type 0
 StandsFromEnd B value distance = Stands B (at (position_of B distance)) value
+
+-- a struct of these bytes stands by itself in a builder, at a distance from the end
+pub record StructStandsIn (builder : State) (bytes : List ℕ) (distance : ℕ) : Type 0 where
+  pub reached : distance ≤ length builder.bytes
+  pub stands : ApartStands builder.bytes (position_of builder.bytes distance) bytes
 
 -- Each value that is encoded in a builder is encoded in B.
 abbrev pub ValuesStandIn : List ℕ → State → Type 0

@@ -31,6 +31,7 @@ pub use Rattle.planus.specs.UnionAccessors.{IsUnionField, IsUnionRequired, IsUni
 pub use Rattle.planus.specs.UnionAccessors.{IsUnionVectorRequired}
 pub use Rattle.planus.specs.Unions.{ReadsVariants, UnionVariant, table_variant, text_variant}
 pub use Rattle.planus.specs.Unions.{struct_variant}
+pub use Rattle.planus.specs.UnionsBack.{ReturnsStruct, ReturnsRequiredStruct}
 pub use Rattle.planus_view.specs.PlainRefs.{plain_slice}
 pub use Rattle.planus.specs.FieldLines.{plains, judged, texts, tables}
 pub use Rattle.planus.specs.FieldLines.FieldLine.{optional, required, plain_if, plain_or}

@@ -7,16 +7,18 @@ use Rattle.planus_read.specs.declared.slice_helpers.SliceWithStartOffset.{SliceW
 use Rattle.planus_read.specs.declared.table_reader.Table.{Table}
 use Rattle.planus_read.specs.Bytes.{BytesStand}
 use Rattle.planus_read.specs.Slices.{slice_bytes}
+use Rattle.planus_read.specs.Tables.{ReadsBoth}
 use Rattle.planus_read.specs.Values.{apart}
 use Rattle.planus_view.specs.declared.union_vector.UnionSliceView.{UnionSliceView}
 use Rattle.planus_view.specs.declared.vector_of.VectorOf.{VectorOf}
 use Rattle.planus_write.specs.Contents.{Content, written}
 use Rattle.planus_write.specs.declared.union_offset.UnionOffset.{UnionOffset}
-use Rattle.planus.specs.FieldLines.{union, union_required, Returns, ReturnsGiven}
-use Rattle.planus.specs.KeptValues.{StandsFromEnd}
+use Rattle.planus_write.specs.State.{State}
+use Rattle.planus.specs.FieldLines.{union, union_required, Returns, ReturnsGiven, UnionIsRead}
+use Rattle.planus.specs.KeptValues.{StandsFromEnd, StructStandsIn}
 use Rattle.planus.specs.UnionAccessors.{IsUnionField, IsUnionRequired, IsUnionItem, AreUnionsOf}
 use Rattle.planus.specs.Unions.{UnionVariant, ReadsVariants, VariantStands, IsVariant}
-use Rattle.planus.specs.Unions.{struct_variant, variant_at}
+use Rattle.planus.specs.Unions.{HasVariants, struct_variant, variant_at}
 
 -- the variant is the only one with this tag, which a union can have
 pub record HasTag {U : Type 0} (variants : List (UnionVariant U)) (tag : ℕ) (variant : UnionVariant U)
@@ -89,3 +91,42 @@ StructsOfUnionsReadBack K U =
     → given.offset.distance ≡ distance
     → Returns (λ type_ method. IsUnionField (ReadsVariants variants) table slot type_ method K)
     (λ r. IsOkAnd r (λ found. IsSomeAnd found (HasStruct slice_of bytes)))
+
+-- What was given to a union is a struct that a builder had, of these bytes. Over that a table was
+-- written, and it is read: by a field, and by a required one.
+module _ {K U : Type 0} (reads : ReadsBoth U) (bytes : List ℕ) (given : UnionOffset K) (table : Table)
+  where
+    pub record StructIsAt (slot : ℕ) : Type 0 where
+      pub builder : State
+      pub is_read : UnionIsRead builder table slot given
+      pub stands : StructStandsIn builder bytes given.offset.distance
+
+    pub record StructIsGiven (r : Result (Option U) Error) : Type 0 where
+      pub slot : ℕ
+      pub type_ : List ℕ
+      pub method : List ℕ
+      pub field : IsUnionField reads table slot type_ method K r
+      pub is_at : StructIsAt slot
+
+    pub record StructIsRequired (r : Result U Error) : Type 0 where
+      pub slot : ℕ
+      pub type_ : List ℕ
+      pub method : List ℕ
+      pub field : IsUnionRequired reads table slot type_ method r
+      pub is_at : StructIsAt slot
+
+-- By whatever variants the union is read, where the tag is that of a struct of this size, the field
+-- returned it, with its bytes.
+module _ {U : Type 0} (reads : ReadsBoth U) (tag : ℕ) (bytes : List ℕ) where
+  abbrev pub WhereItIsAStruct : ((U → Option SliceWithStartOffset) → Type 0) → Type 0
+  WhereItIsAStruct Returned =
+      (variants : List (UnionVariant U)) (size : ℕ) (slice_of : U → Option SliceWithStartOffset)
+      → HasVariants reads variants → HasTag variants tag (struct_variant tag size slice_of)
+      → length bytes ≡ size → Returned slice_of
+
+  pub record ReturnsStruct (r : Result (Option U) Error) : Type 0 where
+    pub has : WhereItIsAStruct
+        (λ slice_of. IsOkAnd r (λ found. IsSomeAnd found (HasStruct slice_of bytes)))
+
+  pub record ReturnsRequiredStruct (r : Result U Error) : Type 0 where
+    pub has : WhereItIsAStruct (λ slice_of. IsOkAnd r (HasStruct slice_of bytes))

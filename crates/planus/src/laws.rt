@@ -11,6 +11,8 @@ ghost use Rattle.planus.specs.ItemAccessors.{TableViewsReadBack};
 ghost use Rattle.planus.specs.UnionsBack.{VariantsReadBack, RequiredVariantsReadBack};
 ghost use Rattle.planus.specs.UnionsBack.{StructsOfUnionsReadBack, StructsHaveTheirBytes};
 ghost use Rattle.planus.specs.UnionsBack.{VariantItemsReadBack};
+ghost use Rattle.planus.specs.UnionsBack.{StructIsGiven, StructIsRequired};
+ghost use Rattle.planus.specs.UnionsBack.{ReturnsStruct, ReturnsRequiredStruct};
 ghost use Rattle.planus.specs.ReadPlain.{PlainResultsReadBack};
 ghost use Rattle.planus.specs.Once.{EqualContentsHaveOneDistance, EqualEntriesGetOneDistance};
 ghost use Rattle.planus.specs.Replays.{AnAnswerIsThere, AnswersAreOne};
@@ -19,12 +21,13 @@ ghost use Rattle.planus_write.specs.Standing.{KeptStays};
 ghost use Rattle.planus.specs.Streams.{SizedFinishesAreRead, SizedStreamsAreRead};
 
 use crate::tables::TableView;
-use planus_read::Plain;
 pub use planus_read::laws as read_laws;
+use planus_read::located::Error;
+use planus_read::{Plain, TableReadUnion};
 pub use planus_unions::laws as unions_laws;
 pub use planus_view::laws as view_laws;
-use planus_write::WriteAsOffset;
 pub use planus_write::laws as write_laws;
+use planus_write::{UnionOffset, WriteAsOffset};
 
 /// A stored table is encoded in what was written, with all that it refers to.
 pub fn kept_tables_stand()
@@ -91,6 +94,35 @@ pub fn unions_of_fields_read_back<K, U>()
     ensures required { RequiredVariantsReadBack K U }
     ensures structs { StructsOfUnionsReadBack K U }
     ensures bytes { StructsHaveTheirBytes U }
+{}
+
+/// What the field of a union returned, where the union was given a struct of
+/// [`create_plain`](crate::create_plain): that struct. `view` is that of the table whose field was
+/// read.
+///
+/// A call says how these four belong together, so that a user's contract over what was read needs no
+/// proof.
+pub fn struct_is_read<'a, 'n, T: Plain, K, V: TableView<'a>, U: TableReadUnion<'a>>(
+    value: &T,
+    given: &UnionOffset<K>,
+    view: &V,
+    read: &Result<Option<U>, Error<'n>>,
+)
+    requires { StructIsGiven U.reads ((T.shape).encoded value.now) given.now (V.table view.now)
+        read.now }
+    ensures { ReturnsStruct U.reads given.now.tag ((T.shape).encoded value.now) read.now }
+{}
+
+/// The same of a required union.
+pub fn required_struct_is_read<'a, 'n, T: Plain, K, V: TableView<'a>, U: TableReadUnion<'a>>(
+    value: &T,
+    given: &UnionOffset<K>,
+    view: &V,
+    read: &Result<U, Error<'n>>,
+)
+    requires { StructIsRequired U.reads ((T.shape).encoded value.now) given.now (V.table view.now)
+        read.now }
+    ensures { ReturnsRequiredStruct U.reads given.now.tag ((T.shape).encoded value.now) read.now }
 {}
 
 /// What stands in the buffer and was given to a vector of unions is returned as the item at its

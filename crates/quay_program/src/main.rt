@@ -1,9 +1,9 @@
 //! Writes a quay with a load at its first berth, by itself, and reads it back in place.
 #![tactic(auto)]
 
-ghost use Rattle.std.specs.Prelude.{IfOk, IsOkAnd, IsSomeAnd};
-ghost use Rattle.planus.specs.Printed.{BytesStand, slice_bytes};
-ghost use Rattle.quay.specs.Berth.{berth_2};
+ghost use Rattle.std.specs.Prelude.{IfOk};
+ghost use Rattle.planus.specs.Printed.{ReadsVariants, ReturnsStruct};
+ghost use Rattle.quay.specs.Berth.{berth_variants};
 ghost use Rattle.quay.specs.Load.{load_shape};
 
 use planus::{BuildError, Builder, create_plain, laws};
@@ -15,20 +15,21 @@ pub fn first_read_back(
     builder: &mut Builder,
     load: Load,
 ) -> std::result::Result<planus::Result<Option<BerthRef<'_>>>, BuildError>
-    ensures { IfOk result (λ read. IsOkAnd read (λ first. IsSomeAnd first (λ berth.
-        IsSomeAnd (berth_2 berth) (λ slice.
-        BytesStand (slice_bytes slice) 0 ((load_shape).encoded load))))) }
+    ensures { IfOk result (ReturnsStruct (ReadsVariants berth_variants) 2 ((load_shape).encoded load)) }
 {
-    laws::unions_of_fields_read_back::<Berth, BerthRef<'_>>();
     let waiting = create_plain(builder, &load)?;
-    let first = Some(Berth::from_waiting(waiting));
+    let given = Berth::from_waiting(waiting);
     let fields = QuayFields {
-        first,
+        first: Some(given),
         ..Quay::fields("North")
     };
     let quay: planus::Result<QuayRef<'_>> = Quay::read_back(builder, fields)?;
     match quay {
-        Ok(quay) => Ok(quay.first()),
+        Ok(quay) => {
+            let first = quay.first();
+            laws::struct_is_read(&load, &given, &quay, &first);
+            Ok(first)
+        }
         Err(error) => Ok(Err(error)),
     }
 }

@@ -5,7 +5,7 @@ ghost use Rattle.planus_read.specs.Values.{apart};
 ghost use Rattle.planus_write.specs.InBuilder.{IsIn};
 ghost use Rattle.planus_write.specs.Preparing.{WritesApart};
 ghost use Rattle.planus_write.specs.State.{Grows};
-ghost use Rattle.planus.specs.KeptValues.{KeepsValue, StandsFromEnd};
+ghost use Rattle.planus.specs.KeptValues.{KeepsValue, StandsFromEnd, StructStandsIn};
 
 use planus_read::Plain;
 use planus_write::{Apart, BuildError, Builder, Offset, WriteAsOffset};
@@ -24,6 +24,8 @@ pub fn create_plain<T: Plain>(builder: &mut Builder, value: &T) -> Result<Offset
     ensures stands { IfOk result (λ offset. StandsFromEnd builder.new.bytes
         (apart (record { bytes = (T.shape).encoded value.now; alignment = T.ALIGNMENT }))
         offset.distance) }
+    ensures in_builder { IfOk result (λ offset.
+        StructStandsIn builder.new ((T.shape).encoded value.now) offset.distance) }
     ensures reached { IfOk result (λ offset. IsIn builder.new offset) }
     ensures grows { Grows builder.old builder.new }
 {
