@@ -1,11 +1,12 @@
 -- Rising keys, and a key that is looked up among them.
-use Rattle.std.proofs.Common.{◌≡◌, ℕ, ◌≤◌, ◌<◌, refl, sym, ap, ◌∙◌, true, false}
+use Rattle.std.proofs.Common.{◌≡◌, refl, sym, ap, ◌∙◌, false}
 use Rattle.std.specs.Cmp.{IsTotalOrder}
-use Rattle.std.specs.Ordering.{is_gt, ordering_reverse}
+use Rattle.std.specs.Ordering.{is_gt, is_lt, ordering_reverse}
 use Rattle.std.specs.declared.cmp.Ordering.{Ordering}
 use Rattle.std.specs.declared.cmp.Ordering.TheVariants.{Less, Equal, Greater}
 use Rattle.std.proofs.lemmas.Bool.{true≢false}
-use Rattle.planus_keys.specs.Finds.{IsPartition, KeysRise, RisingKeysPartition}
+use Rattle.std.proofs.lemmas.List.Sorted.{ranks_by, sorted_far}
+use Rattle.planus_keys.specs.Finds.{RisingKeysPartition, SortedKeysRise}
 
 module _ {K : Type 0} (cmp : K → K → Ordering) (total : IsTotalOrder cmp) where
   below : (x y key : K) (o : Ordering) → cmp x y ≡ o → is_gt o ≡ false → cmp y key ≡ Less
@@ -30,3 +31,13 @@ module _ {K : Type 0} (cmp : K → K → Ordering) (total : IsTotalOrder cmp) wh
     above = λ i j order inside greater.
         above (keys i) (keys j) key (cmp (keys i) (keys j)) refl (rise i j order inside) greater;
   }
+
+  turned : (o : Ordering) → is_gt (ordering_reverse o) ≡ is_lt o
+  turned Less = refl
+  turned Equal = refl
+  turned Greater = refl
+
+  pub sorted_keys_rise : (X : Type 0) → SortedKeysRise X cmp
+  sorted_keys_rise X pairs other sorted i j order inside =
+      ap is_gt (total.antisymm _ _) ∙ turned _
+      ∙ sorted_far _ (ranks_by total (λ (one : K × X). one.0)) pairs sorted i j other order inside

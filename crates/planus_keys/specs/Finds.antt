@@ -1,5 +1,7 @@
 -- What a look-up by key returns.
 use Rattle.std.specs.Prelude.{◌≡◌, ◌≢◌, ℕ, ◌≤◌, ◌<◌, ◌⊎◌, Option, Some, None, Result, Ok, Err, IsOkAnd, false}
+use Rattle.std.specs.Prelude.{List, length, slice_index_or}
+use Rattle.std.specs.List.Sorted.{IsSortedByKey}
 use Rattle.std.specs.Ordering.{is_gt}
 use Rattle.std.specs.declared.cmp.Ordering.{Ordering}
 use Rattle.std.specs.declared.cmp.Ordering.TheVariants.{Less, Equal, Greater}
@@ -18,6 +20,12 @@ abbrev pub RisingKeysPartition : {K : Type 0} → (K → K → Ordering) → Typ
 RisingKeysPartition {K} cmp =
     (keys : ℕ → K) (n : ℕ) (key : K) → KeysRise cmp keys n
     → IsPartition (λ i. cmp (keys i) key) n
+
+-- The keys of pairs that are sorted by them rise.
+abbrev pub SortedKeysRise : (X : Type 0) → {K : Type 0} → (K → K → Ordering) → Type 0
+SortedKeysRise X {K} cmp =
+    (pairs : List (K × X)) (other : K × X) → IsSortedByKey (λ (one : K × X). one.0) cmp pairs
+    → KeysRise cmp (λ i. (slice_index_or pairs i other).0) (length pairs)
 
 module _
     {V A K E : Type 0} (is_item : V → ℕ → Result A E → Type 0) (is_key : A → Result K E → Type 0)

@@ -1,4 +1,5 @@
-//! Writes a quay with a load at its first berth, by itself, and reads it back in place.
+//! Writes a quay with a load at its first berth, by itself, and reads it back in place; and one with
+//! boats in the order of their names, by which they are looked up.
 #![tactic(auto)]
 
 ghost use Rattle.std.specs.Prelude.{IfOk};
@@ -7,7 +8,9 @@ ghost use Rattle.quay.specs.Berth.{berth_variants};
 ghost use Rattle.quay.specs.Load.{load_shape};
 
 use planus::{BuildError, Builder, create_plain, laws};
-use quay::{Berth, BerthRef, Create, Gear, Load, Quay, QuayFields, QuayRef};
+use planus_keys::{TextKey, find, in_key_order};
+use quay::{Berth, BerthRef, Boat, Create, Gear, Load, Quay, QuayFields, QuayRef, read_as_root};
+use std::alloc::Global;
 use std::io;
 
 /// Writes a quay with this load at its first berth, and reads that berth. The load is read back.
@@ -34,6 +37,29 @@ pub fn first_read_back(
     }
 }
 
+/// Writes a quay with three boats, and returns its buffer.
+fn three_boats(builder: &mut Builder, alloc: Global) -> std::result::Result<&[u8], BuildError> {
+    let ida = Boat::create(builder, Boat::fields("Ida"))?;
+    let bea = Boat::create(builder, Boat::fields("Bea"))?;
+    let cy = Boat::create(builder, Boat::fields("Cy"))?;
+    let mut boats = [("Ida", ida), ("Bea", bea), ("Cy", cy)];
+    let boats = in_key_order(builder, &mut boats, alloc)?;
+    let fields = QuayFields {
+        boats: Some(boats.as_slice()),
+        ..Quay::fields("South")
+    };
+    let quay = Quay::create(builder, fields)?;
+    builder.finish(quay, None)
+}
+
+/// Whether a quay has a boat of this name, if it is sorted by them.
+fn has_boat(bytes: &[u8], name: &str) -> planus::Result<bool> {
+    match read_as_root(bytes)?.boats()? {
+        Some(boats) => Ok(find(&boats, &Boat, &TextKey(name))?.is_some()),
+        None => Ok(false),
+    }
+}
+
 fn main(rt: HostRuntime) -> io::Result<()> {
     let mut builder = Builder::new(rt.alloc())?;
     let load = Load {
@@ -41,9 +67,18 @@ fn main(rt: HostRuntime) -> io::Result<()> {
         gear: Gear::Magnet,
     };
     match first_read_back(&mut builder, load) {
-        Ok(Ok(Some(BerthRef::Waiting(load)))) => println!(rt; "waiting: {load:?}"),
-        Ok(Ok(first)) => println!(rt; "another berth: {first:?}"),
-        Ok(Err(error)) => println!(rt; "{error}"),
+        Ok(Ok(Some(BerthRef::Waiting(load)))) => println!(rt; "waiting: {load:?}")?,
+        Ok(Ok(first)) => println!(rt; "another berth: {first:?}")?,
+        Ok(Err(error)) => println!(rt; "{error}")?,
+        Err(error) => println!(rt; "{error}")?,
+    }
+    builder.clear();
+    match three_boats(&mut builder, rt.alloc()) {
+        Ok(bytes) => println!(rt;
+            "Bea: {:?}, Ann: {:?}",
+            has_boat(bytes, "Bea"),
+            has_boat(bytes, "Ann")
+        ),
         Err(error) => println!(rt; "{error}"),
     }
 }
