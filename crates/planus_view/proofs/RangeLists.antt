@@ -1,7 +1,7 @@
 -- The number of ranges, and each range.
 use Rattle.std.proofs.Common.{◌≡◌, ℕ, zero, suc, ◌+◌, ◌-◌, ◌*◌, ◌/◌, ◌<◌, ◌≤◌, min, Bool, true}
 use Rattle.std.proofs.Common.{false}
-use Rattle.std.proofs.Common.{nat_lt, nat_le, map, length, Some, refl, ap, ◌∙◌, ⊎_elim, arith}
+use Rattle.std.proofs.Common.{nat_lt, nat_le, map, length, Option, Some, refl, ap, ◌∙◌, ⊎_elim, arith}
 use Rattle.std.proofs.Common.{slice_get}
 use Rattle.std.proofs.lemmas.Bool.{cases_lt, lt-ltb, le-ltb, le-leb, lt-leb}
 use Rattle.std.proofs.lemmas.Grind.{div_ceil_times}
@@ -174,6 +174,25 @@ windows_at n c i p h =
 
 pub suc_times : (i c : ℕ) → (i + 1) * c ≡ i * c + c
 suc_times i c = let e : 1 * c ≡ c = omega arith in add-mul i 1 c ∙ ap (λ k. i * c + k) e
+
+exact_stands : (n c i : ℕ) → 0 < c → i ≤ n / c → i * c ≤ n
+exact_stands n c i p h =
+    let m : c * i ≤ c * (n / c) = mul-le-mul_left c h in
+    omega (arith, m, mul_comm c i, mul_comm c (n / c), div-mul-le_self n c)
+
+pub exact_most : (n c i : ℕ) → 0 < c → i ≤ length (chunks_exact n c) → i * c ≤ n
+exact_most n c i p h = exact_stands n c i p (omega (arith, chunks_exact_count n c p, h))
+
+pub rexact_most : (n c i : ℕ) → 0 < c → i ≤ length (rchunks_exact n c) → i * c ≤ n
+rexact_most n c i p h = exact_stands n c i p (omega (arith, rchunks_exact_count n c p, h))
+
+pub windows_most : (n c i : ℕ) → 0 < c → i ≤ length (windows n c) → i ≤ n
+windows_most n c i p h = omega (arith, windows_count n c p, h)
+
+-- a range, by its ends
+pub same_range :
+    (a b c d : ℕ) → a ≡ c → b ≡ d → ◌≡◌ {A = Option (ℕ × ℕ)} (Some (a, b)) (Some (c, d))
+same_range a b c d e f = rw (e, f) refl
 
 pub chunks_one : (n c i : ℕ) → 0 < c → i * c < n → i < length (chunks n c)
 chunks_one n c i p h =

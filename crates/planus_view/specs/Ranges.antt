@@ -38,6 +38,14 @@ window n c i = (i, i + c)
 abbrev pub windows : ℕ → ℕ → List (ℕ × ℕ)
 windows n c = ranges_where n (λ i. nat_le (i + c) n) (window n c)
 
+-- positions that the first i ranges leave, where they stand side by side
+abbrev pub side_by_side : ℕ → ℕ → ℕ → ℕ
+side_by_side n c i = n - i * c
+
+-- and where they begin at each position
+abbrev pub apart : ℕ → ℕ → ℕ → ℕ
+apart n c i = n - i
+
 -- without a items at the front and b at the back
 abbrev pub ends : {X : Type 0} → List X → ℕ → ℕ → List X
 ends R a b = take (length R - (a + b)) (drop a R)

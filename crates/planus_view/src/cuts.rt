@@ -1,21 +1,38 @@
 //! Ways to cut positions into ranges.
 
-ghost use Rattle.std.specs.Prelude.{◌≡◌, ℕ, ◌<◌, ◌≤◌, List, length, slice_get, Some};
+ghost use Rattle.std.specs.Prelude.{◌≡◌, ℕ, ◌+◌, ◌<◌, ◌≤◌, List, length, slice_get, Some};
 ghost use Rattle.planus_view.specs.Ranges.{chunks, rchunks, chunks_exact, rchunks_exact, windows};
+ghost use Rattle.planus_view.specs.Ranges.{apart, side_by_side};
 
 /// A way to cut positions into ranges.
 pub trait Cut {
     ghost ranges: { ℕ → ℕ → List (ℕ × ℕ) };
+
+    ghost rest: { ℕ → ℕ → ℕ → ℕ };
 
     /// Returns the number of ranges of `len` positions.
     fn count(len: usize, size: usize) -> usize
         requires { 0 < size }
         ensures { result ≡ length (ranges len size) };
 
-    /// Returns range `i` of `len` positions.
-    fn range(len: usize, size: usize, i: usize) -> (usize, usize)
+    /// Returns how many of `len` positions the first `i` ranges leave.
+    fn rest_behind(len: usize, size: usize, i: usize) -> usize
+        requires positive { 0 < size }
+        requires inside { i ≤ length (ranges len size) }
+        ensures { result ≡ rest len size i };
+
+    /// Returns how many positions are left after range `i`, by how many are left before it.
+    fn rest_after(len: usize, size: usize, i: usize, left: usize) -> usize
         requires positive { 0 < size }
         requires inside { i < length (ranges len size) }
+        requires left { left ≡ rest len size i }
+        ensures { result ≡ rest len size (i + 1) };
+
+    /// Returns range `i` of `len` positions, by how many the ranges before it leave.
+    fn range(len: usize, size: usize, i: usize, left: usize) -> (usize, usize)
+        requires positive { 0 < size }
+        requires inside { i < length (ranges len size) }
+        requires left { left ≡ rest len size i }
         ensures range { slice_get (ranges len size) i ≡ Some result }
         ensures order { result.0 ≤ result.1 }
         ensures end { result.1 ≤ len };
@@ -44,6 +61,8 @@ pub struct ByWindows;
 impl Cut for ByChunks {
     ghost ranges = { chunks };
 
+    ghost rest = { side_by_side };
+
     #[inline]
     #[tactic(auto, using(crate::proofs::RangeLists::chunks_count))]
     fn count(len: usize, size: usize) -> usize {
@@ -51,15 +70,27 @@ impl Cut for ByChunks {
     }
 
     #[inline]
-    fn range(len: usize, size: usize, i: usize) -> (usize, usize) {
-        let begin = i * size;
-        let count = size.min(len - begin);
-        (begin, begin + count)
+    fn rest_behind(len: usize, size: usize, i: usize) -> usize {
+        len.saturating_sub(i.saturating_mul(size))
+    }
+
+    #[inline]
+    #[tactic(auto, using(crate::proofs::RangeLists::suc_times))]
+    fn rest_after(_len: usize, size: usize, _i: usize, left: usize) -> usize {
+        left - size.min(left)
+    }
+
+    #[inline]
+    fn range(len: usize, size: usize, _i: usize, left: usize) -> (usize, usize) {
+        let begin = len - left;
+        (begin, begin + size.min(left))
     }
 }
 
 impl Cut for ByRChunks {
     ghost ranges = { rchunks };
+
+    ghost rest = { side_by_side };
 
     #[inline]
     #[tactic(auto, using(crate::proofs::RangeLists::rchunks_count))]
@@ -68,14 +99,26 @@ impl Cut for ByRChunks {
     }
 
     #[inline]
-    fn range(len: usize, size: usize, i: usize) -> (usize, usize) {
-        let end = len - i * size;
-        (end.saturating_sub(size), end)
+    fn rest_behind(len: usize, size: usize, i: usize) -> usize {
+        len.saturating_sub(i.saturating_mul(size))
+    }
+
+    #[inline]
+    #[tactic(auto, using(crate::proofs::RangeLists::suc_times))]
+    fn rest_after(_len: usize, size: usize, _i: usize, left: usize) -> usize {
+        left.saturating_sub(size)
+    }
+
+    #[inline]
+    fn range(_len: usize, size: usize, _i: usize, left: usize) -> (usize, usize) {
+        (left.saturating_sub(size), left)
     }
 }
 
 impl Cut for ByChunksExact {
     ghost ranges = { chunks_exact };
+
+    ghost rest = { side_by_side };
 
     #[inline]
     #[tactic(auto, using(crate::proofs::RangeLists::chunks_exact_count))]
@@ -84,15 +127,28 @@ impl Cut for ByChunksExact {
     }
 
     #[inline]
-    fn range(_len: usize, size: usize, i: usize) -> (usize, usize) {
-        let first = i * size;
-        let past = first + size;
-        (first, past)
+    #[tactic(auto, using(crate::proofs::RangeLists::exact_most))]
+    fn rest_behind(len: usize, size: usize, i: usize) -> usize {
+        len - i * size
+    }
+
+    #[inline]
+    #[tactic(auto, using(crate::proofs::RangeLists::suc_times))]
+    fn rest_after(_len: usize, size: usize, _i: usize, left: usize) -> usize {
+        left - size
+    }
+
+    #[inline]
+    fn range(len: usize, size: usize, _i: usize, left: usize) -> (usize, usize) {
+        let begin = len - left;
+        (begin, begin + size)
     }
 }
 
 impl Cut for ByRChunksExact {
     ghost ranges = { rchunks_exact };
+
+    ghost rest = { side_by_side };
 
     #[inline]
     #[tactic(auto, using(crate::proofs::RangeLists::rchunks_exact_count))]
@@ -101,14 +157,27 @@ impl Cut for ByRChunksExact {
     }
 
     #[inline]
-    fn range(len: usize, size: usize, i: usize) -> (usize, usize) {
-        let end = len - i * size;
-        (end - size, end)
+    #[tactic(auto, using(crate::proofs::RangeLists::rexact_most))]
+    fn rest_behind(len: usize, size: usize, i: usize) -> usize {
+        len - i * size
+    }
+
+    #[inline]
+    #[tactic(auto, using(crate::proofs::RangeLists::suc_times))]
+    fn rest_after(_len: usize, size: usize, _i: usize, left: usize) -> usize {
+        left - size
+    }
+
+    #[inline]
+    fn range(_len: usize, size: usize, _i: usize, left: usize) -> (usize, usize) {
+        (left - size, left)
     }
 }
 
 impl Cut for ByWindows {
     ghost ranges = { windows };
+
+    ghost rest = { apart };
 
     #[inline]
     #[tactic(auto, using(crate::proofs::RangeLists::windows_count))]
@@ -120,7 +189,18 @@ impl Cut for ByWindows {
     }
 
     #[inline]
-    fn range(_len: usize, size: usize, i: usize) -> (usize, usize) {
-        (i, i + size)
+    fn rest_behind(len: usize, _size: usize, i: usize) -> usize {
+        len - i
+    }
+
+    #[inline]
+    fn rest_after(_len: usize, _size: usize, _i: usize, left: usize) -> usize {
+        left - 1
+    }
+
+    #[inline]
+    fn range(len: usize, size: usize, _i: usize, left: usize) -> (usize, usize) {
+        let begin = len - left;
+        (begin, begin + size)
     }
 }

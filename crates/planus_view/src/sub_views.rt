@@ -18,14 +18,17 @@ pub struct SubViews<V: View, C: Cut> {
     size: usize,
     front: usize,
     back: usize,
+    // How many positions the ranges before `front` leave.
+    rest: usize,
     _marker: PhantomData<C>,
     ghost positive: { 0 < size },
     ghost order: { front ≤ back },
     ghost inside: { back ≤ length (C.ranges (V.count whole) size) },
+    ghost behind: { rest ≡ C.rest (V.count whole) size front },
 }
 
 impl<V: View, C: Cut> SubViews<V, C> {
-    ghost use Rattle.planus_view.specs.RangesLeft.{whole_of, ranges_of, IsOverRanges};
+    ghost use Rattle.planus_view.specs.RangesLeft.{whole_of, size_of, ranges_of, IsOverRanges};
 
     /// Creates an iterator over all sub-views.
     #[inline]
@@ -40,17 +43,19 @@ impl<V: View, C: Cut> SubViews<V, C> {
             size,
             front: 0,
             back,
+            rest: C::rest_behind(whole.len(), size, 0),
             _marker: PhantomData,
         }
     }
 
     #[inline]
-    fn at_range(&self, i: usize) -> V
-        requires { i < length (ranges_of self.now) }
+    fn at_range(&self, i: usize, left: usize) -> V
+        requires inside { i < length (ranges_of self.now) }
+        requires left { left ≡ C.rest (V.count (whole_of self.now)) (size_of self.now) i }
         ensures { (range : ℕ × ℕ) × (slice_get (ranges_of self.now) i ≡ Some range)
             × V.is_sub_view (whole_of self.now) range.0 range.1 result }
     {
-        let (begin, end) = C::range(self.whole.len(), self.size, i);
+        let (begin, end) = C::range(self.whole.len(), self.size, i, left);
         self.whole.sub_view(begin, end)
     }
 }
@@ -69,7 +74,8 @@ impl<V: View, C: Cut> Iterator for SubViews<V, C> {
         if self.front == self.back {
             return None;
         }
-        let sub_view = self.at_range(self.front);
+        let sub_view = self.at_range(self.front, self.rest);
+        self.rest = C::rest_after(self.whole.len(), self.size, self.front, self.rest);
         self.front += 1;
         Some(sub_view)
     }
@@ -96,9 +102,9 @@ impl<V: View, C: Cut> DoubleEndedIterator for SubViews<V, C> {
         if self.front == self.back {
             return None;
         }
-        let sub_view = self.at_range(self.back - 1);
         self.back -= 1;
-        Some(sub_view)
+        let left = C::rest_behind(self.whole.len(), self.size, self.back);
+        Some(self.at_range(self.back, left))
     }
 }
 
@@ -126,6 +132,7 @@ impl<V: View, C: Cut> Clone for SubViews<V, C> {
             size: self.size,
             front: self.front,
             back: self.back,
+            rest: self.rest,
             _marker: self._marker,
         })
     }
@@ -142,6 +149,7 @@ impl<V: View, C: Cut> SubViews<V, C> {
         ensures { SkipsFront skipped self.old self.new }
     {
         self.front += skipped.min(self.back - self.front);
+        self.rest = C::rest_behind(self.whole.len(), self.size, self.front);
     }
 
     #[inline]

@@ -1,0 +1,10 @@
+use Rattle.std.proofs.Common.{arith}
+use Rattle.planus_view.proofs.RangeLists.{suc_times, rchunks_exact_at}
+use Rattle.planus_view.proofs.cuts.ByRChunksExactCut.rest_after.Goals as goal
+
+pub overflow_sub-result : goal.overflow_sub-result
+overflow_sub-result c =
+    let at =
+    rchunks_exact_at c.args._len c.args.size c.args._i c.requires.positive c.requires.inside in
+    let left = c.requires.left in
+    omega (arith, at.1, left, suc_times c.args._i c.args.size)
