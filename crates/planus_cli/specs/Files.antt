@@ -42,7 +42,7 @@ SaysUnread disk name unsaid said =
     ((error : FileError) × disk.Fails name error
     × Appends unsaid said (line_of (codes "can't read ") name (after_name error)))
     ⊎ (disk.Long name
-    × Appends unsaid said (line_of [] name (codes " is longer than 16777216 bytes")))
+    × Appends unsaid said (line_of [] name (codes " is longer than 1073741824 bytes")))
 
 -- It was written, with status 0, or it was said why not, with status 2.
 abbrev pub PutsFile : Disk → List ℕ → List ℕ → ℕ → Option (List ℕ) → Option (List ℕ) → Type 0

@@ -84,7 +84,7 @@ HasText bytes (formatted.Report report) = ⊥
 
 -- the greatest length of a text, in bytes
 abbrev pub greatest_text : ℕ
-greatest_text = 16777216
+greatest_text = 1073741824
 
 -- a message about a file or a word of the call
 abbrev pub line_of : List ℕ → List ℕ → List ℕ → List ℕ

@@ -96,7 +96,7 @@ something is wrong with the buffer it prints nothing, and says where and what.
   -I FOLDER        included files are sought in this folder too
 
 The JSON of a buffer is held whole before it is printed, so --bytes says how much
-memory that takes. 67108864 is four times the size of the largest file that is read.
+memory that takes. The JSON of a large buffer may want a greater N.
 Ends with 0 where all is printed, with 1 where something is wrong with a buffer or its
 JSON is longer, and with 2 where the call is wrong or a file can't be read.
 ";

@@ -85,7 +85,7 @@ pub fn bytes_of<F: Files, X: Write>(
     match files.read(alloc, name) {
         Ok(bytes) if bytes.len() <= GREATEST_TEXT => Ok(Some(bytes)),
         Ok(_) => {
-            say(alloc, errors, "", name, " is longer than 16777216 bytes")?;
+            say(alloc, errors, "", name, " is longer than 1073741824 bytes")?;
             Ok(None)
         }
         Err(FileError::OutOfMemory) => Err(CallError::OutOfMemory),

@@ -11,7 +11,7 @@ use std::alloc::{AllocError, Global};
 use std::io::{Read, Write};
 
 /// The greatest length of a text, in bytes.
-pub const GREATEST_TEXT: usize = 16777216;
+pub const GREATEST_TEXT: usize = 1073741824;
 
 /// One byte more shows that a text is too long.
 const MOST_READ: u64 = GREATEST_TEXT as u64 + 1;

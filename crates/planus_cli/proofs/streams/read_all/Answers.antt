@@ -4,9 +4,9 @@ use Rattle.std.specs.Option.{option_map}
 use Rattle.planus_cli.proofs.streams.read_all.Goals as goal
 
 taken : (known rest : Option (List ℕ)) (limit : ℕ) (empty text : List ℕ)
-    → rest ≡ known → limit ≡ 16777217 → empty ≡ []
+    → rest ≡ known → limit ≡ 1073741825 → empty ≡ []
     → IfSome (option_map (take limit) rest) (λ bytes. text ≡ empty ++ bytes)
-    → IfSome known (λ bytes. text ≡ take 16777217 bytes)
+    → IfSome known (λ bytes. text ≡ take 1073741825 bytes)
 taken None rest limit empty text k l e h = tt
 taken (Some bytes) rest limit empty text k l e h =
     subst (λ r. IfSome (option_map (take limit) r) (λ xs. text ≡ empty ++ xs)) k h
