@@ -1,5 +1,5 @@
 //! The body of a table, written in place.
-ghost use Rattle.std.specs.Prelude.{◌≡◌, ◌+◌, ◌≤◌, ℕ, [], length};
+ghost use Rattle.std.specs.Prelude.{◌≡◌, ◌+◌, ◌<◌, ◌≤◌, ℕ, [], length};
 ghost use Rattle.planus_write.specs.Items.{Item};
 
 use crate::traits::{Primitive, WriteAsPrimitive};
@@ -56,6 +56,20 @@ impl<'a> ObjectWriter<'a> {
         let bytes = &mut *self.bytes;
         value.write(&mut bytes[at..at + P::SIZE], place);
         self.at = at + P::SIZE;
+    }
+
+    /// Writes a field's bytes as they are, at least one. Requires as many to remain.
+    #[inline]
+    pub fn put(&mut self, content: &[u8])
+        requires some { 0 < length content.now }
+        requires room { length content.now ≤ (body_of self.old).remaining }
+        ensures { body_of self.new
+            ≡ wrote (length content.now) (λ _. content.now) (body_of self.old) }
+    {
+        let at = self.at;
+        let bytes = &mut *self.bytes;
+        bytes[at..at + content.len()].copy_from_slice(content);
+        self.at = at + content.len();
     }
 }
 

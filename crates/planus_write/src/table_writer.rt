@@ -2,6 +2,7 @@
 ghost use Rattle.std.specs.Prelude.{◌≡◌, ◌+◌, ◌≤◌, ◌++◌, List, [], ◌∷◌, length, take, drop};
 ghost use Rattle.std.specs.Int.{w16, to_le_bytes};
 ghost use Rattle.planus_read.specs.Bytes.{BytesStand};
+ghost use Rattle.planus_read.specs.Plain.{IsLayout};
 ghost use Rattle.planus_write.specs.Tables.{Declared};
 ghost use Rattle.planus_write.specs.TableWriting.{WasTold, WritesTable, slot_position, blank};
 ghost use Rattle.planus_write.specs.TableWriting.{with_entry};
@@ -114,6 +115,35 @@ impl<const N: usize> TableWriter<N> {
         self.object_size += P::SIZE;
         self.vtable_size = self.vtable_size.max(at + 2);
         self.mask = self.mask.max(P::ALIGNMENT - 1);
+    }
+
+    /// Declares a field of this size and alignment for a slot, under the conditions of
+    /// [`TableWriter::write_entry`].
+    #[inline]
+    pub fn write_layout(&mut self, slot: usize, size: usize, alignment: usize)
+        requires inside { slot_position slot + 2 ≤ N }
+        requires small { slot_position slot + 2 ≤ 65534 }
+        requires unused { BytesStand self.old.vtable (slot_position slot) (0 ∷ 0 ∷ []) }
+        requires fits { self.old.object_size + size ≤ 65535 }
+        requires layout { IsLayout size alignment }
+        requires low { alignment ≤ 1073741824 }
+        ensures entered { self.new ≡ with_entry (record {
+          slot = slot;
+          size = size;
+          alignment = alignment;
+        }) self.old }
+        ensures told { (declared : List Declared) → WasTold self.old declared
+            → WasTold self.new (declared ++ record {
+              slot = slot;
+              size = size;
+              alignment = alignment;
+            } ∷ []) }
+    {
+        let at = 2 * (slot + 2);
+        put_pair(&mut self.vtable, at, self.object_size as u16);
+        self.object_size += size;
+        self.vtable_size = self.vtable_size.max(at + 2);
+        self.mask = self.mask.max(alignment - 1);
     }
 
     /// Writes the table: its vtable, unless an equal one is found, the fields, and the word before
