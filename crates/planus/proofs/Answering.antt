@@ -18,24 +18,24 @@ use Rattle.planus_write.specs.History.{History, Entry, PutsAfter, PutsAll, part_
 use Rattle.planus_write.specs.History.{ComesToTooLarge as ComesToTooLargeEntry}
 use Rattle.planus_write.specs.Parts.{Named, entries_of}
 use Rattle.planus_write.specs.lemmas.PartBytes.{finish_size, sized_finish_size}
-use Rattle.planus.specs.Steps.{Step, text, bytes, numbers, refs, unions, struct, table, finish, clear}
+use Rattle.planus.specs.Steps.{Step, text, bytes, numbers, refs, unions, struct, plains, table, finish, clear}
 use Rattle.planus.specs.Steps.{root_first, size_first}
-use Rattle.planus.specs.Slots.{greatest_field}
 use Rattle.planus.specs.Kinds.{StepKind, a_value, a_union_vector, kind_of, kind_named, naming_fault}
-use Rattle.planus.specs.Runs.{struct_width, struct_value, fits_alignment}
+use Rattle.planus.specs.Runs.{struct_width}
+use Rattle.planus.proofs.Structs.{struct_there, plains_there}
 use Rattle.planus.specs.Runs.{RunState, nothing_written, cleared, Advances, LeadsTo, Writes, StepTooLarge}
 use Rattle.planus.specs.Runs.{named_at, value_at, union_of, all_of, width_of, fits_width, numbers_value, value_of}
 use Rattle.planus.specs.Runs.{entries_put, finish_of, values_added, finishes_added}
-use Rattle.planus.specs.Replays.{is_clear, named_step, fault_of, first_fault, union_fault, numbers_fault, struct_fault}
+use Rattle.planus.specs.Replays.{is_clear, named_step, fault_of, first_fault, union_fault, numbers_fault}
 use Rattle.planus.specs.Replays.{broken_check, first_bad, AnAnswerIsThere, IsAnswered}
 use Rattle.planus.specs.declared.replaying.faults.Why.{Why}
-use Rattle.planus.specs.declared.replaying.faults.Why.TheVariants.{ValueTooBig, WrongSize, ZeroTag}
+use Rattle.planus.specs.declared.replaying.faults.Why.TheVariants.{ValueTooBig, ZeroTag}
 use Rattle.planus.specs.declared.replaying.faults.ReplayError.TheVariants.{TooLarge, BadStep}
 use Rattle.planus.proofs.FieldFaults.{none_of}
 use Rattle.planus.proofs.Kept.{Kept, run_kept, values_are_written, leads_on}
 use Rattle.planus.proofs.NamedKinds.{GoodAreNamed, good_value}
 use Rattle.planus.proofs.Placed.{IsPlacedInTurn, AreFit, put_in_turn, values_are_fit, greatest_power}
-use Rattle.planus.proofs.TableFields.{fields_are}
+use Rattle.planus.proofs.TableFields.{table_are}
 use Rattle.planus.proofs.Walking.{still_clean, too_large, bad_step}
 
 placed_or_not : (part : Part) (history : History) → IsPlacedInTurn history → IsPowerOfTwo part.alignment
@@ -106,17 +106,6 @@ numbers_there (Some width) items e = by_test (list_all (fits_width width) items)
     by_test true e = (list, refl)
     by_test false e = (cc)
 
-struct_there : (width : Option Width) (content : List ℕ) → struct_fault width content ≡ None → (v : Value) × (struct_value width content ≡ Some v)
-struct_there None content e = (cc)
-struct_there (Some width) content e = by_test (fits_alignment (byte_len width) content) e
-  where
-    alone : Value
-    alone = value.apart (record { bytes = content; alignment = byte_len width })
-
-    by_test : (fit : Bool) → (if fit then None else Some WrongSize) ≡ None → (v : Value) × ((if fit then Some alone else None) ≡ Some v)
-    by_test true e = (alone, refl)
-    by_test false e = (cc)
-
 all_are : {X Y : Type 0} (there : X → Option Y) (fault : X → Option Why) → ((x : X) → fault x ≡ None → (y : Y) × (there x ≡ Some y))
     → (xs : List X) → first_fault fault xs ≡ None → (ys : List Y) × (all_of there xs ≡ Some ys)
 all_are is_there fault made [] e = ([], refl)
@@ -174,9 +163,13 @@ module _ (settings : CacheSettings) (cs : List Step) (state : RunState) (run : L
       (entries_of (value.union_vector made.0), ap (option_map entries_of) is, fit (unions items) (value.union_vector made.0) is)
   puts (struct alignment content) kind e =
       let made = struct_there (struct_width alignment) content e in
-      (entries_of made.0, ap (option_map entries_of) made.1, fit (struct alignment content) made.0 made.1)
+      let is : value_of state.listed (struct alignment content) ≡ Some (value.apart made.0) = ap (option_map value.apart) made.1 in
+      (entries_of (value.apart made.0), ap (option_map entries_of) is, fit (struct alignment content) (value.apart made.0) is)
+  puts (plains alignment size content) kind e =
+      let made = plains_there (struct_width alignment) size content e in
+      (entries_of made.0, ap (option_map entries_of) made.1, fit (plains alignment size content) made.0 made.1)
   puts (table fields) kind e =
-      let made = fields_are state.listed fault_here good [] greatest_field fields e in
+      let made = table_are state.listed fault_here good fields e in
       let is : value_of state.listed (table fields) ≡ Some (value.table made.0) = ap (option_map value.table) made.1 in
       (entries_of (value.table made.0), ap (option_map entries_of) is, fit (table fields) (value.table made.0) is)
   puts (finish root_first root identifier) kind e =
@@ -214,6 +207,7 @@ module _ (settings : CacheSettings) (cs : List Step) (state : RunState) (run : L
   on_or_too_large (refs steps) e = written_or_not (refs steps) (puts (refs steps) refl e)
   on_or_too_large (unions items) e = written_or_not (unions items) (puts (unions items) refl e)
   on_or_too_large (struct alignment content) e = written_or_not (struct alignment content) (puts (struct alignment content) refl e)
+  on_or_too_large (plains alignment size content) e = written_or_not (plains alignment size content) (puts (plains alignment size content) refl e)
   on_or_too_large (table fields) e = written_or_not (table fields) (puts (table fields) refl e)
   on_or_too_large (finish front root identifier) e = written_or_not (finish front root identifier) (puts (finish front root identifier) refl e)
   on_or_too_large clear e = inr (cleared state, refl)

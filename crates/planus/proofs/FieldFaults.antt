@@ -2,7 +2,8 @@
 use Rattle.std.proofs.Common.{◌≡◌, ℕ, List, [], ◌∷◌, ◌++◌, refl, ap, ◌∙◌, Option, Some, None}
 use Rattle.std.proofs.Common.{append_assoc, append-nil, sym}
 use Rattle.std.specs.Option.{option_or}
-use Rattle.planus.specs.Steps.{FieldStep, number_field, ref_field, tags_field, values_field}
+use Rattle.planus.specs.Steps.{FieldStep, number_field, struct_field, ref_field, tags_field}
+use Rattle.planus.specs.Steps.{values_field}
 use Rattle.planus.specs.Kinds.{StepKind, a_value, a_union_vector}
 use Rattle.planus.specs.Slots.{slot_fault, rising_fault, alignment_of}
 use Rattle.planus.specs.TableChecks.{content_fault, field_fault, fields_fault}
@@ -12,6 +13,7 @@ use Rattle.planus.specs.declared.replaying.faults.Why.{Why}
 module _ (f g : StepKind → ℕ → Option Why) (same : (kind : StepKind) (n : ℕ) → f kind n ≡ g kind n) where
   same_content : (content : FieldStep) → content_fault f content ≡ content_fault g content
   same_content (number_field width n) = refl
+  same_content (struct_field alignment content) = refl
   same_content (ref_field step) = same a_value step
   same_content (tags_field step) = same a_union_vector step
   same_content (values_field step) = same a_union_vector step

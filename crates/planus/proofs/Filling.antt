@@ -10,9 +10,10 @@ use Rattle.planus_write.specs.ObjectWriting.{ObjectBody, wrote}
 use Rattle.planus_write.proofs.WrittenBodies.{wrote_both}
 use Rattle.planus.specs.Steps.{FieldStep, content_of, bare_field}
 use Rattle.planus.specs.declared.replaying.steps.Field as code
-use Rattle.planus.specs.Slots.{slot_fault, rising_fault, place_fault, alignment_of, greatest_field}
+use Rattle.planus.specs.Slots.{slot_fault, rising_fault, place_fault, size_fault, alignment_of}
+use Rattle.planus.specs.Slots.{greatest_field}
 use Rattle.planus.specs.Runs.{Listed, named_at, field_of, with_field, fields_of}
-use Rattle.planus.specs.TableChecks.{content_fault, field_fault, fields_fault, table_fault}
+use Rattle.planus.specs.TableChecks.{content_fault, field_fault, fields_fault}
 use Rattle.planus.specs.Kinds.{StepKind, a_value, a_union_vector, kind_named, naming_fault}
 use Rattle.planus.specs.inner.Names.{name_of, listed_from, written_at, fault_since}
 use Rattle.planus.specs.declared.replaying.faults.Why.{Why}
@@ -118,10 +119,13 @@ pub record Filled (body : TableBody) (index : ℕ) (old new : ObjectBody) : Type
   pub are : fields_of (listed_since body) [] greatest_field (map bare_field (take index body.fields.now)) ≡ Some front
   pub written : new ≡ wrote (body_size front) (λ place. body_bytes place front) old
 
+fields_good_in : (body : TableBody) → fields_fault (fault_since body.earlier.first (map name_of body.earlier.offsets.now)) [] greatest_field (map bare_field body.fields.now) ≡ None
+fields_good_in body = (none_of (fields_fault (fault_since body.earlier.first (map name_of body.earlier.offsets.now)) [] greatest_field (map bare_field body.fields.now)) (size_fault (map bare_field body.fields.now)) body.good).0
+
 pub fields_are_in : (body : TableBody) → fields_of (listed_since body) [] greatest_field (map bare_field body.fields.now) ≡ Some (fields_in body)
 fields_are_in body =
     let made = fields_are (listed_since body) (fault_since body.earlier.first (map name_of body.earlier.offsets.now)) (named_good body.earlier.first (map name_of body.earlier.offsets.now)) [] greatest_field
-    (map bare_field body.fields.now) body.good in
+    (map bare_field body.fields.now) (fields_good_in body) in
     made.1 ∙ ap (λ (all : List (ℕ × Field)). Some all) (sym (ap fields_or_none made.1))
 
 no_fault : (why : Why) → None ≡ Some why → ⊥
@@ -137,7 +141,7 @@ module _ (body : TableBody) (i : ℕ) (x : code.Field) (step : take (i + 1) body
   content_good : content_fault (fault_since body.earlier.first (map name_of body.earlier.offsets.now)) (content_of x.value) ≡ None
   content_good =
       content_apart (fault_since body.earlier.first (map name_of body.earlier.offsets.now)) [] greatest_field (map bare_field (take i body.fields.now)) (bare_field x) behind
-      (ap (table_fault (fault_since body.earlier.first (map name_of body.earlier.offsets.now))) parts ∙ body.good)
+      (ap (fields_fault (fault_since body.earlier.first (map name_of body.earlier.offsets.now)) [] greatest_field) parts ∙ fields_good_in body)
 
   pub not_bad : (why : Why) → content_fault (fault_since body.earlier.first (map name_of body.earlier.offsets.now)) (content_of x.value) ≡ Some why → ⊥
   not_bad why bad = no_fault why (sym content_good ∙ bad)

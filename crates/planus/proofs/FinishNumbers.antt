@@ -5,7 +5,7 @@ use Rattle.std.specs.Prelude.{if◌then◌else◌}
 use Rattle.std.specs.List.{AllByRecursion}
 use Rattle.planus_read.specs.Values.{Value}
 use Rattle.planus_write.specs.Shared.{CacheSettings}
-use Rattle.planus.specs.Steps.{Step, Front, text, bytes, numbers as numbers_step, refs, unions, struct, table, finish, clear}
+use Rattle.planus.specs.Steps.{Step, Front, text, bytes, numbers as numbers_step, refs, unions, struct, plains, table, finish, clear}
 use Rattle.planus.specs.Runs.{Finish, Listed, value_of}
 use Rattle.planus.specs.FinishHolds.{FinishHolds, is_finish, finishes_from, IsFinishOf, AreFinishesOf}
 
@@ -16,6 +16,7 @@ is_no_finish listed (numbers_step width items) v e = refl
 is_no_finish listed (refs steps) v e = refl
 is_no_finish listed (unions items) v e = refl
 is_no_finish listed (struct alignment content) v e = refl
+is_no_finish listed (plains alignment size content) v e = refl
 is_no_finish listed (table fields) v e = refl
 is_no_finish listed (finish front root identifier) v e = (cc)
 is_no_finish listed clear v e = refl

@@ -1,8 +1,8 @@
 -- The values of several steps, found one after another.
-use Rattle.std.proofs.Common.{◌≡◌, ℕ, ◌+◌, List, [], ◌∷◌, ◌++◌, take, drop, refl, sym, ap, ◌∙◌}
-use Rattle.std.proofs.Common.{Option, Some, None, append_assoc}
+use Rattle.std.proofs.Common.{◌≡◌, ℕ, ◌+◌, ◌<◌, List, [], ◌∷◌, ◌++◌, length, take, drop, refl, sym, ap, ◌∙◌}
+use Rattle.std.proofs.Common.{Option, Some, None, append_assoc, slice_index_or}
 use Rattle.std.specs.Option.{option_or}
-use Rattle.std.proofs.lemmas.List.{take-append-drop}
+use Rattle.std.proofs.lemmas.List.{take-append-drop, take_more}
 use Rattle.planus.specs.Replays.{first_fault}
 use Rattle.planus.specs.declared.replaying.faults.Why.{Why}
 
@@ -26,3 +26,7 @@ module _ {X : Type 0} (fault : X → Option Why) where
 pub around : {X : Type 0} (xs : List X) (i : ℕ) (x : X) → take (i + 1) xs ≡ take i xs ++ x ∷ [] → take i xs ++ x ∷ drop (i + 1) xs ≡ xs
 around xs i x next =
     sym (append_assoc (take i xs) (x ∷ []) (drop (i + 1) xs)) ∙ ap (λ ys. ys ++ drop (i + 1) xs) (sym next) ∙ take-append-drop (i + 1) xs
+
+-- the item at this index is the last of those up to it
+pub takes_item : {A : Type 0} (xs : List A) (i : ℕ) (x : A) → i < length xs → x ≡ slice_index_or xs i x → take (i + 1) xs ≡ take i xs ++ x ∷ []
+takes_item xs i x there is = take_more xs i x there ∙ ap (λ y. take i xs ++ y ∷ []) (sym is)

@@ -35,15 +35,14 @@ use Rattle.planus_write.specs.lemmas.PartBytes.{length_after, finish_size, sized
 use Rattle.planus_write.specs.lemmas.Staying.{kept_stays, cached_stays}
 use Rattle.planus_write.specs.lemmas.StandingLaws.{values_are_kept, finishes_lead}
 use Rattle.planus_write.specs.lemmas.StandingLaws.{finishes_are_identified, sized_finishes_stand}
-use Rattle.planus.specs.Steps.{Step, text, bytes, numbers, refs, unions, struct, table, finish, clear}
+use Rattle.planus.specs.Steps.{Step, text, bytes, numbers, refs, unions, struct, plains, table, finish, clear}
 use Rattle.planus.specs.Steps.{Front, root_first, size_first}
 use Rattle.planus.specs.Kinds.{StepKind, kind_of, kind_named}
 use Rattle.planus.specs.inner.Names.{IsReached}
 use Rattle.planus.specs.Runs.{struct_width}
 use Rattle.planus.specs.Runs.{Listed, Finish, RunState, nothing_written, Advances, LeadsTo, cleared}
 use Rattle.planus.specs.Runs.{named_at, value_of, finish_of, Writes, values_added, finishes_added}
-use Rattle.planus.specs.Runs.{value_distance, value_at, union_of, all_of, width_of, fields_of}
-use Rattle.planus.specs.Slots.{greatest_field}
+use Rattle.planus.specs.Runs.{value_distance, value_at, union_of, all_of, width_of, table_of}
 use Rattle.planus.specs.Replays.{is_clear, named_step}
 use Rattle.planus.specs.FinishHolds.{ValueHolds, IsFewest, FinishHolds, ValueInSlice, root_at}
 use Rattle.planus.specs.FinishHolds.{HoldsBySize, IsFinishOf, AreFinishesOf, finishes_of}
@@ -52,9 +51,9 @@ use Rattle.planus.proofs.Turns.{InTurn, fewest}
 use Rattle.planus.proofs.NamedKinds.{kind_written}
 use Rattle.planus.proofs.Placed.{IsPlacedInTurn, nothing_in_turn, added_in_turn, all_in_turn}
 use Rattle.planus.proofs.Placed.{values_are_fit, greatest_power}
-use Rattle.planus.proofs.WrittenValues.{numbers_are_written, structs_are_written, value_behind, references_behind}
+use Rattle.planus.proofs.WrittenValues.{numbers_are_written, structs_are_written, plains_are_written, value_behind, references_behind}
 use Rattle.planus.proofs.WrittenValues.{unions_behind}
-use Rattle.planus.proofs.TableFields.{fields_more}
+use Rattle.planus.proofs.TableFields.{table_more}
 use Rattle.planus.proofs.WrittenTables.{tables_are_written}
 use Rattle.planus.proofs.Lists.{all_weaker, all_push, all_named, get_last, made_of}
 use Rattle.planus.proofs.Lists.{all_more, distance_more, union_more, named_more, named_new}
@@ -114,9 +113,10 @@ value_stays listed more (unions items) v e =
     let made = made_of value.union_vector (all_of (union_of listed) items) v e in
     rw (all_more (union_of listed) (union_of (listed ++ more)) (union_more listed more) items made.0 made.1) (ap Some made.2)
 value_stays listed more (struct alignment content) v e = e
+value_stays listed more (plains alignment size content) v e = e
 value_stays listed more (table fields) v e =
-    let made = made_of value.table (fields_of listed [] greatest_field fields) v e in
-    rw (fields_more listed more [] greatest_field fields made.0 made.1) (ap Some made.2)
+    let made = made_of value.table (table_of listed fields) v e in
+    rw (table_more listed more fields made.0 made.1) (ap Some made.2)
 value_stays listed more (finish front root identifier) v e = (cc)
 value_stays listed more clear v e = (cc)
 
@@ -403,8 +403,10 @@ values_are_written settings all done (unions items) before h v e =
     (unions_behind (ValueKept all done before.history before.listed) (length before.history.written.bytes) (value_reaches all done before.history before.listed) before.listed h.values items made.0 made.1, λ _. tt)
 values_are_written settings all done (struct alignment content) before h v e =
     let good = structs_are_written (length before.history.written.bytes) (struct_width alignment) content v e in (good.0, λ _. good.1)
+values_are_written settings all done (plains alignment size content) before h v e =
+    let good = plains_are_written (length before.history.written.bytes) (struct_width alignment) size content v e in (good.0, λ _. good.1)
 values_are_written settings all done (table fields) before h v e =
-    let made = made_of value.table (fields_of before.listed [] greatest_field fields) v e in
+    let made = made_of value.table (table_of before.listed fields) v e in
     subst (λ v. IsWritten (length before.history.written.bytes) v × (TextIsUtf8 (table fields) → WellFormed v)) made.2
     (tables_are_written (ValueKept all done before.history before.listed) (length before.history.written.bytes) (value_reaches all done before.history before.listed) before.listed h.values fields made.0 made.1, λ _. tt)
 values_are_written settings all done (finish front root identifier) before h v e = (cc)
@@ -437,6 +439,8 @@ step_kept settings all done (unions items) before after there up_to writes h =
     written_kept settings all done (unions items) before after refl (λ s history. refl) writes writes writes.are there h
 step_kept settings all done (struct alignment content) before after there up_to writes h =
     written_kept settings all done (struct alignment content) before after refl (λ s history. refl) writes writes writes.are there h
+step_kept settings all done (plains alignment size content) before after there up_to writes h =
+    written_kept settings all done (plains alignment size content) before after refl (λ s history. refl) writes writes writes.are there h
 step_kept settings all done (table fields) before after there up_to writes h =
     written_kept settings all done (table fields) before after refl (λ s history. refl) writes writes writes.are there h
 step_kept settings all done (finish root_first root identifier) before after there up_to writes h =

@@ -1,5 +1,5 @@
 -- The distances of what is named, by its kind.
-use Rattle.std.proofs.Common.{◌≡◌, ℕ, ◌≤◌, List, [], refl, sym, ap, ◌∙◌, subst, map, Option, Some, None}
+use Rattle.std.proofs.Common.{◌≡◌, ℕ, ◌≤◌, List, refl, sym, ap, ◌∙◌, subst, map, Option, Some, None}
 use Rattle.std.proofs.Common.{Bool, true, false}
 use Rattle.std.specs.Prelude.{if◌then◌else◌}
 use Rattle.std.specs.Int.{Width, byte_len, to_le_bytes}
@@ -9,15 +9,15 @@ use Rattle.planus_read.specs.Values as value
 use Rattle.planus_read.specs.Values.{Value}
 use Rattle.planus_write.specs.Parts.{Named, named_by}
 use Rattle.planus_write.specs.Kept.{TagsReached}
-use Rattle.planus.specs.Steps.{Step, text, bytes, numbers, refs, unions, struct, table, finish, clear}
-use Rattle.planus.specs.Slots.{greatest_field}
+use Rattle.planus.specs.Steps.{Step, text, bytes, numbers, refs, unions, struct, plains, table, finish, clear}
 use Rattle.planus.specs.Kinds.{StepKind, a_value, a_union_vector, kind_of, kind_by_tags, kind_named}
 use Rattle.planus.specs.inner.Names.{IsReached}
 use Rattle.planus.specs.Runs.{Listed, named_at, value_distance, tags_distance, references_distance}
 use Rattle.planus.specs.Runs.{distance_at, value_at, union_of, all_of, width_of, fits_width}
-use Rattle.planus.specs.Runs.{numbers_value, fields_of, value_of}
-use Rattle.planus.specs.Runs.{struct_width, fits_alignment, struct_value}
+use Rattle.planus.specs.Runs.{numbers_value, value_of}
+use Rattle.planus.specs.Runs.{struct_width, struct_of, table_of}
 use Rattle.planus.specs.declared.replaying.faults.Why.{Why}
+use Rattle.planus.proofs.Structs.{plains_made}
 use Rattle.planus.proofs.Lists.{made_after, made_of}
 
 value_kind : (named : Named) (distance : ℕ) → value_distance named ≡ Some distance → kind_named named ≡ a_value
@@ -132,16 +132,6 @@ numbers_kind (Some width) items v got e = by_test (list_all (fits_width width) i
         subst (λ w. kind_named (named_by w got) ≡ a_value) same refl
     by_test false e = (cc)
 
-struct_kind : (width : Option Width) (content : List ℕ) (v : Value) (got : List ℕ) → struct_value width content ≡ Some v → kind_named (named_by v got) ≡ a_value
-struct_kind None content v got e = (cc)
-struct_kind (Some width) content v got e = by_test (fits_alignment (byte_len width) content) e
-  where
-    by_test : (fit : Bool) → (if fit then Some (value.apart (record { bytes = content; alignment = byte_len width })) else None) ≡ Some v → kind_named (named_by v got) ≡ a_value
-    by_test true e =
-        let same : value.apart (record { bytes = content; alignment = byte_len width }) ≡ v = cc in
-        subst (λ w. kind_named (named_by w got) ≡ a_value) same refl
-    by_test false e = (cc)
-
 pub kind_written : (listed : List Listed) (step : Step) (v : Value) (got : List ℕ) → value_of listed step ≡ Some v → kind_of step ≡ Some (kind_named (named_by v got))
 kind_written listed (text content) v got e =
     let same : value.text content ≡ v = cc in
@@ -157,9 +147,13 @@ kind_written listed (unions items) v got e =
     let made = made_of value.union_vector (all_of (union_of listed) items) v e in
     subst (λ w. Some a_union_vector ≡ Some (kind_named (named_by w got))) made.2 refl
 kind_written listed (struct alignment content) v got e =
-    ap (λ (k : StepKind). Some k) (sym (struct_kind (struct_width alignment) content v got e))
+    let made = made_of value.apart (struct_of (struct_width alignment) content) v e in
+    subst (λ w. Some a_value ≡ Some (kind_named (named_by w got))) made.2 refl
+kind_written listed (plains alignment size content) v got e =
+    let made = plains_made (struct_width alignment) size content v e in
+    subst (λ w. Some a_value ≡ Some (kind_named (named_by w got))) made.same refl
 kind_written listed (table fields) v got e =
-    let made = made_of value.table (fields_of listed [] greatest_field fields) v e in
+    let made = made_of value.table (table_of listed fields) v e in
     subst (λ w. Some a_value ≡ Some (kind_named (named_by w got))) made.2 refl
 kind_written listed (finish front root identifier) v got e = (cc)
 kind_written listed clear v got e = (cc)

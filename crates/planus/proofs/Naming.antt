@@ -10,12 +10,12 @@ use Rattle.std.proofs.lemmas.Bool.Decides.{nat_tests}
 use Rattle.std.proofs.lemmas.List.{map_push}
 use Rattle.std.proofs.Math.Seq.{drop-length}
 use Rattle.planus_write.specs.Parts.{Named}
-use Rattle.planus.specs.Steps.{Step, text, bytes, numbers, refs, unions, struct, table, finish, clear}
+use Rattle.planus.specs.Steps.{Step, text, bytes, numbers, refs, unions, struct, plains, table, finish, clear}
 use Rattle.planus.specs.Kinds.{StepKind, a_value, kind_of, kind_named, naming_fault}
 use Rattle.planus.specs.inner.Names.{name_of}
 use Rattle.planus.specs.Replays.{is_clear, named_step, fault_of, first_fault, union_fault, check_by}
 use Rattle.planus.specs.Replays.{broken_check}
-use Rattle.planus.specs.Slots.{greatest_field}
+use Rattle.planus.specs.Slots.{greatest_field, size_fault}
 use Rattle.planus.specs.inner.Replaying.{names, name_fault, Wrote}
 use Rattle.planus.specs.inner.Replaying.{AllWrote, HasTaken}
 use Rattle.planus.specs.declared.replaying.faults.Why.TheVariants.{ZeroTag}
@@ -37,6 +37,7 @@ named_from steps step c false kind e got h = rw (none_pushed steps e) h
     none_pushed (refs named ∷ xs) e = none_pushed xs e
     none_pushed (unions items ∷ xs) e = none_pushed xs e
     none_pushed (struct alignment content ∷ xs) e = none_pushed xs e
+    none_pushed (plains alignment size content ∷ xs) e = none_pushed xs e
     none_pushed (table fields ∷ xs) e = none_pushed xs e
     none_pushed (finish front root identifier ∷ xs) e = none_pushed xs e
     none_pushed (clear ∷ xs) e = (cc)
@@ -82,6 +83,7 @@ named_back (x ∷ steps) step c zero h = inl (by_kind (is_clear x) (list_any is_
     none_among (refs named ∷ xs) e = none_among xs e
     none_among (unions items ∷ xs) e = none_among xs e
     none_among (struct alignment content ∷ xs) e = none_among xs e
+    none_among (plains alignment size content ∷ xs) e = none_among xs e
     none_among (table fields ∷ xs) e = none_among xs e
     none_among (finish front root identifier ∷ xs) e = none_among xs e
     none_among (clear ∷ xs) e = (cc)
@@ -108,6 +110,7 @@ not_behind_clear (x ∷ steps) c zero h = (let e : (if is_clear x || list_any is
     last_clear (refs named ∷ xs) = last_clear xs
     last_clear (unions items ∷ xs) = last_clear xs
     last_clear (struct alignment content ∷ xs) = last_clear xs
+    last_clear (plains alignment size content ∷ xs) = last_clear xs
     last_clear (table fields ∷ xs) = last_clear xs
     last_clear (finish front root identifier ∷ xs) = last_clear xs
     last_clear (clear ∷ xs) = refl
@@ -198,8 +201,9 @@ same_check f g same (bytes content) = refl
 same_check f g same (numbers width items) = refl
 same_check f g same (refs named) = same_first (f a_value) (g a_value) (same a_value) named
 same_check f g same (struct alignment content) = refl
+same_check f g same (plains alignment size content) = refl
 same_check f g same (unions items) = same_first (union_fault (f a_value)) (union_fault (g a_value)) (same_union (f a_value) (g a_value) (same a_value)) items
-same_check f g same (table fields) = same_fields f g same [] greatest_field fields
+same_check f g same (table fields) = ap (λ o. option_or o (size_fault fields)) (same_fields f g same [] greatest_field fields)
 same_check f g same (finish front root identifier) = same a_value root
 same_check f g same clear = refl
 

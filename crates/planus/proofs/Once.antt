@@ -11,7 +11,7 @@ use Rattle.planus_write.specs.Shared.{ContentsKind, texts, byte_lists, vtables, 
 use Rattle.planus_write.specs.Shared.{Cached, distance_cached, earlier_distance, and_cached}
 use Rattle.planus_write.specs.History.{History, Entry, PutsAfter, PutsAll, part_after, found_before}
 use Rattle.planus_write.specs.Parts.{Named, last_of, text_entry, byte_list_entry}
-use Rattle.planus.specs.Steps.{Step, text, bytes, numbers, refs, unions, struct, table, finish, clear}
+use Rattle.planus.specs.Steps.{Step, text, bytes, numbers, refs, unions, struct, plains, table, finish, clear}
 use Rattle.planus.specs.Runs.{Finish, Listed, RunState, nothing_written, Writes, Advances, LeadsTo, value_distance, value_of, values_added}
 use Rattle.planus.specs.Runs.{named_at, finishes_added}
 use Rattle.planus.specs.Replays.{is_clear}
@@ -171,6 +171,8 @@ module _ (settings : CacheSettings) (all : List Step) where
       once_with done (unions items) before after there writes h (none_found done (unions items) before after there writes h refl (value_of before.listed (unions items))) tt
   step_once done (struct alignment content) before after there writes h =
       once_with done (struct alignment content) before after there writes h (none_found done (struct alignment content) before after there writes h refl (value_of before.listed (struct alignment content))) tt
+  step_once done (plains alignment size content) before after there writes h =
+      once_with done (plains alignment size content) before after there writes h (none_found done (plains alignment size content) before after there writes h refl (value_of before.listed (plains alignment size content))) tt
   step_once done (table fields) before after there writes h =
       once_with done (table fields) before after there writes h (none_found done (table fields) before after there writes h refl (value_of before.listed (table fields))) tt
   step_once done (finish front root identifier) before after there writes h =
@@ -234,6 +236,7 @@ module _ (settings : CacheSettings) where
   step_stays before (refs steps) after kind w = all_stays settings w.entries [] before.history w.got after.history w.puts
   step_stays before (unions items) after kind w = all_stays settings w.entries [] before.history w.got after.history w.puts
   step_stays before (struct alignment content) after kind w = all_stays settings w.entries [] before.history w.got after.history w.puts
+  step_stays before (plains alignment size content) after kind w = all_stays settings w.entries [] before.history w.got after.history w.puts
   step_stays before (table fields) after kind w = all_stays settings w.entries [] before.history w.got after.history w.puts
   step_stays before (finish front root identifier) after kind w = all_stays settings w.entries [] before.history w.got after.history w.puts
   step_stays before clear after kind w = (cc)

@@ -9,7 +9,7 @@ use Rattle.planus_write.specs.Shared.{Contents, CacheSettings, and_cached, share
 use Rattle.planus_write.specs.History.{History, Entry, Adds, PutsAfter, Puts, PutsAll}
 use Rattle.planus_write.specs.History.{ComesToTooLarge as ComesToTooLargeEntry, part_after}
 use Rattle.planus_write.specs.History.{found_before}
-use Rattle.planus.specs.Steps.{Step, text, bytes, numbers, refs, unions, struct, table, finish, clear}
+use Rattle.planus.specs.Steps.{Step, text, bytes, numbers, refs, unions, struct, plains, table, finish, clear}
 use Rattle.planus.specs.Runs.{Finish, RunState, Writes, Advances, LeadsTo, StepTooLarge}
 use Rattle.planus.specs.Runs.{nothing_written, value_of, values_added}
 use Rattle.planus.specs.Runs.{finishes_added}
@@ -125,6 +125,7 @@ module _ (settings : CacheSettings) where
   advanced_once before (refs steps) a b x y = written_once before (refs steps) a b x y
   advanced_once before (unions items) a b x y = written_once before (unions items) a b x y
   advanced_once before (struct alignment content) a b x y = written_once before (struct alignment content) a b x y
+  advanced_once before (plains alignment size content) a b x y = written_once before (plains alignment size content) a b x y
   advanced_once before (table fields) a b x y = written_once before (table fields) a b x y
   advanced_once before (finish front root identifier) a b x y = written_once before (finish front root identifier) a b x y
   advanced_once before clear a b x y = x ∙ sym y
@@ -146,6 +147,7 @@ module _ (settings : CacheSettings) where
   leads_nowhere before (refs steps) after far h = stuck before (refs steps) after far h
   leads_nowhere before (unions items) after far h = stuck before (unions items) after far h
   leads_nowhere before (struct alignment content) after far h = stuck before (struct alignment content) after far h
+  leads_nowhere before (plains alignment size content) after far h = stuck before (plains alignment size content) after far h
   leads_nowhere before (table fields) after far h = stuck before (table fields) after far h
   leads_nowhere before (finish front root identifier) after far h = stuck before (finish front root identifier) after far h
   leads_nowhere before clear after far h = (let e : None ≡ Some far.entries = far.are in cc)

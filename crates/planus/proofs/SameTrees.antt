@@ -9,27 +9,29 @@ use Rattle.std.proofs.lemmas.List.{map_push}
 use Rattle.std.proofs.Math.Seq.{take-append_seam}
 use Rattle.std.proofs.Common.{length-append}
 use Rattle.planus_read.specs.Values as value
-use Rattle.planus_read.specs.Values.{Value, Field}
+use Rattle.planus_read.specs.Values.{Plain, Value, Field}
 use Rattle.planus_read.specs.Stands.{ReferenceStands}
 use Rattle.planus_write.specs.Shared.{CacheSettings}
 use Rattle.planus_write.specs.History.{History, Adds, PutsAll}
 use Rattle.planus_write.specs.Parts.{Named, named_by, entries_of, finish_part, sized_finish_part}
 use Rattle.planus_write.specs.lemmas.StandingLaws.{finishes_lead, sized_finishes_stand}
-use Rattle.planus.specs.Steps.{Step, text, bytes, numbers, refs, unions, struct, table, finish, clear}
+use Rattle.planus.specs.Steps.{Step, text, bytes, numbers, refs, unions, struct, plains, table, finish, clear}
 use Rattle.planus.specs.Steps.{Front, root_first, size_first}
 use Rattle.planus.specs.FinishHolds.{root_at}
-use Rattle.planus.specs.Steps.{FieldStep, number_field, ref_field, tags_field, values_field}
+use Rattle.planus.specs.Steps.{FieldStep, number_field, struct_field, ref_field, tags_field}
+use Rattle.planus.specs.Steps.{values_field}
 use Rattle.planus.specs.Slots.{greatest_field, place_fault, alignment_of}
 use Rattle.planus.specs.Runs.{Listed, RunState, cleared, Writes, Advances, LeadsTo, nothing_written, value_of}
 use Rattle.planus.specs.Runs.{value_at, distance_at, value_distance, tags_distance, references_distance}
 use Rattle.planus.specs.Runs.{union_of, all_of, width_of, fits_width, numbers_value, field_width, plain_field}
 use Rattle.planus.specs.Runs.{field_of, fields_of, values_added, finishes_added, finish_of}
-use Rattle.planus.specs.Runs.{struct_width, fits_alignment, struct_value}
+use Rattle.planus.specs.Runs.{struct_width, struct_of, table_of}
 use Rattle.planus.specs.SameTrees.{AllPairs, LeadToOneStep, SameField, SameEntry, SameUnion, SameValue}
 use Rattle.planus.specs.SameTrees.{SamePlace, SameTrees, TreesAreTheSame}
 use Rattle.planus.proofs.Kept.{Kept, ValueKept, root_behind, step_kept, nothing_kept}
 use Rattle.planus.proofs.Lists.{made_of, all_made, union_made, get_last}
-use Rattle.planus.proofs.TableFields.{fields_made}
+use Rattle.planus.proofs.Structs.{plains_made}
+use Rattle.planus.proofs.TableFields.{table_made, fields_made}
 
 one_result : {X : Type 0} (o : Option X) (x y : X) → o ≡ Some x → o ≡ Some y → x ≡ y
 one_result {X} o x y e f = (let g : Some x ≡ Some y = sym e ∙ f in cc)
@@ -70,19 +72,13 @@ module _ (ones others : List Listed) where
           subst (λ w. SameValue ones others v w) other (subst (λ v. SameValue ones others v list) one (refl, refl, refl))
       by_test false e f = (cc)
 
-  struct_same : (width : Option Width) (content : List ℕ) (v w : Value) → struct_value width content ≡ Some v → struct_value width content ≡ Some w → SameValue ones others v w
-  struct_same None content v w e f = (cc)
-  struct_same (Some width) content v w e f = by_test (fits_alignment (byte_len width) content) e f
-    where
-      alone : Value
-      alone = value.apart (record { bytes = content; alignment = byte_len width })
-
-      by_test : (fit : Bool) → (if fit then Some alone else None) ≡ Some v → (if fit then Some alone else None) ≡ Some w → SameValue ones others v w
-      by_test true e f =
-          let one : alone ≡ v = cc in
-          let other : alone ≡ w = cc in
-          subst (λ w. SameValue ones others v w) other (subst (λ v. SameValue ones others v alone) one refl)
-      by_test false e f = (cc)
+  item_same : (leading : Plain → Value) → ((item : Plain) → SameValue ones others (leading item) (leading item)) → (made : Option Plain) (v w : Value)
+      → option_map leading made ≡ Some v → option_map leading made ≡ Some w → SameValue ones others v w
+  item_same leading same None v w e f = (cc)
+  item_same leading same (Some item) v w e f =
+      let one : leading item ≡ v = cc in
+      let other : leading item ≡ w = cc in
+      subst (λ w. SameValue ones others v w) other (subst (λ v. SameValue ones others v (leading item)) one (same item))
 
   union_same : (item union other : ℕ × ℕ) → union_of ones item ≡ Some union → union_of others item ≡ Some other → SameUnion ones others union other
   union_same item union other e f =
@@ -112,8 +108,16 @@ module _ (ones others : List Listed) where
           subst (λ o. SameField ones others field o) two (subst (λ u. SameField ones others u number) one refl)
       by_test false e f = (cc)
 
+  item_field_same : (made : Option Plain) (field other : Field) → option_map value.plain made ≡ Some field → option_map value.plain made ≡ Some other → SameField ones others field other
+  item_field_same None field other e f = (cc)
+  item_field_same (Some item) field other e f =
+      let one : value.plain item ≡ field = cc in
+      let two : value.plain item ≡ other = cc in
+      subst (λ o. SameField ones others field o) two (subst (λ u. SameField ones others u (value.plain item)) one refl)
+
   field_same : (content : FieldStep) (field other : Field) → field_of ones content ≡ Some field → field_of others content ≡ Some other → SameField ones others field other
   field_same (number_field width n) field other e f = number_same (field_width width) n field other e f
+  field_same (struct_field alignment content) field other e f = item_field_same (struct_of (struct_width alignment) content) field other e f
   field_same (ref_field step) field other e f = leads_same value.reference value_distance (λ d e same. same) step field other e f
   field_same (tags_field step) field other e f = leads_same value.tags tags_distance (λ d e same. same) step field other e f
   field_same (values_field step) field other e f = leads_same value.values references_distance (λ d e same. same) step field other e f
@@ -150,12 +154,18 @@ module _ (ones others : List Listed) where
       let other = made_of value.union_vector (all_of (union_of others) items) w f in
       subst (λ w. SameValue ones others v w) other.2 (subst (λ v. SameValue ones others v (value.union_vector other.0)) one.2
       (all_pairs (union_of ones) (union_of others) (SameUnion ones others) union_same items one.0 other.0 one.1 other.1))
-  value_same (struct alignment content) v w e f = struct_same (struct_width alignment) content v w e f
+  value_same (struct alignment content) v w e f = item_same value.apart (λ item. refl) (struct_of (struct_width alignment) content) v w e f
+  value_same (plains alignment size content) v w e f =
+      let made = plains_made (struct_width alignment) size content v e in
+      let same : v ≡ w = (let both : Some v ≡ Some w = sym e ∙ f in cc) in
+      subst (λ w. SameValue ones others v w) same (subst (λ u. SameValue ones others u u) made.same (refl, refl, refl))
   value_same (table fields) v w e f =
-      let one = made_of value.table (fields_of ones [] greatest_field fields) v e in
-      let other = made_of value.table (fields_of others [] greatest_field fields) w f in
+      let one = made_of value.table (table_of ones fields) v e in
+      let other = made_of value.table (table_of others fields) w f in
+      let one_all = table_made ones fields one.0 one.1 in
+      let other_all = table_made others fields other.0 other.1 in
       subst (λ w. SameValue ones others v w) other.2 (subst (λ v. SameValue ones others v (value.table other.0)) one.2
-      (fields_same [] greatest_field fields one.0 other.0 one.1 other.1))
+      (fields_same [] greatest_field fields one.0 other.0 one_all.1 other_all.1))
   value_same (finish front root identifier) v w e f = (cc)
   value_same clear v w e f = (cc)
 
@@ -264,6 +274,7 @@ module _ (settings others : CacheSettings) (all done : List Step) (a b : RunStat
   step_alike (refs steps) c d there x y = value_alike (refs steps) c d x y (λ s history. refl) x.are y.are
   step_alike (unions items) c d there x y = value_alike (unions items) c d x y (λ s history. refl) x.are y.are
   step_alike (struct alignment content) c d there x y = value_alike (struct alignment content) c d x y (λ s history. refl) x.are y.are
+  step_alike (plains alignment size content) c d there x y = value_alike (plains alignment size content) c d x y (λ s history. refl) x.are y.are
   step_alike (table fields) c d there x y = value_alike (table fields) c d x y (λ s history. refl) x.are y.are
   step_alike (finish front root identifier) c d there x y = finish_alike front root identifier c d there x y
   step_alike clear c d there x y =

@@ -31,7 +31,7 @@ use Rattle.planus_write.specs.declared.errors.BuildError.TheVariants.{OutOfMemor
 use Rattle.planus_write.specs.declared.offset.Offset.{Offset}
 use Rattle.planus_write.specs.declared.offset.Text.{Text}
 use Rattle.planus_write.specs.declared.offset.List.{List as ListOf}
-use Rattle.planus.specs.Steps.{Step, Front, text, bytes, numbers, refs, unions, struct, finish, clear}
+use Rattle.planus.specs.Steps.{Step, Front, text, bytes, numbers, refs, unions, struct, plains, finish, clear}
 use Rattle.planus_write.specs.Unions.{item_of, union_reach, WritesUnionVector}
 use Rattle.planus_write.specs.lemmas.UnionLaws.{ready_union_vector_is_put}
 use Rattle.planus_write.specs.lemmas.UnionLaws.{ready_union_vector_is_refused}
@@ -41,7 +41,7 @@ use Rattle.std.specs.Int.{Width, byte_len, to_le_bytes}
 use Rattle.std.specs.List.{list_all, AllByRecursion}
 use Rattle.planus.specs.Kinds.{a_value, kind_named}
 use Rattle.planus.specs.Runs.{width_of, fits_width, numbers_value, value_at, union_of, all_of}
-use Rattle.planus.specs.Runs.{struct_width, struct_value, fits_alignment}
+use Rattle.planus.specs.Runs.{struct_width, struct_of, plains_value}
 use Rattle.planus.specs.Runs.{AsksForMemory, ComesToRefusedEntry, StepRefused}
 use Rattle.planus.specs.Runs.{Listed, Finish, StepTooLarge, Writes, value_of, values_added, finishes_added, entries_put, finish_of}
 use Rattle.planus.specs.declared.replaying.faults.ReplayError.{ReplayError}
@@ -179,13 +179,9 @@ bytes_advanced content old (Err ReplayTooLarge) new h =
     stops {A = Offset (ListOf ℕ)} offset_named (WritesByteList content) (bytes content) (value.byte_list content) old refl refl (λ offset after put. by_entry (byte_list_entry content) old.builder offset after put) h.0 (inl h.1)
 bytes_advanced content old (Err (BadStep number why)) new h = absurd h
 
-module _ (alignment : ℕ) (w : Width) (content : List ℕ) (known : struct_width alignment ≡ Some w)
-    (fit : fits_alignment (byte_len w) content ≡ true) (old : ReplayState) where
-  abbrev item : Plain
-  item = record { bytes = content; alignment = byte_len w }
-
+module _ (alignment : ℕ) (content : List ℕ) (item : Plain) (made : struct_of (struct_width alignment) content ≡ Some item) (old : ReplayState) where
   struct_value_is : value_of (values_listed old) (struct alignment content) ≡ Some (value.apart item)
-  struct_value_is = ap (λ k. struct_value k content) known ∙ ap (λ (fits : Bool). if fits then Some (value.apart item) else None) fit
+  struct_value_is = ap (option_map value.apart) made
 
   struct_are : entries_put (values_listed old) (struct alignment content) ≡ Some (entries_of (value.apart item))
   struct_are = ap (option_map entries_of) struct_value_is
@@ -254,6 +250,32 @@ module _ (width : ℕ) (w : Width) (items : List ℕ) (known : width_of width �
       (list_writes encoding_number (byte_len w) (byte_len w) items number_list old numbers_entries (λ got. refl)) h.0
       (list_refused encoding_number (byte_len w) (byte_len w) items number_list old numbers_entries (λ got. refl) T TooLarge h.0 h.1)
   numbers_advanced T (Err (BadStep number why)) new h = absurd h
+
+module _ (alignment size : ℕ) (content : List ℕ) (each aligned : ℕ) (xs : List (List ℕ)) (made : plains_value (struct_width alignment) size content ≡ Some (value.plain_list each aligned xs)) (old : ReplayState) where
+  abbrev item_list : Value
+  item_list = value.plain_list each aligned xs
+
+  plains_are : entries_put (values_listed old) (plains alignment size content) ≡ Some (entries_of item_list)
+  plains_are = ap (option_map entries_of) made
+
+  pub plains_advanced : (T : Type 0) (answer : Result (Unit {0}) ReplayError) (new : ReplayState)
+      → WritesValue {A = Offset T} offset_named (WritesList Answers plain_item each aligned xs) old answer new → Advanced old (plains alignment size content) answer new
+  plains_advanced T (Ok done) new noted = record {
+    taken = took_one old new (plains alignment size content) (Some noted.noted) (noted_kind noted.noted noted.answer noted.same) noted.first noted.pushed;
+    advances = runs_on offset_named (WritesList Answers plain_item each aligned xs) (plains alignment size content) item_list old made plains_are
+        (list_writes plain_item each aligned xs item_list old refl (λ got. refl)) new noted (λ history after. refl);
+    settings = settings_stay offset_named (WritesList Answers plain_item each aligned xs) (plains alignment size content) item_list old made plains_are
+        (list_writes plain_item each aligned xs item_list old refl (λ got. refl)) new noted;
+  }
+  plains_advanced T (Err ReplayOutOfMemory) new h =
+      lacks {A = Offset T} offset_named (WritesList Answers plain_item each aligned xs) (plains alignment size content) item_list old made plains_are
+      (list_writes plain_item each aligned xs item_list old refl (λ got. refl))
+      (list_refused plain_item each aligned xs item_list old refl (λ got. refl) T OutOfMemory) new h
+  plains_advanced T (Err ReplayTooLarge) new h =
+      stops {A = Offset T} offset_named (WritesList Answers plain_item each aligned xs) (plains alignment size content) item_list old made plains_are
+      (list_writes plain_item each aligned xs item_list old refl (λ got. refl)) h.0
+      (list_refused plain_item each aligned xs item_list old refl (λ got. refl) T TooLarge h.0 h.1)
+  plains_advanced T (Err (BadStep number why)) new h = absurd h
 
 module _ (steps : List ℕ) (offsets : List (Offset (Unit {0}))) (old : ReplayState)
     (found : all_of (value_at (values_listed old)) steps ≡ Some (map (λ (o : Offset (Unit {0})). o.distance) offsets)) where

@@ -17,7 +17,7 @@ use Rattle.planus_write.specs.declared.offset.Offset.{Offset}
 use Rattle.planus.specs.Steps.{FieldStep, table}
 use Rattle.planus.specs.Slots.{greatest_field}
 use Rattle.planus.specs.Kinds.{kind_named}
-use Rattle.planus.specs.Runs.{value_of, entries_put, fields_of}
+use Rattle.planus.specs.Runs.{value_of, entries_put, fields_of, table_of}
 use Rattle.planus_write.specs.declared.errors.BuildError.TheVariants as build
 use Rattle.planus_write.specs.Tables.{IsFieldAfter, body_size}
 use Rattle.planus_write.specs.TableWriting.{Writer, WasTold}
@@ -34,13 +34,14 @@ use Rattle.planus.specs.inner.Replaying.{values_listed, Advanced, WritesValue}
 use Rattle.planus.proofs.Naming.{took_one}
 use Rattle.planus.proofs.Stepping.{runs_on, settings_stay, stops, lacks}
 use Rattle.planus.proofs.Declaring.{values_reached}
+use Rattle.planus.proofs.TableFields.{table_made}
 use Rattle.planus.proofs.WrittenTables.{tables_are_written}
 
 abbrev pub WritesTableAt : {T : Type 0} → List (ℕ × Field) → Outcome (Offset T)
 WritesTableAt all before (Ok offset) after = (got : List ℕ) × WritesEntries (table_entries all) [] before (Ok got) after × (last_of got ≡ offset.distance)
 WritesTableAt all before (Err error) after = WritesEntries (table_entries all) [] before (Err error) after
 
-module _ (fields : List (ℕ × FieldStep)) (all : List (ℕ × Field)) (old : ReplayState) (made : fields_of (values_listed old) [] greatest_field fields ≡ Some all) where
+module _ (fields : List (ℕ × FieldStep)) (all : List (ℕ × Field)) (old : ReplayState) (made : table_of (values_listed old) fields ≡ Some all) where
   table_value_is : value_of (values_listed old) (table fields) ≡ Some (value.table all)
   table_value_is = ap (option_map value.table) made
 
@@ -77,7 +78,7 @@ pub table_refused : (T : Type 0) (all : List (ℕ × Field)) (before after : bui
     → WritesTableAt {T = T} all before (Err error) after
 table_refused T all before after error put = subst (λ n. WritesEntries (object_entries n (declared_of all) (λ place. body_bytes place all)) [] before (Err error) after) (slots_same all) put
 
-pub table_stopped : (fields : List (ℕ × FieldStep)) (all : List (ℕ × Field)) (old : ReplayState) → fields_of (values_listed old) [] greatest_field fields ≡ Some all
+pub table_stopped : (fields : List (ℕ × FieldStep)) (all : List (ℕ × Field)) (old : ReplayState) → table_of (values_listed old) fields ≡ Some all
     → (error : BuildError) (new : ReplayState) → WritesTableAt {T = Unit {0}} all old.builder (Err error) new.builder → Advanced old (table fields) (Err (replay_error error)) new
 table_stopped fields all old made build.OutOfMemory new h = table_advanced fields all old made (Unit {0}) (Err ReplayOutOfMemory) new (inl (new.builder, h))
 table_stopped fields all old made build.TooLarge new h = table_advanced fields all old made (Unit {0}) (Err ReplayTooLarge) new (new.builder, h)
@@ -94,13 +95,13 @@ reach_within bytes (entry ∷ all) fields =
     by_field (value.values distance) is = is
 
 module _ (old : ReplayState) (offsets : List (Option Written)) (are : offsets ≡ old.offsets.items) (fields : List (ℕ × FieldStep)) (all : List (ℕ × Field))
-    (made : fields_of (values_listed old) [] greatest_field fields ≡ Some all) where
+    (made : table_of (values_listed old) fields ≡ Some all) where
   abbrev these : List (ℕ × Field)
   these = fields_or_none (fields_of (listed_from old.first (map name_of offsets)) [] greatest_field fields)
 
   same : these ≡ all
   same =
-      ap (λ (os : List (Option Written)). fields_or_none (fields_of (listed_from old.first (map name_of os)) [] greatest_field fields)) are ∙ ap fields_or_none made
+      ap (λ (os : List (Option Written)). fields_or_none (fields_of (listed_from old.first (map name_of os)) [] greatest_field fields)) are ∙ ap fields_or_none (table_made (values_listed old) fields all made).1
 
   pub body_sized : (writer : Writer) → WasTold writer (declared_of all) → body_size these + 4 ≡ writer.object_size
   body_sized writer told =

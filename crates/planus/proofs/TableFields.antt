@@ -6,14 +6,18 @@ use Rattle.std.specs.Int.{Width, byte_len, to_le_bytes}
 use Rattle.std.specs.Option.{option_or, option_map}
 use Rattle.planus_read.specs.Values as value
 use Rattle.planus_read.specs.Values.{Field}
-use Rattle.planus.specs.Steps.{FieldStep, number_field, ref_field, tags_field, values_field}
+use Rattle.planus.specs.Steps.{FieldStep, number_field, struct_field, ref_field, tags_field}
+use Rattle.planus.specs.Steps.{values_field}
 use Rattle.planus_write.specs.Parts.{Named}
 use Rattle.planus.specs.Kinds.{StepKind}
-use Rattle.planus.specs.Slots.{place_fault, slot_fault, rising_fault, alignment_of}
+use Rattle.planus.specs.Slots.{place_fault, slot_fault, rising_fault, size_fault, alignment_of}
+use Rattle.planus.specs.Slots.{greatest_field}
 use Rattle.planus.specs.Runs.{Listed, tags_distance, references_distance, value_distance, distance_at}
 use Rattle.planus.specs.Runs.{value_at, field_width, fits_width, plain_field}
-use Rattle.planus.specs.Runs.{field_of, with_field, fields_of}
+use Rattle.planus.specs.Runs.{field_of, with_field, fields_of, fields_if, table_of}
+use Rattle.planus.specs.Runs.{struct_width, struct_of}
 use Rattle.planus.specs.TableChecks.{number_fault, content_fault, field_fault, fields_fault}
+use Rattle.planus.specs.TableChecks.{table_fault}
 use Rattle.planus.specs.inner.Declaring.{slots_of}
 use Rattle.planus.specs.declared.replaying.faults.Why.{Why}
 use Rattle.planus.specs.declared.replaying.faults.Why.TheVariants.{ValueTooBig}
@@ -21,6 +25,7 @@ use Rattle.planus.proofs.FieldFaults.{none_of, last_alignment}
 use Rattle.planus.proofs.NamedKinds.{NamedAreGood, value_good, tags_good, references_good}
 use Rattle.planus.proofs.NamedKinds.{GoodAreNamed, good_value, good_tags, good_references}
 use Rattle.planus.proofs.Lists.{made_of, distance_more}
+use Rattle.planus.proofs.Structs.{struct_good, struct_there}
 
 pub fields_made : (slot : ℕ) (fault : Option Why) (field : Option Field) (rest : Option (List (ℕ × Field))) (all : List (ℕ × Field)) → with_field slot fault field rest ≡ Some all
     → (fault ≡ None) × (here : Field) × (field ≡ Some here) × (more : List (ℕ × Field)) × (rest ≡ Some more) × ((slot, here) ∷ more ≡ all)
@@ -37,6 +42,7 @@ leads_more leading which listed more step field e =
 
 field_more : (listed more : List Listed) (content : FieldStep) (field : Field) → field_of listed content ≡ Some field → field_of (listed ++ more) content ≡ Some field
 field_more listed more (number_field width n) field e = e
+field_more listed more (struct_field alignment content) field e = e
 field_more listed more (ref_field step) field e = leads_more value.reference value_distance listed more step field e
 field_more listed more (tags_field step) field e = leads_more value.tags tags_distance listed more step field e
 field_more listed more (values_field step) field e = leads_more value.values references_distance listed more step field e
@@ -47,6 +53,25 @@ fields_more listed more slots before [] all e = e
 fields_more listed more slots before (entry ∷ fields) all e =
     let made = fields_made entry.0 (place_fault slots before entry) (field_of listed entry.1) (fields_of listed (slots ++ entry.0 ∷ []) (alignment_of entry.1) fields) all e in
     rw (made.0, field_more listed more entry.1 made.1 made.2, fields_more listed more (slots ++ entry.0 ∷ []) (alignment_of entry.1) fields made.3 made.4) (ap Some made.5)
+
+pub table_made : (listed : List Listed) (fields : List (ℕ × FieldStep)) (all : List (ℕ × Field)) → table_of listed fields ≡ Some all
+    → (size_fault fields ≡ None) × (fields_of listed [] greatest_field fields ≡ Some all)
+table_made listed fields all e = by_fault (size_fault fields) refl e
+  where
+    by_fault : (fault : Option Why) → size_fault fields ≡ fault → fields_if fault (fields_of listed [] greatest_field fields) ≡ Some all
+        → (size_fault fields ≡ None) × (fields_of listed [] greatest_field fields ≡ Some all)
+    by_fault None is e = (is, e)
+    by_fault (Some why) is e = (cc)
+
+pub table_is : (listed : List Listed) (fields : List (ℕ × FieldStep)) (all : List (ℕ × Field)) → size_fault fields ≡ None
+    → fields_of listed [] greatest_field fields ≡ Some all → table_of listed fields ≡ Some all
+table_is listed fields all fits e = ap (λ fault. fields_if fault (fields_of listed [] greatest_field fields)) fits ∙ e
+
+pub table_more : (listed more : List Listed) (fields : List (ℕ × FieldStep)) (all : List (ℕ × Field)) → table_of listed fields ≡ Some all
+    → table_of (listed ++ more) fields ≡ Some all
+table_more listed more fields all e =
+    let made = table_made listed fields all e in
+    table_is (listed ++ more) fields all made.0 (fields_more listed more [] greatest_field fields all made.1)
 
 pub fields_push : (listed : List Listed) (slots : List ℕ) (before : ℕ) (xs : List (ℕ × FieldStep)) (x : ℕ × FieldStep) (all : List (ℕ × Field)) (field : Field)
     → fields_of listed slots before xs ≡ Some all → place_fault (slots ++ slots_of xs) (last_alignment before xs) x ≡ None → field_of listed x.1 ≡ Some field
@@ -79,6 +104,8 @@ both_none first second e (Some why) none = (cc)
 module _ (listed : List Listed) (fault : StepKind → ℕ → Option Why) (good : NamedAreGood listed fault) where
   content_good : (content : FieldStep) (field : Field) → field_of listed content ≡ Some field → content_fault fault content ≡ None
   content_good (number_field width n) field e = number_good (field_width width) n field e
+  content_good (struct_field alignment content) field e =
+      let made = made_of value.plain (struct_of (struct_width alignment) content) field e in struct_good (struct_width alignment) content made.0 made.1
   content_good (ref_field step) field e =
       let made = made_of value.reference (value_at listed step) field e in value_good listed fault good step made.0 made.1
   content_good (tags_field step) field e =
@@ -95,6 +122,11 @@ module _ (listed : List Listed) (fault : StepKind → ℕ → Option Why) (good 
       = both_none (slot_fault slots entry.0) (rising_fault before (alignment_of entry.1)) made.0 (content_fault fault entry.1) (content_good entry.1 made.1 made.2) in
       rw here (fields_good (slots ++ entry.0 ∷ []) (alignment_of entry.1) fields made.3 made.4)
 
+  pub table_good : (fields : List (ℕ × FieldStep)) (all : List (ℕ × Field)) → table_of listed fields ≡ Some all → table_fault fault fields ≡ None
+  table_good fields all e =
+      let made = table_made listed fields all e in
+      ap (λ o. option_or o (size_fault fields)) (fields_good [] greatest_field fields all made.1) ∙ made.0
+
 module _ (listed : List Listed) (fault : StepKind → ℕ → Option Why) (good : GoodAreNamed listed fault) where
   number_made : (width : Option Width) (n : ℕ) → number_fault width n ≡ None → (field : Field) × (plain_field width n ≡ Some field)
   number_made None n e = (cc)
@@ -107,6 +139,8 @@ module _ (listed : List Listed) (fault : StepKind → ℕ → Option Why) (good 
 
   content_made : (content : FieldStep) → content_fault fault content ≡ None → (field : Field) × (field_of listed content ≡ Some field)
   content_made (number_field width n) e = number_made (field_width width) n e
+  content_made (struct_field alignment content) e =
+      let of = struct_there (struct_width alignment) content e in (value.plain of.0, ap (option_map value.plain) of.1)
   content_made (ref_field step) e =
       let of = good_value listed fault good step e in (value.reference of.0, ap (option_map value.reference) of.1)
   content_made (tags_field step) e =
@@ -125,3 +159,9 @@ module _ (listed : List Listed) (fault : StepKind → ℕ → Option Why) (good 
       let here = content_made entry.1 content.0 in
       let rest = fields_are (slots ++ entry.0 ∷ []) (alignment_of entry.1) fields both.1 in
       ((entry.0, here.0) ∷ rest.0, rw (place, here.1, rest.1) refl)
+
+  pub table_are : (fields : List (ℕ × FieldStep)) → table_fault fault fields ≡ None → (all : List (ℕ × Field)) × (table_of listed fields ≡ Some all)
+  table_are fields e =
+      let both = none_of (fields_fault fault [] greatest_field fields) (size_fault fields) e in
+      let made = fields_are [] greatest_field fields both.0 in
+      (made.0, table_is listed fields made.0 both.1 made.1)

@@ -6,7 +6,7 @@ use Rattle.std.specs.Prelude.{slice_get}
 use Rattle.std.specs.Str.{IsUtf8}
 use Rattle.std.specs.String.{string_bytes}
 use Rattle.std.proofs.lemmas.Str.{IsUtf8-string_bytes}
-use Rattle.planus.specs.Steps.{Step, text, bytes, numbers, refs, unions, struct, table, finish, clear}
+use Rattle.planus.specs.Steps.{Step, text, bytes, numbers, refs, unions, struct, plains, table, finish, clear}
 use Rattle.planus.specs.Steps.{bare_step}
 use Rattle.planus.specs.Kinds.{StepKind, a_value, a_union_vector, kind_named, naming_fault}
 use Rattle.planus_read.specs.Values.{Value}
@@ -14,9 +14,9 @@ use Rattle.planus_write.specs.Shared.{CacheSettings}
 use Rattle.planus_write.specs.History.{Entry}
 use Rattle.planus.specs.Runs.{RunState, Advances, LeadsTo, StepTooLarge, nothing_written}
 use Rattle.planus.specs.Runs.{value_at, union_of, all_of, entries_put, finish_of}
-use Rattle.planus.specs.Runs.{width_of, fits_width, numbers_value, fields_of}
-use Rattle.planus.specs.Runs.{struct_width, fits_alignment, struct_value}
-use Rattle.planus.specs.Slots.{greatest_field}
+use Rattle.planus.specs.Runs.{width_of, fits_width, numbers_value}
+use Rattle.planus.specs.Runs.{struct_width, struct_of, plains_value, table_of}
+use Rattle.planus.proofs.Structs.{struct_good, plains_good}
 use Rattle.planus_write.specs.Parts.{entries_of}
 use Rattle.planus_read.specs.Values as value
 use Rattle.std.specs.Option.{option_map}
@@ -24,17 +24,17 @@ use Rattle.std.specs.List.{list_all}
 use Rattle.std.specs.Int.{Width, byte_len, to_le_bytes}
 use Rattle.std.specs.Prelude.{Bool, true, false, if◌then◌else◌}
 use Rattle.planus.specs.Replays.{first_bad, first_bad_after, first_bad_or, broken_check, fault_of}
-use Rattle.planus.specs.Replays.{named_step, numbers_fault, struct_fault, first_fault, union_fault, Replays}
-use Rattle.planus.specs.declared.replaying.faults.Why.TheVariants.{ValueTooBig, WrongSize, ZeroTag}
+use Rattle.planus.specs.Replays.{named_step, numbers_fault, first_fault, union_fault, Replays}
+use Rattle.planus.specs.declared.replaying.faults.Why.TheVariants.{ValueTooBig, ZeroTag}
 use Rattle.planus.specs.declared.replaying.faults.ReplayError.TheVariants.{TooLarge, BadStep}
 use Rattle.planus.specs.declared.replaying.faults.Why.{Why}
 use Rattle.planus.specs.declared.replaying.steps.Step as code
 use Rattle.planus.specs.declared.replaying.steps.Step.TheVariants.{Text, Bytes, Numbers, Refs, Unions}
-use Rattle.planus.specs.declared.replaying.steps.Step.TheVariants.{Struct, Table, Finish, FinishSized, Clear}
+use Rattle.planus.specs.declared.replaying.steps.Step.TheVariants.{Struct, Plains, Table, Finish, FinishSized, Clear}
 use Rattle.planus.proofs.Kept.{AllUtf8, run_value}
 use Rattle.planus.proofs.Lists.{get_last, made_of, all_made, union_made}
 use Rattle.planus.proofs.NamedKinds.{NamedAreGood, value_good}
-use Rattle.planus.proofs.TableFields.{fields_good}
+use Rattle.planus.proofs.TableFields.{table_good}
 use Rattle.std.proofs.Math.Seq.{take-append_seam}
 
 none_after : (n : ℕ) (check : Option Why) (later : Option (ℕ × Why)) → first_bad_or n check later ≡ None → (check ≡ None) × (later ≡ None)
@@ -59,6 +59,7 @@ is_utf8 (Numbers width items) content e = (cc)
 is_utf8 (Refs steps) content e = (cc)
 is_utf8 (Unions items) content e = (cc)
 is_utf8 (Struct alignment list) content e = (cc)
+is_utf8 (Plains alignment size list) content e = (cc)
 is_utf8 (Table fields) content e = (cc)
 is_utf8 (Finish root id) content e = (cc)
 is_utf8 (FinishSized root id) content e = (cc)
@@ -78,14 +79,6 @@ numbers_good None items v h = (cc)
 numbers_good (Some width) items v h = by_test (list_all (fits_width width) items) h
   where
     by_test : (fit : Bool) → (if fit then Some (value.plain_list (byte_len width) (byte_len width) (map (to_le_bytes width) items)) else None) ≡ Some v → (if fit then None else Some ValueTooBig) ≡ None
-    by_test true h = refl
-    by_test false h = (cc)
-
-struct_good : (width : Option Width) (content : List ℕ) (v : Value) → struct_value width content ≡ Some v → struct_fault width content ≡ None
-struct_good None content v h = (cc)
-struct_good (Some width) content v h = by_test (fits_alignment (byte_len width) content) h
-  where
-    by_test : (fit : Bool) → (if fit then Some (value.apart (record { bytes = content; alignment = byte_len width })) else None) ≡ Some v → (if fit then None else Some WrongSize) ≡ None
     by_test true h = refl
     by_test false h = (cc)
 
@@ -135,12 +128,16 @@ module _ (settings : CacheSettings) (all cs : List Step) (c : Step) (rest : List
       let of_all = made_of value.union_vector (all_of (union_of state.listed) items) made.0 made.1 in
       all_good (union_of state.listed) (union_fault (fault_here a_value)) union_good items of_all.0 of_all.1
   put_fault (struct alignment content) entries h =
-      let made = made_of entries_of (struct_value (struct_width alignment) content) entries h in
-      struct_good (struct_width alignment) content made.0 made.1
+      let made = made_of entries_of (option_map value.apart (struct_of (struct_width alignment) content)) entries h in
+      let of_item = made_of value.apart (struct_of (struct_width alignment) content) made.0 made.1 in
+      struct_good (struct_width alignment) content of_item.0 of_item.1
+  put_fault (plains alignment size content) entries h =
+      let made = made_of entries_of (plains_value (struct_width alignment) size content) entries h in
+      plains_good (struct_width alignment) size content made.0 made.1
   put_fault (table fields) entries h =
-      let made = made_of entries_of (option_map value.table (fields_of state.listed [] greatest_field fields)) entries h in
-      let of_all = made_of value.table (fields_of state.listed [] greatest_field fields) made.0 made.1 in
-      fields_good state.listed fault_here name_good [] greatest_field fields of_all.0 of_all.1
+      let made = made_of entries_of (option_map value.table (table_of state.listed fields)) entries h in
+      let of_all = made_of value.table (table_of state.listed fields) made.0 made.1 in
+      table_good state.listed fault_here name_good fields of_all.0 of_all.1
   put_fault (finish front root identifier) entries h =
       let made = made_of (finish_of front identifier) (value_at state.listed root) entries h in
       value_named root made.0 made.1
@@ -153,6 +150,7 @@ module _ (settings : CacheSettings) (all cs : List Step) (c : Step) (rest : List
   no_fault (refs steps) after h = put_fault (refs steps) h.entries h.are
   no_fault (unions items) after h = put_fault (unions items) h.entries h.are
   no_fault (struct alignment content) after h = put_fault (struct alignment content) h.entries h.are
+  no_fault (plains alignment size content) after h = put_fault (plains alignment size content) h.entries h.are
   no_fault (table fields) after h = put_fault (table fields) h.entries h.are
   no_fault (finish front root identifier) after h = put_fault (finish front root identifier) h.entries h.are
   no_fault clear after h = refl

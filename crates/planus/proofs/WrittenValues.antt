@@ -8,18 +8,24 @@ use Rattle.std.proofs.Common.{lit<}
 use Rattle.std.proofs.lemmas.Nat.Gcd.{dvd_refl, dvd_of_mod-eq-zero}
 use Rattle.std.proofs.lemmas.Bool.{and_parts, eqb-true}
 use Rattle.std.specs.List.{AllByRecursion, list_all}
+use Rattle.std.specs.Option.{option_map}
 use Rattle.planus_back.specs.Promises.{IsPowerOfTwo}
 use Rattle.planus_read.specs.Plain.{IsLayout}
 use Rattle.planus_read.specs.Values as value
-use Rattle.planus_read.specs.Values.{Value}
+use Rattle.planus_read.specs.Values.{Plain, Value}
 use Rattle.planus_read.specs.ReadsBack.{WellFormed}
 use Rattle.planus_write.specs.Parts.{IsWritten, IsPlainList}
 use Rattle.planus_write.specs.Parts.{Named}
 use Rattle.planus.specs.inner.Names.{IsReached}
 use Rattle.planus.specs.Runs.{Listed, named_at, value_distance, distance_at, value_at, union_of}
-use Rattle.planus.specs.Runs.{all_of, numbers_value, fits_width, struct_value, fits_alignment}
+use Rattle.planus.specs.Runs.{all_of, numbers_value, fits_width, struct_width, struct_of}
+use Rattle.planus.specs.Runs.{fits_alignment, fits_size, items_of, plains_value}
 use Rattle.planus.proofs.NamedKinds.{value_reached}
-use Rattle.planus.proofs.Lists.{all_named, all_there, made_after, union_made}
+use Rattle.planus.proofs.Lists.{all_named, all_there, made_of, made_after, union_made}
+use Rattle.planus.proofs.Structs.{struct_made, struct_there, alignment_known, plains_made, plains_fit}
+use Rattle.planus.proofs.PlainItems.{size_fits, items_sizes}
+use Rattle.planus.specs.TableChecks.{struct_fault}
+use Rattle.planus.specs.Replays.{plains_fault}
 
 pub width_power : (width : Width) → IsPowerOfTwo (byte_len width)
 width_power w8 = (0, refl)
@@ -82,24 +88,50 @@ some : (n : ℕ) → not (n == 0) ≡ true → 0 < n
 some zero h = (cc)
 some (suc n) h = omega arith
 
+pub size_layout : (width : Width) (size : ℕ) → fits_size (byte_len width) size ≡ true → IsLayout size (byte_len width)
+size_layout width size fits =
+    let parts = and_parts (not (size == 0)) (size % byte_len width == 0) fits in
+    width_layout width size (some size parts.0)
+    (dvd_of_mod-eq-zero (byte_len width) (eqb-true (size % byte_len width) 0 parts.1))
+
 pub fits_layout : (width : Width) (content : List ℕ) → fits_alignment (byte_len width) content ≡ true → IsLayout (length content) (byte_len width)
-fits_layout width content fits =
-    let parts = and_parts (not (length content == 0)) (length content % byte_len width == 0) fits in
-    width_layout width (length content) (some (length content) parts.0)
-    (dvd_of_mod-eq-zero (byte_len width) (eqb-true (length content % byte_len width) 0 parts.1))
+fits_layout width content fits = size_layout width (length content) fits
+
+pub struct_layout : (width : Option Width) (content : List ℕ) (item : Plain) → struct_of width content ≡ Some item → IsLayout (length item.bytes) item.alignment
+struct_layout width content item e =
+    let made = struct_made width content item e in
+    subst (λ (item : Plain). IsLayout (length item.bytes) item.alignment) made.same (fits_layout made.known content made.fits)
+
+pub checked_layout : (alignment : ℕ) (content : List ℕ) → struct_fault (struct_width alignment) content ≡ None → IsLayout (length content) alignment
+checked_layout alignment content e =
+    let there = struct_there (struct_width alignment) content e in
+    let made = struct_made (struct_width alignment) content there.0 there.1 in
+    subst (λ n. IsLayout (length content) n) (alignment_known alignment made.known made.is) (fits_layout made.known content made.fits)
 
 pub structs_are_written : (before : ℕ) (width : Option Width) (content : List ℕ) (v : Value)
-    → struct_value width content ≡ Some v → IsWritten before v × WellFormed v
-structs_are_written before None content v e = (cc)
-structs_are_written before (Some width) content v e = by_test (fits_alignment (byte_len width) content) refl e
-  where
-    by_test : (fit : Bool) → fits_alignment (byte_len width) content ≡ fit
-        → (if fit then Some (value.apart (record { bytes = content; alignment = byte_len width })) else None) ≡ Some v
-        → IsWritten before v × WellFormed v
-    by_test true fits e =
-        let same : value.apart (record { bytes = content; alignment = byte_len width }) ≡ v = cc in
-        subst (λ v. IsWritten before v × WellFormed v) same (fits_layout width content fits, tt)
-    by_test false fits e = (cc)
+    → option_map value.apart (struct_of width content) ≡ Some v → IsWritten before v × WellFormed v
+structs_are_written before width content v e =
+    let made = made_of value.apart (struct_of width content) v e in
+    subst (λ v. IsWritten before v × WellFormed v) made.2 (struct_layout width content made.0 made.1, tt)
+
+pub plains_layout : (alignment size : ℕ) (content : List ℕ) → plains_fault (struct_width alignment) size content ≡ None → IsLayout size alignment
+plains_layout alignment size content e =
+    let fit = plains_fit alignment size content e in
+    subst (λ n. IsLayout size n) fit.is (size_layout fit.known size (size_fits (byte_len fit.known) size content fit.fits))
+
+pub plains_are_written : (before : ℕ) (width : Option Width) (size : ℕ) (content : List ℕ) (v : Value)
+    → plains_value width size content ≡ Some v → IsWritten before v × WellFormed v
+plains_are_written before width size content v e =
+    let made = plains_made width size content v e in
+    let layout = size_layout made.known size (size_fits (byte_len made.known) size content made.fits) in
+    let list : IsPlainList size (byte_len made.known) (items_of size content)
+    = record {
+      sizes = items_sizes (byte_len made.known) size content made.fits;
+      positive = layout.positive;
+      multiple = layout.multiple;
+      power = width_power made.known;
+    } in
+    subst (λ v. IsWritten before v × WellFormed v) made.same (list, tt)
 
 module _ (P : Listed → Type 0) (before : ℕ) (reached : (one : Listed) → P one → IsReached before one.named) (listed : List Listed) (all : AllByRecursion P listed) where
   pub distance_behind : (which : Named → Option ℕ) → ((named : Named) (distance : ℕ) → IsReached before named → which named ≡ Some distance → distance ≤ before)

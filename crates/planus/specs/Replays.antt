@@ -8,13 +8,13 @@ use Rattle.std.specs.List.{list_any, list_all}
 use Rattle.std.specs.Option.{option_or, option_map}
 use Rattle.std.specs.Int.{Width, byte_len}
 use Rattle.std.specs.declared.alloc.Global.{Global}
-use Rattle.planus.specs.Steps.{Step, numbers, refs, unions, struct, table, finish, clear}
+use Rattle.planus.specs.Steps.{Step, numbers, refs, unions, struct, plains, table, finish, clear}
 use Rattle.planus.specs.Kinds.{StepKind, a_value, kind_of, naming_fault}
 use Rattle.planus_write.specs.Shared.{CacheSettings}
 use Rattle.planus.specs.Runs.{Finish, Listed, RunState, nothing_written, LeadsTo, Runs}
 use Rattle.planus.specs.Runs.{ComesToTooLarge, width_of, fits_width}
-use Rattle.planus.specs.Runs.{struct_width, fits_alignment}
-use Rattle.planus.specs.TableChecks.{table_fault}
+use Rattle.planus.specs.Runs.{struct_width, fits_items}
+use Rattle.planus.specs.TableChecks.{struct_fault, table_fault}
 use Rattle.planus.specs.declared.replaying.faults.Why.{Why}
 use Rattle.planus.specs.declared.replaying.faults.Why.TheVariants.{WidthUnknown, ValueTooBig}
 use Rattle.planus.specs.declared.replaying.faults.Why.TheVariants.{ZeroTag, AlignmentUnknown, WrongSize}
@@ -51,10 +51,10 @@ numbers_fault None items = Some WidthUnknown
 numbers_fault (Some width) items =
     if list_all (fits_width width) items then None else Some ValueTooBig
 
-abbrev pub struct_fault : Option Width → List ℕ → Option Why
-struct_fault None content = Some AlignmentUnknown
-struct_fault (Some width) content =
-    if fits_alignment (byte_len width) content then None else Some WrongSize
+abbrev pub plains_fault : Option Width → ℕ → List ℕ → Option Why
+plains_fault None size content = Some AlignmentUnknown
+plains_fault (Some width) size content =
+    if fits_items (byte_len width) size content then None else Some WrongSize
 
 -- the first failed check of a step, by the errors of naming steps
 abbrev pub check_by : (StepKind → ℕ → Option Why) → Step → Option Why
@@ -62,6 +62,8 @@ check_by fault (numbers width items) = numbers_fault (width_of width) items
 check_by fault (refs steps) = first_fault (fault a_value) steps
 check_by fault (unions items) = first_fault (union_fault (fault a_value)) items
 check_by fault (struct alignment content) = struct_fault (struct_width alignment) content
+check_by fault (plains alignment size content) =
+    plains_fault (struct_width alignment) size content
 check_by fault (table fields) = table_fault fault fields
 check_by fault (finish front root identifier) = fault a_value root
 check_by fault _ = None

@@ -1,5 +1,6 @@
 -- Runs: the meaning of steps, by the definitions alone.
-use Rattle.std.specs.Prelude.{◌≡◌, ℕ, ◌+◌, ◌==◌, ◌||◌, List, [], ◌∷◌, ◌++◌, take, slice_get, Option}
+use Rattle.std.specs.Prelude.{◌≡◌, ℕ, zero, suc, ◌+◌, ◌==◌, ◌||◌, List, [], ◌∷◌, ◌++◌, take, drop}
+use Rattle.std.specs.Prelude.{slice_get, Option, ◌/◌}
 use Rattle.std.specs.Prelude.{Some}
 use Rattle.std.specs.Prelude.{None, if◌then◌else◌, Bool, true, false, nat_lt, ◌^◌, map, length, ⊤}
 use Rattle.std.specs.Prelude.{◌⊎◌, ◌%◌, ◌&&◌, not}
@@ -7,7 +8,7 @@ use Rattle.std.specs.Option.{option_map, option_and_then, is_none}
 use Rattle.std.specs.List.{list_all}
 use Rattle.std.specs.Int.{Width, w8, w16, w32, w64, w128, byte_len, to_le_bytes}
 use Rattle.planus_read.specs.Values as value
-use Rattle.planus_read.specs.Values.{Value, Field}
+use Rattle.planus_read.specs.Values.{Plain, Value, Field}
 use Rattle.planus_write.specs.Shared.{CacheSettings}
 use Rattle.planus_back.specs.Parts.{Part, Written}
 use Rattle.planus_write.specs.Limits.{IsWithinLimit}
@@ -16,10 +17,12 @@ use Rattle.planus_write.specs.History.{part_after, found_before}
 use Rattle.planus_write.specs.History.{ComesToTooLarge as ComesToTooLargeEntry}
 use Rattle.planus_write.specs.Parts.{Named, named_by, entries_of, finish_entry}
 use Rattle.planus_write.specs.Parts.{sized_finish_entry}
-use Rattle.planus.specs.Steps.{Step, text, bytes, numbers, refs, unions, struct, table, finish}
-use Rattle.planus.specs.Steps.{clear, FieldStep, number_field, ref_field, tags_field, values_field}
+use Rattle.planus.specs.Steps.{Step, text, bytes, numbers, refs, unions, struct, plains, table}
+use Rattle.planus.specs.Steps.{finish}
+use Rattle.planus.specs.Steps.{clear, FieldStep, number_field, struct_field, ref_field, tags_field}
+use Rattle.planus.specs.Steps.{values_field}
 use Rattle.planus.specs.Steps.{Front, root_first, size_first}
-use Rattle.planus.specs.Slots.{place_fault, alignment_of, greatest_field}
+use Rattle.planus.specs.Slots.{place_fault, size_fault, alignment_of, greatest_field}
 use Rattle.planus.specs.declared.replaying.faults.Why.{Why}
 
 -- a value's step and its distances
@@ -96,30 +99,56 @@ plain_field (Some width) number =
     (record { bytes = to_le_bytes width number; alignment = byte_len width }))
     else None
 
+-- the width of n bytes, to which a struct may be aligned
+-- The format: a struct is aligned as its greatest field, or as its schema says.
+abbrev pub struct_width : ℕ → Option Width
+struct_width alignment = if alignment == 16 then Some w128 else field_width alignment
+
+-- a positive multiple of the alignment
+abbrev pub fits_size : ℕ → ℕ → Bool
+fits_size alignment size = not (size == 0) && size % alignment == 0
+
+-- some bytes, as many as a multiple of the alignment
+abbrev pub fits_alignment : ℕ → List ℕ → Bool
+fits_alignment alignment content = fits_size alignment (length content)
+
+-- a struct of these bytes, aligned to a known width
+abbrev pub struct_of : Option Width → List ℕ → Option Plain
+struct_of None content = None
+struct_of (Some width) content =
+    if fits_alignment (byte_len width) content
+    then Some (record { bytes = content; alignment = byte_len width })
+    else None
+
 abbrev pub field_of : List Listed → FieldStep → Option Field
 field_of listed (number_field width number) = plain_field (field_width width) number
+field_of listed (struct_field alignment content) =
+    option_map value.plain (struct_of (struct_width alignment) content)
 field_of listed (ref_field step) = option_map value.reference (value_at listed step)
 field_of listed (tags_field step) =
     option_map value.tags (distance_at tags_distance listed step)
 field_of listed (values_field step) =
     option_map value.values (distance_at references_distance listed step)
 
--- the width of n bytes, to which a struct may be aligned
--- The format: a struct is aligned as its greatest field, or as its schema says.
-abbrev pub struct_width : ℕ → Option Width
-struct_width alignment = if alignment == 16 then Some w128 else field_width alignment
+-- the first n items of this size in bytes, one after another
+abbrev pub cut : (size n : ℕ) → List ℕ → List (List ℕ)
+cut size zero content = []
+cut size (suc n) content = take size content ∷ cut size n (drop size content)
 
--- some bytes, as many as a multiple of the alignment
-abbrev pub fits_alignment : ℕ → List ℕ → Bool
-fits_alignment alignment content =
-    not (length content == 0) && length content % alignment == 0
+-- all items of this size
+abbrev pub items_of : ℕ → List ℕ → List (List ℕ)
+items_of size content = cut size (length content / size) content
 
--- a struct of these bytes, aligned to a known width
-abbrev pub struct_value : Option Width → List ℕ → Option Value
-struct_value None content = None
-struct_value (Some width) content =
-    if fits_alignment (byte_len width) content
-    then Some (value.apart (record { bytes = content; alignment = byte_len width }))
+-- items of a positive multiple of the alignment, and nothing behind the last
+abbrev pub fits_items : ℕ → ℕ → List ℕ → Bool
+fits_items alignment size content = fits_size alignment size && length content % size == 0
+
+-- a vector of items of this size, aligned to a known width
+abbrev pub plains_value : Option Width → ℕ → List ℕ → Option Value
+plains_value None size content = None
+plains_value (Some width) size content =
+    if fits_items (byte_len width) size content
+    then Some (value.plain_list size (byte_len width) (items_of size content))
     else None
 
 abbrev pub with_field : ℕ → Option Why → Option Field → Option (List (ℕ × Field))
@@ -136,6 +165,15 @@ fields_of listed slots before (entry ∷ fields) =
     with_field entry.0 (place_fault slots before entry) (field_of listed entry.1)
     (fields_of listed (slots ++ entry.0 ∷ []) (alignment_of entry.1) fields)
 
+abbrev pub fields_if : Option Why → Option (List (ℕ × Field)) → Option (List (ℕ × Field))
+fields_if None fields = fields
+fields_if (Some why) fields = None
+
+-- the fields of a table, if all are right and not too large together
+abbrev pub table_of : List Listed → List (ℕ × FieldStep) → Option (List (ℕ × Field))
+table_of listed fields =
+    fields_if (size_fault fields) (fields_of listed [] greatest_field fields)
+
 -- the value that a step writes, by the values before it
 abbrev pub value_of : List Listed → Step → Option Value
 value_of listed (text content) = Some (value.text content)
@@ -143,9 +181,11 @@ value_of listed (bytes content) = Some (value.byte_list content)
 value_of listed (numbers width items) = numbers_value (width_of width) items
 value_of listed (refs steps) = option_map value.reference_list (all_of (value_at listed) steps)
 value_of listed (unions items) = option_map value.union_vector (all_of (union_of listed) items)
-value_of listed (struct alignment content) = struct_value (struct_width alignment) content
-value_of listed (table fields) =
-    option_map value.table (fields_of listed [] greatest_field fields)
+value_of listed (struct alignment content) =
+    option_map value.apart (struct_of (struct_width alignment) content)
+value_of listed (plains alignment size content) =
+    plains_value (struct_width alignment) size content
+value_of listed (table fields) = option_map value.table (table_of listed fields)
 value_of listed (finish front root identifier) = None
 value_of listed clear = None
 

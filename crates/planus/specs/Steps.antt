@@ -3,14 +3,16 @@ use Rattle.std.specs.Prelude.{ℕ, Bool, true, false, List, Option, map}
 use Rattle.std.specs.String.{string_bytes}
 use Rattle.planus.specs.declared.replaying.steps.Step as code
 use Rattle.planus.specs.declared.replaying.steps.Step.TheVariants.{Text, Bytes, Numbers, Refs, Unions}
-use Rattle.planus.specs.declared.replaying.steps.Step.TheVariants.{Struct, Table, Finish, FinishSized, Clear}
+use Rattle.planus.specs.declared.replaying.steps.Step.TheVariants.{Struct, Plains, Table, Finish, FinishSized, Clear}
 use Rattle.planus.specs.declared.replaying.steps.Field.{Field}
 use Rattle.planus.specs.declared.replaying.steps.FieldValue.{FieldValue}
-use Rattle.planus.specs.declared.replaying.steps.FieldValue.TheVariants.{Number, Ref, Tags, Values}
+use Rattle.planus.specs.declared.replaying.steps.FieldValue.TheVariants.{Number, Plain, Ref, Tags, Values}
 
--- a number with its width in bytes, or a reference to a step's value, tags or references
+-- a number with its width in bytes, a struct's alignment and bytes, or a reference to a step's
+-- value, tags or references
 pub data FieldStep : Type 0 where
   number_field : (width : ℕ) → ℕ → FieldStep
+  struct_field : (alignment : ℕ) → List ℕ → FieldStep
   ref_field : ℕ → FieldStep
   tags_field : ℕ → FieldStep
   values_field : ℕ → FieldStep
@@ -33,6 +35,7 @@ pub data Step : Type 0 where
   refs : List ℕ → Step
   unions : List (ℕ × ℕ) → Step
   struct : (alignment : ℕ) → List ℕ → Step
+  plains : (alignment size : ℕ) → List ℕ → Step
   table : List (ℕ × FieldStep) → Step
   finish : Front → ℕ → Option (List ℕ) → Step
   clear : Step
@@ -40,6 +43,7 @@ pub data Step : Type 0 where
 -- what a field holds
 abbrev pub content_of : FieldValue → FieldStep
 content_of (Number width value) = number_field width value
+content_of (Plain alignment content) = struct_field alignment content.items
 content_of (Ref step) = ref_field step
 content_of (Tags step) = tags_field step
 content_of (Values step) = values_field step
@@ -56,6 +60,7 @@ bare_step (Numbers width items) = numbers width items.items
 bare_step (Refs steps) = refs steps.items
 bare_step (Unions items) = unions items.items
 bare_step (Struct alignment content) = struct alignment content.items
+bare_step (Plains alignment size content) = plains alignment size content.items
 bare_step (Table fields) = table (map bare_field fields.items)
 bare_step (Finish root id) = finish root_first root id
 bare_step (FinishSized root id) = finish size_first root id

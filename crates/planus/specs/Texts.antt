@@ -8,6 +8,7 @@ use Rattle.planus.specs.declared.replaying.faults.Why.TheVariants.{WidthUnknown,
 use Rattle.planus.specs.declared.replaying.faults.Why.TheVariants.{AlignmentUnknown, WrongSize}
 use Rattle.planus.specs.declared.replaying.faults.Why.TheVariants.{NoSuchStep, WrongKind, ZeroTag}
 use Rattle.planus.specs.declared.replaying.faults.Why.TheVariants.{SlotTooBig, SlotTwice, RisingAlignment}
+use Rattle.planus.specs.declared.replaying.faults.Why.TheVariants.{TableTooBig}
 
 -- a step's error
 abbrev pub why_text : Why → List ℕ
@@ -21,6 +22,7 @@ why_text ZeroTag = codes "zero tag"
 why_text SlotTooBig = codes "slot too big"
 why_text SlotTwice = codes "slot twice"
 why_text RisingAlignment = codes "rising alignment"
+why_text TableTooBig = codes "table too big"
 
 -- a replay's error, with the number of a bad step
 abbrev pub replay_error_text : ReplayError → List ℕ

@@ -3,3 +3,4 @@ pub mod Filling
 pub mod Names
 pub mod Prepared
 pub mod Replaying
+pub mod Structs

@@ -2,7 +2,10 @@
 
 mod faults;
 mod finishes;
+mod item_count;
+mod layouts;
 mod named_steps;
+mod plain_items;
 mod prepared_field;
 mod run;
 mod slots;

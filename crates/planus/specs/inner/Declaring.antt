@@ -1,11 +1,11 @@
 -- A replay checks and declares the fields of a table.
-use Rattle.std.specs.Prelude.{◌≡◌, ℕ, List, [], map, Some, None, Result, Ok, Err}
+use Rattle.std.specs.Prelude.{◌≡◌, ℕ, List, map, Some, None, Result, Ok, Err}
 use Rattle.planus_read.specs.Values.{Field}
 use Rattle.planus_write.specs.Tables.{declared_of}
 use Rattle.planus_write.specs.TableWriting.{Writer, WasTold}
 use Rattle.planus.specs.Steps.{FieldStep}
-use Rattle.planus.specs.Slots.{slot_fault, greatest_field}
-use Rattle.planus.specs.Runs.{fields_of}
+use Rattle.planus.specs.Slots.{slot_fault}
+use Rattle.planus.specs.Runs.{table_of}
 use Rattle.planus.specs.TableChecks.{table_fault}
 use Rattle.planus.specs.inner.Replaying.{values_listed, name_fault}
 use Rattle.planus.specs.declared.replaying.faults.Why.{Why}
@@ -22,6 +22,6 @@ ChecksSlot slots slot (Err why) = slot_fault slots slot ≡ Some why
 -- the fields were declared, or this is the first error of them
 abbrev pub DeclaresTable : ReplayState → List (ℕ × FieldStep) → Result Writer Why → Type 0
 DeclaresTable replay fields (Ok writer) = (all : List (ℕ × Field))
-    × (fields_of (values_listed replay) [] greatest_field fields ≡ Some all)
+    × (table_of (values_listed replay) fields ≡ Some all)
     × WasTold writer (declared_of all) × (table_fault (name_fault replay) fields ≡ None)
 DeclaresTable replay fields (Err why) = table_fault (name_fault replay) fields ≡ Some why

@@ -14,13 +14,15 @@ use Rattle.planus.specs.inner.Names.{Finds, fault_since, listed_from}
 use Rattle.planus.specs.declared.replaying.faults.Why.{Why}
 use Rattle.planus.specs.declared.replaying.prepared_field.PreparedField.{PreparedField}
 use Rattle.planus.specs.declared.replaying.prepared_field.PreparedField.TheVariants.{U8, U16, U32, U64}
-use Rattle.planus.specs.declared.replaying.prepared_field.PreparedField.TheVariants.{Reference, Tags, Values}
+use Rattle.planus.specs.declared.replaying.prepared_field.PreparedField.TheVariants.{Struct, Reference, Tags, Values}
 
 abbrev pub field_is : PreparedField → Field
 field_is (U8 number) = plain (record { bytes = to_le_bytes w8 number; alignment = 1 })
 field_is (U16 number) = plain (record { bytes = to_le_bytes w16 number; alignment = 2 })
 field_is (U32 number) = plain (record { bytes = to_le_bytes w32 number; alignment = 4 })
 field_is (U64 number) = plain (record { bytes = to_le_bytes w64 number; alignment = 8 })
+field_is (Struct part) =
+    plain (record { bytes = part.bytes.now; alignment = part.alignment })
 field_is (Reference offset) = reference offset.distance
 field_is (Tags offset) = tags offset.distance
 field_is (Values offset) = values offset.distance

@@ -1,7 +1,7 @@
 -- The state of a replay, as the definitions see it.
 use Rattle.std.specs.Prelude.{◌≡◌, ℕ, ◌+◌, ◌-◌, List, [], ◌∷◌, ◌++◌, map, length, drop, slice_get}
 use Rattle.std.specs.Prelude.{Option, Some, None, Result, Ok, Err, ⊤, ◌⊎◌, Vec, true, false}
-use Rattle.std.specs.Int.{Width, byte_len}
+use Rattle.std.specs.Int.{Width}
 use Rattle.std.specs.List.{list_all}
 use Rattle.std.specs.declared.alloc.Global.{Global}
 use Rattle.std.specs.Option.{option_map}
@@ -17,7 +17,7 @@ use Rattle.planus_write.specs.declared.union_offset.UnionOffset.{UnionOffset}
 use Rattle.planus.specs.Steps.{Step, clear}
 use Rattle.planus.specs.Kinds.{StepKind, a_value, kind_of, kind_named}
 use Rattle.planus.specs.Runs.{RunState, Listed, Advances, StepTooLarge, StepRefused, fits_width}
-use Rattle.planus.specs.Runs.{value_at, union_of, struct_width}
+use Rattle.planus.specs.Runs.{value_at, union_of}
 use Rattle.planus.specs.Runs.{all_of}
 use Rattle.planus.specs.Replays.{finish_given, check_by, first_fault, union_fault, is_clear}
 use Rattle.planus.specs.inner.Names.{written_named, name_of, listed_from, fault_since, IsReached}
@@ -71,12 +71,6 @@ abbrev pub IsNarrowed : {A : Type 0} → (A → ℕ) → Width → ℕ → Optio
 IsNarrowed number_of width number (Some narrow) =
     (fits_width width number ≡ true) × (number_of narrow ≡ number)
 IsNarrowed number_of width number None = fits_width width number ≡ false
-
--- the width of a struct's alignment, if it has one
-abbrev pub KnowsAlignment : ℕ → Option ℕ → Type 0
-KnowsAlignment alignment (Some known) =
-    (width : Width) × (struct_width alignment ≡ Some width) × (known ≡ byte_len width)
-KnowsAlignment alignment None = struct_width alignment ≡ None
 
 -- the numbers, if all fit the width, or none
 abbrev pub Narrowed : {A : Type 0} → (A → ℕ) → Width → List ℕ → Option (Vec A Global) → Type 0

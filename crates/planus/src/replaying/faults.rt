@@ -10,9 +10,10 @@ use std::fmt;
 pub enum Why {
     /// Numbers can't have this width.
     WidthUnknown,
-    /// Structs can't have this alignment.
+    /// Structs and values of vectors can't have this alignment.
     AlignmentUnknown,
-    /// A struct's size isn't a positive multiple of its alignment.
+    /// The size of a struct, or of a vector's values, isn't a positive multiple of its alignment,
+    /// or the number of a vector's bytes isn't one of that size.
     WrongSize,
     /// A number doesn't fit its bytes.
     ValueTooBig,
@@ -28,6 +29,8 @@ pub enum Why {
     SlotTwice,
     /// The alignment is greater than that of the field before.
     RisingAlignment,
+    /// The fields of a table have more than 65531 bytes.
+    TableTooBig,
 }
 
 impl fmt::Display for Why {
@@ -48,6 +51,7 @@ impl fmt::Display for Why {
             Why::SlotTooBig => "slot too big",
             Why::SlotTwice => "slot twice",
             Why::RisingAlignment => "rising alignment",
+            Why::TableTooBig => "table too big",
         };
         write!(f, "{text}")
     }

@@ -10,6 +10,7 @@ ghost use Rattle.planus.specs.inner.Prepared.{PreparesField, PreparesUnion};
 use crate::replaying::faults::Why;
 use crate::replaying::prepared_field::PreparedField;
 use crate::replaying::steps::FieldValue;
+use crate::replaying::struct_bytes::StructBytes;
 use crate::replaying::written::Written;
 use planus_write::{Offset, UnionOffset, UnionVectorOffset};
 
@@ -64,12 +65,16 @@ impl<'a> NamedSteps<'a> {
         Ok(UnionOffset::new(tag, self.value(step)?))
     }
 
-    pub(crate) fn prepare(&self, value: &FieldValue) -> Result<PreparedField, Why>
+    pub(crate) fn prepare<'b>(&self, value: &'b FieldValue) -> Result<PreparedField<'b>, Why>
         ensures { PreparesField self.now.first (map name_of self.now.offsets.now)
             (content_of value.now) result }
     {
         match value {
             FieldValue::Number { width, value } => PreparedField::number(*width, *value),
+            FieldValue::Plain { alignment, bytes } => {
+                let part = StructBytes::checked(*alignment, bytes.as_slice())?;
+                Ok(PreparedField::Struct(part))
+            }
             FieldValue::Ref(step) => Ok(PreparedField::Reference(self.value(*step)?)),
             FieldValue::Tags(step) => {
                 Ok(PreparedField::Tags(self.unions(*step)?.tags_offset().downcast()))

@@ -9,35 +9,37 @@ ghost use Rattle.planus.specs.Runs.{field_width};
 ghost use Rattle.planus.specs.inner.Prepared.{field_is, field_reach, PreparesNumber};
 
 use crate::replaying::faults::Why;
+use crate::replaying::struct_bytes::StructBytes;
 use planus_write::{ObjectWriter, Offset, TableWriter};
 
 /// The bytes of a vtable with 256 slots.
 pub(crate) const VTABLE_SIZE: usize = 516;
 
 #[derive(Drop)]
-pub(crate) enum PreparedField {
+pub(crate) enum PreparedField<'a> {
     U8(u8),
     U16(u16),
     U32(u32),
     U64(u64),
+    Struct(StructBytes<'a>),
     Reference(Offset<()>),
     // The tags and the references of a union vector.
     Tags(Offset<()>),
     Values(Offset<()>),
 }
 
-impl PreparedField {
-    pub(crate) fn number(width: u8, value: u64) -> Result<PreparedField, Why>
+impl<'a> PreparedField<'a> {
+    pub(crate) fn number(width: u8, value: u64) -> Result<PreparedField<'a>, Why>
         ensures { PreparesNumber (field_width width) value result }
     {
         let number = match width {
-            1 => u8::try_from(value).ok().map(PreparedField::U8),
-            2 => u16::try_from(value).ok().map(PreparedField::U16),
-            4 => u32::try_from(value).ok().map(PreparedField::U32),
-            8 => Some(PreparedField::U64(value)),
+            1 => PreparedField::U8(u8::try_from(value).ok().ok_or(Why::ValueTooBig)?),
+            2 => PreparedField::U16(u16::try_from(value).ok().ok_or(Why::ValueTooBig)?),
+            4 => PreparedField::U32(u32::try_from(value).ok().ok_or(Why::ValueTooBig)?),
+            8 => PreparedField::U64(value),
             _ => return Err(Why::WidthUnknown),
         };
-        number.ok_or(Why::ValueTooBig)
+        Ok(number)
     }
 
     pub(crate) fn alignment(&self) -> usize
@@ -49,6 +51,7 @@ impl PreparedField {
             PreparedField::U32(_) => 4,
             PreparedField::Reference(_) | PreparedField::Tags(_) | PreparedField::Values(_) => 4,
             PreparedField::U64(_) => 8,
+            PreparedField::Struct(part) => part.alignment,
         }
     }
 
@@ -73,6 +76,9 @@ impl PreparedField {
             PreparedField::U16(_) => writer.write_entry::<u16>(slot),
             PreparedField::U32(_) => writer.write_entry::<u32>(slot),
             PreparedField::U64(_) => writer.write_entry::<u64>(slot),
+            PreparedField::Struct(part) => {
+                writer.write_layout(slot, part.bytes.len(), part.alignment)
+            }
             PreparedField::Reference(_) | PreparedField::Tags(_) | PreparedField::Values(_) => {
                 writer.write_entry::<Offset<()>>(slot)
             }
@@ -90,6 +96,7 @@ impl PreparedField {
             PreparedField::U16(number) => writer.write::<u16, u16>(number),
             PreparedField::U32(number) => writer.write::<u32, u32>(number),
             PreparedField::U64(number) => writer.write::<u64, u64>(number),
+            PreparedField::Struct(part) => writer.put(part.bytes),
             PreparedField::Reference(offset)
             | PreparedField::Tags(offset)
             | PreparedField::Values(offset) => writer.write::<Offset<()>, Offset<()>>(offset),

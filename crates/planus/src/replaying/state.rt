@@ -16,7 +16,7 @@ ghost use Rattle.planus.specs.inner.Names.{FindsNamed};
 ghost use Rattle.planus.specs.inner.Replaying.{names, state_with, FindsValues, FindsUnions};
 ghost use Rattle.planus.specs.inner.Replaying.{HasTaken};
 ghost use Rattle.planus.specs.inner.Replaying.{Advanced, AreReached, IsNarrowed, Narrowed};
-ghost use Rattle.planus.specs.inner.Replaying.{WritesValue, KnowsAlignment};
+ghost use Rattle.planus.specs.inner.Replaying.{WritesValue};
 ghost use Rattle.planus.specs.inner.Prepared.{PreparesUnion};
 ghost use Rattle.planus.specs.inner.Declaring.{DeclaresTable};
 ghost use Rattle.planus.specs.declared.replaying.faults.ReplayError.TheVariants.{BadStep};
@@ -28,8 +28,9 @@ ghost use Rattle.planus.specs.Steps as step;
 use crate::replaying::faults::{ReplayError, Why};
 use crate::replaying::finishes::{Finished, StepPlace};
 use crate::replaying::named_steps::NamedSteps;
+use crate::replaying::plain_items::PlainItems;
 use crate::replaying::prepared_field::VTABLE_SIZE;
-use crate::replaying::slots::check_slot;
+use crate::replaying::slots::{check_slot, fits_table};
 use crate::replaying::steps::{Field, Step};
 use crate::replaying::struct_bytes::StructBytes;
 use crate::replaying::table_body::TableBody;
@@ -114,26 +115,6 @@ fn narrowed<T: Narrow>(alloc: Global, items: &[u64]) -> Result<Option<Vec<T>>, A
         }
     }
     Ok(Some(numbers))
-}
-
-fn known_alignment(alignment: u8) -> Option<usize>
-    ensures { KnowsAlignment alignment result }
-{
-    match alignment {
-        1 => Some(1),
-        2 => Some(2),
-        4 => Some(4),
-        8 => Some(8),
-        16 => Some(16),
-        _ => None,
-    }
-}
-
-fn fits_alignment(alignment: usize, bytes: &[u8]) -> bool
-    requires { 0 < alignment }
-    ensures { result ≡ spec.fits_alignment alignment bytes.now }
-{
-    !bytes.is_empty() && bytes.len() % alignment == 0
 }
 
 impl ReplayState {
@@ -253,13 +234,20 @@ impl ReplayState {
         requires { self.old.first + vec_len self.old.offsets < 2 ^ 64 }
         ensures { Advanced self.old (step.struct alignment bytes.now) result self.new }
     {
-        let Some(alignment) = known_alignment(alignment) else {
-            return Err(self.bad_step(Why::AlignmentUnknown));
-        };
-        if !fits_alignment(alignment, bytes) {
-            return Err(self.bad_step(Why::WrongSize));
+        match StructBytes::checked(alignment, bytes) {
+            Ok(part) => self.write(&part),
+            Err(why) => Err(self.bad_step(why)),
         }
-        self.write(&StructBytes { alignment, bytes })
+    }
+
+    fn plains(&mut self, alignment: u8, size: usize, bytes: &[u8]) -> Result<(), ReplayError>
+        requires { self.old.first + vec_len self.old.offsets < 2 ^ 64 }
+        ensures { Advanced self.old (step.plains alignment size bytes.now) result self.new }
+    {
+        match PlainItems::checked(alignment, size, bytes) {
+            Ok(items) => self.write(&items),
+            Err(why) => Err(self.bad_step(why)),
+        }
     }
 
     fn refs(&mut self, alloc: Global, steps: &[usize]) -> Result<(), ReplayError>
@@ -296,7 +284,8 @@ impl ReplayState {
         ensures { DeclaresTable self.now (map bare_field fields.now) result }
     {
         let mut writer = TableWriter::default();
-        let mut before = 8;
+        let fits = fits_table(fields);
+        let mut before = 16;
         for (index, field) in fields.iter().enumerate() {
             check_slot(&fields[..index], field.slot)?;
             let prepared = self.earlier().prepare(&field.value)?;
@@ -304,7 +293,12 @@ impl ReplayState {
                 return Err(Why::RisingAlignment);
             }
             before = prepared.alignment();
-            prepared.declare(&mut writer, field.slot as usize);
+            if fits {
+                prepared.declare(&mut writer, field.slot as usize);
+            }
+        }
+        if !fits {
+            return Err(Why::TableTooBig);
         }
         Ok(writer)
     }
@@ -340,6 +334,11 @@ impl ReplayState {
             Step::Refs(steps) => self.refs(alloc, steps.as_slice()),
             Step::Unions(items) => self.unions(alloc, items.as_slice()),
             Step::Struct { alignment, bytes } => self.structure(*alignment, bytes.as_slice()),
+            Step::Plains {
+                alignment,
+                size,
+                bytes,
+            } => self.plains(*alignment, *size, bytes.as_slice()),
             Step::Table(fields) => self.table(fields.as_slice()),
             Step::Finish { root, id } => self.finish(alloc, *root, *id, false),
             Step::FinishSized { root, id } => self.finish(alloc, *root, *id, true),
