@@ -7,10 +7,11 @@ use Rattle.std.specs.declared.alloc.Global.{Global}
 use Rattle.planus_read.specs.Reading.{number}
 use Rattle.planus_read.specs.declared.errors.ErrorKind.TheVariants.{InvalidOffset, UnknownUnionTag}
 use Rattle.planus_dump.specs.Answers.{Seen, leaf_at, table_at}
-use Rattle.planus_dump.specs.Events.{Event, line, TableEvents, field_label, fault_event, answer_event, variant_of, number_width, number_leaf, has_value, names_in, named, enum_events, enum_size, struct_size, counted_events, struct_fields_events, struct_events, member_events, variant_events, union_events, kind_events, fields_events, table_events, shape_events}
+use Rattle.planus_dump.specs.Events.{Event, line, TableEvents, field_label, fault_event, answer_event, variant_of, number_width, has_value, names_in, named, enum_events, enum_size, struct_size, counted_events, struct_fields_events, struct_events, member_events, variant_events, union_events, kind_events, fields_events, table_events, shape_events}
 use Rattle.planus_dump.specs.Lines.{field_path, table_line, union_line, struct_line}
 use Rattle.planus_dump.specs.Tests.{fault_text}
 use Rattle.planus_dump.specs.Shapes.{FieldShape, field_shape, TableShape, table_shape, VariantShape, variant_shape, union_shape, EnumShape, enum_shape, StructFieldShape, struct_field_shape, StructShape, struct_shape}
+use Rattle.planus_dump.specs.declared.values.Leaf.TheVariants as leaf
 use Rattle.planus_dump.specs.declared.schemas.EnumSchema.{EnumSchema}
 use Rattle.planus_dump.specs.declared.schemas.FieldSchema.{FieldSchema}
 use Rattle.planus_dump.specs.declared.schemas.Schema.{Schema}
@@ -31,12 +32,12 @@ names_are flags n (v ∷ vs) =
 abbrev pub enum_by : Option EnumShape → List ℕ → ℕ → List ℕ → List Event
 enum_by None S f path = []
 enum_by (Some x) S f path =
-    answer_event path (named x.flags (leaf_at (number_leaf x.number) S f) (names_by x.flags (number S f (number_width x.number)) x.values)) ∷ []
+    answer_event path (named x.flags (leaf_at (leaf.Number x.number) S f) (names_by x.flags (number S f (number_width x.number)) x.values)) ∷ []
 
 pub enum_is : (o : Option EnumSchema) (S : List ℕ) (f : ℕ) (path : List ℕ) → enum_events o S f path ≡ enum_by (option_map enum_shape o) S f path
 enum_is None S f path = refl
 enum_is (Some x) S f path =
-    ap (λ r. answer_event path (named x.flags (leaf_at (number_leaf x.number) S f) r) ∷ []) (names_are x.flags (number S f (number_width x.number)) x.values.items)
+    ap (λ r. answer_event path (named x.flags (leaf_at (leaf.Number x.number) S f) r) ∷ []) (names_are x.flags (number S f (number_width x.number)) x.values.items)
 
 abbrev pub enum_size_by : Option EnumShape → ℕ
 enum_size_by None = 1

@@ -14,7 +14,7 @@ use Rattle.planus_dump.specs.declared.schemas.Item.TheVariants as item
 use Rattle.planus_dump.specs.declared.schemas.Kind.{Kind}
 use Rattle.planus_dump.specs.declared.schemas.Kind.TheVariants as kind
 use Rattle.planus_dump.specs.declared.schemas.Schema.{Schema}
-use Rattle.planus_inspect.specs.Shown.{scalar_fixed, scalar_kind, scalar_list, base_fixed, one_kind, list_kind, kind_of, member_kind}
+use Rattle.planus_inspect.specs.Shown.{scalar_fixed, scalar_kind, scalar_list, base_fixed, one_kind, list_kind, kind_of, member_kind, scalar_number}
 use Rattle.planus_schema.specs.declared.scalar.Scalar.{Scalar}
 use Rattle.planus_schema.specs.declared.scalar.Scalar.TheVariants as scalar
 use Rattle.planus_schema.specs.declared.schema.Base.{Base}
@@ -304,16 +304,20 @@ module _ (m : List (Option ℕ)) where
       one_scalar scalar.Float r k table path = refl
       one_scalar scalar.Double r k table path = refl
 
+      number_list_at : (s : Scalar) → Alike (kind.List (item.Number (scalar_number s))) (kind.List (item.Number (scalar_number s)))
+      number_list_at s r k table path =
+          list_at (item.Number (scalar_number s)) (item.Number (scalar_number s)) refl (λ S f p. refl) r k table path
+
       scalars : (s : Scalar) → Alike (scalar_list s) (scalar_list s)
       scalars scalar.Bool r k table path = list_at item.Bool item.Bool refl (λ S f p. refl) r k table path
-      scalars scalar.Byte r k table path = fixed_list_at (base.Scalar scalar.Byte) (base.Scalar scalar.Byte) refl r k table path
+      scalars scalar.Byte r k table path = number_list_at scalar.Byte r k table path
       scalars scalar.UByte r k table path = refl
-      scalars scalar.Short r k table path = list_at item.I16 item.I16 refl (λ S f p. refl) r k table path
-      scalars scalar.UShort r k table path = list_at item.U16 item.U16 refl (λ S f p. refl) r k table path
-      scalars scalar.Int r k table path = list_at item.I32 item.I32 refl (λ S f p. refl) r k table path
-      scalars scalar.UInt r k table path = list_at item.U32 item.U32 refl (λ S f p. refl) r k table path
-      scalars scalar.Long r k table path = list_at item.I64 item.I64 refl (λ S f p. refl) r k table path
-      scalars scalar.ULong r k table path = list_at item.U64 item.U64 refl (λ S f p. refl) r k table path
+      scalars scalar.Short r k table path = number_list_at scalar.Short r k table path
+      scalars scalar.UShort r k table path = number_list_at scalar.UShort r k table path
+      scalars scalar.Int r k table path = number_list_at scalar.Int r k table path
+      scalars scalar.UInt r k table path = number_list_at scalar.UInt r k table path
+      scalars scalar.Long r k table path = number_list_at scalar.Long r k table path
+      scalars scalar.ULong r k table path = number_list_at scalar.ULong r k table path
       scalars scalar.Float r k table path = fixed_list_at (base.Scalar scalar.Float) (base.Scalar scalar.Float) refl r k table path
       scalars scalar.Double r k table path = fixed_list_at (base.Scalar scalar.Double) (base.Scalar scalar.Double) refl r k table path
 

@@ -213,12 +213,7 @@ module _ (a b : Schema) (within : Within a b) where
 
   module _ (E F : TableEvents) (fewer : Fewer E F) where
     item_among : (x : Item) (S : List ℕ) (f : ℕ) (path : List ℕ) → AreAmong (item_events E x S f path) (item_events F x S f path)
-    item_among item.U16 S f path = inl (refl, tt)
-    item_among item.U32 S f path = inl (refl, tt)
-    item_among item.U64 S f path = inl (refl, tt)
-    item_among item.I16 S f path = inl (refl, tt)
-    item_among item.I32 S f path = inl (refl, tt)
-    item_among item.I64 S f path = inl (refl, tt)
+    item_among (item.Number number) S f path = inl (refl, tt)
     item_among item.Bool S f path = inl (refl, tt)
     item_among item.Text S f path = inl (refl, tt)
     item_among (item.Table i) S f path = fewer i S f path
@@ -294,8 +289,6 @@ module _ (a b : Schema) (within : Within a b) where
         (ap (λ t. if t then lone_tag table k else None) within.tags)
         (union_field_among i r table.object path (wrong_tag a table k) (union_at table k))
     kind_among (kind.UnionVector i) r k table path = unions_among i r path (unions_at table k)
-    kind_among kind.U8 r k table path = itself (kind_events E a r kind.U8 k table path)
-    kind_among kind.I8 r k table path = itself (kind_events E a r kind.I8 k table path)
     kind_among kind.Bytes r k table path = itself (kind_events E a r kind.Bytes k table path)
     kind_among (kind.Fixed v) r k table path =
         choose (Slot table.slots k == 0) _ _ (absent_events r path) (value_among v table.object (Slot table.slots k) path)

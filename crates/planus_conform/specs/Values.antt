@@ -7,7 +7,7 @@ use Rattle.planus_read.specs.declared.errors.ErrorKind.TheVariants.{InvalidOffse
 use Rattle.planus_dump.specs.Answers.{Seen, SeenItems, table_at, vector_at, leaf_at, bits_at}
 use Rattle.planus_dump.specs.Tests.{fault_text}
 use Rattle.planus_dump.specs.declared.values.Leaf.TheVariants as leaf
-use Rattle.planus_inspect.specs.Shown.{bits_of}
+use Rattle.planus_inspect.specs.Shown.{bits_of, scalar_number}
 use Rattle.planus_schema.specs.declared.scalar.Scalar.{Scalar}
 use Rattle.planus_schema.specs.declared.scalar.Scalar.TheVariants as scalar
 use Rattle.planus_schema.specs.declared.schema.Base.{Base}
@@ -62,16 +62,9 @@ said_bits (Err message) = fault message
 
 abbrev pub scalar_found : Scalar → List ℕ → ℕ → Found
 scalar_found scalar.Bool S f = said (leaf_at leaf.Bool S f)
-scalar_found scalar.Byte S f = said (leaf_at leaf.I8 S f)
-scalar_found scalar.UByte S f = said (leaf_at leaf.U8 S f)
-scalar_found scalar.Short S f = said (leaf_at leaf.I16 S f)
-scalar_found scalar.UShort S f = said (leaf_at leaf.U16 S f)
-scalar_found scalar.Int S f = said (leaf_at leaf.I32 S f)
-scalar_found scalar.UInt S f = said (leaf_at leaf.U32 S f)
-scalar_found scalar.Long S f = said (leaf_at leaf.I64 S f)
-scalar_found scalar.ULong S f = said (leaf_at leaf.U64 S f)
 scalar_found scalar.Float S f = said_bits (bits_at w32 S f)
 scalar_found scalar.Double S f = said_bits (bits_at w64 S f)
+scalar_found s S f = said (leaf_at (leaf.Number (scalar_number s)) S f)
 
 -- ---- tables and structs
 

@@ -17,7 +17,8 @@ use Rattle.planus_dump.specs.declared.schemas.Schema.{Schema}
 use Rattle.planus_dump.specs.declared.schemas.TableSchema.{TableSchema}
 use Rattle.planus_dump.specs.declared.schemas.VariantSchema.{VariantSchema}
 use Rattle.planus_dump.specs.declared.schemas.Kind.TheVariants.{One}
-use Rattle.planus_dump.specs.declared.schemas.Item.TheVariants.{Text, I16}
+use Rattle.planus_dump.specs.declared.schemas.Item.TheVariants.{Text, Number}
+use Rattle.planus_dump.specs.declared.schemas.Number.TheVariants.{I16}
 
 record TableIs (schema : Schema) (index : ℕ) (shape : TableShape) : Type 0 where
   table : TableSchema
@@ -92,7 +93,7 @@ monster_fits schema root left has =
     (refl, (tt, (tt, ((refl, (axe, tt)), ((refl, tagged), ((refl, (tagged, tt)), tt)))))))
 
 weapon_fields : (schema : Schema) (steps : List Step) (n : ℕ) (fields : List (ℕ × FieldStep)) → HasShape schema worked_tables worked_unions 0 → Fits schema steps n → slice_get steps n ≡ Some (table fields)
-    → HasKind steps (Describes schema steps 63) schema fields 0 false (One Text) × HasKind steps (Describes schema steps 63) schema fields 1 false (One I16) × Unit {0}
+    → HasKind steps (Describes schema steps 63) schema fields 0 false (One Text) × HasKind steps (Describes schema steps 63) schema fields 1 false (One (Number I16)) × Unit {0}
 weapon_fields schema steps n fields has fits e =
     let root : Describes schema steps greatest_depth 0 n = subst (λ root. Describes schema steps greatest_depth root n) has.root_is fits in
     let here = subst (IsTableOf steps (Describes schema steps 63) schema (slice_get schema.tables.items 0)) e (described schema steps 63 0 n root) in

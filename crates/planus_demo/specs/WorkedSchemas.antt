@@ -8,21 +8,22 @@ use Rattle.planus_dump.specs.declared.schemas.VariantKind.TheVariants as member
 use Rattle.planus_dump.specs.declared.schemas.Schema.{Schema}
 use Rattle.planus_dump.specs.declared.schemas.Kind.TheVariants.{One, List as ListOf, Union}
 use Rattle.planus_dump.specs.declared.schemas.Kind.TheVariants.{UnionVector, Bytes}
-use Rattle.planus_dump.specs.declared.schemas.Item.TheVariants.{I16, Text, Table}
+use Rattle.planus_dump.specs.declared.schemas.Item.TheVariants.{Number, Text, Table}
+use Rattle.planus_dump.specs.declared.schemas.Number.TheVariants.{I16}
 
 -- equipment and loot are weapons, with tag 1
 abbrev pub weapon_shape : TableShape
 weapon_shape =
     record {
       name = codes "Weapon";
-      fields = field_of 0 (codes "name") (One Text) ∷ field_of 1 (codes "damage") (One I16) ∷ [];
+      fields = field_of 0 (codes "name") (One Text) ∷ field_of 1 (codes "damage") (One (Number I16)) ∷ [];
     }
 
 abbrev pub monster_shape : TableShape
 monster_shape =
     record {
       name = codes "Monster";
-      fields = field_of 0 (codes "hp") (One I16) ∷ field_of 1 (codes "name") (One Text)
+      fields = field_of 0 (codes "hp") (One (Number I16)) ∷ field_of 1 (codes "name") (One Text)
           ∷ field_of 2 (codes "inventory") Bytes ∷ field_of 3 (codes "weapons") (ListOf (Table 0))
           ∷ field_of 4 (codes "equipped") (Union 0) ∷ field_of 6 (codes "loot") (UnionVector 0)
           ∷ [];

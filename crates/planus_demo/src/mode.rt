@@ -7,7 +7,9 @@ ghost use Rattle.planus_demo.specs.WorkedSchemas.{equipment_shape, worked_unions
 ghost use Rattle.planus_demo.specs.ModeWords.{IsMode};
 
 use crate::modes::Mode;
-use planus_dump::{FieldSchema, Item, Kind, Schema, TableSchema, VariantKind, VariantSchema};
+use planus_dump::{
+    FieldSchema, Item, Kind, Number, Schema, TableSchema, VariantKind, VariantSchema,
+};
 use std::alloc::{AllocError, Global};
 
 /// Returns the mode of these arguments, or `None` for others.
@@ -58,7 +60,13 @@ fn push_weapon(alloc: Global, fields: &mut Vec<FieldSchema>) -> Result<(), Alloc
         ≡ map field_shape fields.old.items ++ weapon_shape.fields) }
 {
     push_field(alloc, fields, 0, "name", Kind::One(Item::Text))?;
-    push_field(alloc, fields, 1, "damage", Kind::One(Item::I16))
+    push_field(
+        alloc,
+        fields,
+        1,
+        "damage",
+        Kind::One(Item::Number(Number::I16)),
+    )
 }
 
 fn weapon(alloc: Global) -> Result<TableSchema, AllocError>
@@ -74,7 +82,7 @@ fn push_monster(alloc: Global, fields: &mut Vec<FieldSchema>) -> Result<(), Allo
     ensures { OnOk result (map field_shape fields.new.items
         ≡ map field_shape fields.old.items ++ monster_shape.fields) }
 {
-    push_field(alloc, fields, 0, "hp", Kind::One(Item::I16))?;
+    push_field(alloc, fields, 0, "hp", Kind::One(Item::Number(Number::I16)))?;
     push_field(alloc, fields, 1, "name", Kind::One(Item::Text))?;
     push_field(alloc, fields, 2, "inventory", Kind::Bytes)?;
     push_field(alloc, fields, 3, "weapons", Kind::List(Item::Table(0)))?;

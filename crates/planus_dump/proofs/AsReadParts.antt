@@ -24,11 +24,12 @@ use Rattle.planus_read.specs.Enums.{variant_in, Numbered, unsigned_enum, signed_
 use Rattle.planus_read.specs.lemmas.NumberLaws.{AreBytes}
 use Rattle.planus_read.specs.Reading.{number, number_clause, byte_list_reading, byte_list_clauses}
 use Rattle.planus_read.proofs.Reading.{num_inside, num_value, num_there, byte_list_holds}
+use Rattle.planus_dump.specs.declared.values.Leaf.TheVariants.{Number as LeafNumber}
 use Rattle.planus_dump.specs.Lines.{truth_text, field_path, item_path, struct_line, names_text}
 use Rattle.planus_dump.specs.Tests.{Test, answered, number_test, byte_list_tests, content_at, fault_text}
 use Rattle.planus_read.specs.Reading.{plain_ref_clauses}
 use Rattle.planus_dump.specs.Answers.{bits_at, unsigned_at, signed_at, leaf_at, table_at, Seen}
-use Rattle.planus_dump.specs.Events.{line, TableEvents, fault_event, answer_event, float_event, fixed_events, fixed_size, values_events, counted_events, struct_fields_events, struct_events, structs, value_events, led_events, enum_events, enum_at, named, names_in, number_leaf, number_width, place_events, nested_events, buffer_events}
+use Rattle.planus_dump.specs.Events.{line, TableEvents, fault_event, answer_event, float_event, fixed_events, fixed_size, values_events, counted_events, struct_fields_events, struct_events, structs, value_events, led_events, enum_events, enum_at, named, names_in, number_width, place_events, nested_events, buffer_events}
 use Rattle.planus_dump.specs.AsRead.{SaysAsRead, layout_in, as_float, FloatsAreSaid, StructsAreSaid, LedStructsAreSaid, fields_at, BuffersAreSaid, IsUnsigned, IsSigned, EnumIsSaid, EnumsAreSaid}
 use Rattle.planus_dump.specs.declared.schemas.Schema.{Schema}
 use Rattle.planus_dump.specs.declared.schemas.EnumSchema.{EnumSchema}
@@ -96,7 +97,7 @@ module _ (S : List ℕ) (f : ℕ) (from : f ≤ length S) where
       ap (λ passes. if passes then Ok (g (number (drop f S) d w)) else Err (fault_text InvalidOffset)) (moved_test d (byte_len w))
       ∙ ap (λ n. answered (number_test S (f + d) w ∷ []) (g n)) (moved_number w d)
 
-  moved_number_leaf : (number : Number) (d : ℕ) → leaf_at (number_leaf number) (drop f S) d ≡ leaf_at (number_leaf number) S (f + d)
+  moved_number_leaf : (number : Number) (d : ℕ) → leaf_at (LeafNumber number) (drop f S) d ≡ leaf_at (LeafNumber number) S (f + d)
   moved_number_leaf numbers.U8 d = moved_answer w8 d decimal
   moved_number_leaf numbers.U16 d = moved_answer w16 d decimal
   moved_number_leaf numbers.U32 d = moved_answer w32 d decimal
@@ -110,7 +111,7 @@ module _ (S : List ℕ) (f : ℕ) (from : f ≤ length S) where
   moved_enum None d path = refl
   moved_enum (Some shape) d path =
       ap (λ a. answer_event path (named shape.flags a (names_in shape.flags (number (drop f S) d (number_width shape.number)) shape.values.items)) ∷ []) (moved_number_leaf shape.number d)
-      ∙ ap (λ n. answer_event path (named shape.flags (leaf_at (number_leaf shape.number) S (f + d)) (names_in shape.flags n shape.values.items)) ∷ []) (moved_number (number_width shape.number) d)
+      ∙ ap (λ n. answer_event path (named shape.flags (leaf_at (LeafNumber shape.number) S (f + d)) (names_in shape.flags n shape.values.items)) ∷ []) (moved_number (number_width shape.number) d)
 
   moved_struct : (schema : Schema) (T : TableEvents) (o : Option StructSchema) (d : ℕ) (path : List ℕ) → struct_events schema T o (drop f S) d path ≡ struct_events schema T o S (f + d) path
   moved_struct schema T None d path = refl
@@ -297,14 +298,14 @@ known_number : {E : Type 0} (g : ℕ → Option E) (m : Option ℕ) (x : E) → 
 known_number g None x e = cc
 known_number g (Some n) x e = (n, refl, e)
 
-unsigned_leaf : (width : Width) (number : Number) (S : List ℕ) (f : ℕ) → IsUnsigned width number → (leaf_at (number_leaf number) S f ≡ unsigned_at width S f) × (number_width number ≡ width)
+unsigned_leaf : (width : Width) (number : Number) (S : List ℕ) (f : ℕ) → IsUnsigned width number → (leaf_at (LeafNumber number) S f ≡ unsigned_at width S f) × (number_width number ≡ width)
 unsigned_leaf width numbers.U8 S f is = (ap (λ w. unsigned_at w S f) (sym is), sym is)
 unsigned_leaf width numbers.U16 S f is = (ap (λ w. unsigned_at w S f) (sym is), sym is)
 unsigned_leaf width numbers.U32 S f is = (ap (λ w. unsigned_at w S f) (sym is), sym is)
 unsigned_leaf width numbers.U64 S f is = (ap (λ w. unsigned_at w S f) (sym is), sym is)
 unsigned_leaf width _ S f is = absurd is
 
-signed_leaf : (width : Width) (number : Number) (S : List ℕ) (f : ℕ) → IsSigned width number → (leaf_at (number_leaf number) S f ≡ signed_at width S f) × (number_width number ≡ width)
+signed_leaf : (width : Width) (number : Number) (S : List ℕ) (f : ℕ) → IsSigned width number → (leaf_at (LeafNumber number) S f ≡ signed_at width S f) × (number_width number ≡ width)
 signed_leaf width numbers.I8 S f is = (ap (λ w. signed_at w S f) (sym is), sym is)
 signed_leaf width numbers.I16 S f is = (ap (λ w. signed_at w S f) (sym is), sym is)
 signed_leaf width numbers.I32 S f is = (ap (λ w. signed_at w S f) (sym is), sym is)
@@ -312,11 +313,11 @@ signed_leaf width numbers.I64 S f is = (ap (λ w. signed_at w S f) (sym is), sym
 signed_leaf width _ S f is = absurd is
 
 -- an enum's number in terms of its text and names
-enum_by : (shape : EnumSchema) (S : List ℕ) (f : ℕ) (width : Width) (a : Result (List ℕ) (List ℕ)) → shape.flags ≡ false → number_width shape.number ≡ width → leaf_at (number_leaf shape.number) S f ≡ a
+enum_by : (shape : EnumSchema) (S : List ℕ) (f : ℕ) (width : Width) (a : Result (List ℕ) (List ℕ)) → shape.flags ≡ false → number_width shape.number ≡ width → leaf_at (LeafNumber shape.number) S f ≡ a
     → enum_at shape S f ≡ named false a (names_in false (number S f width) shape.values.items)
 enum_by shape S f width a plain same leaf =
-    ap (λ flags. named flags (leaf_at (number_leaf shape.number) S f) (names_in flags (number S f (number_width shape.number)) shape.values.items)) plain
-    ∙ ap (λ w. named false (leaf_at (number_leaf shape.number) S f) (names_in false (number S f w) shape.values.items)) same
+    ap (λ flags. named flags (leaf_at (LeafNumber shape.number) S f) (names_in flags (number S f (number_width shape.number)) shape.values.items)) plain
+    ∙ ap (λ w. named false (leaf_at (LeafNumber shape.number) S f) (names_in false (number S f w) shape.values.items)) same
     ∙ ap (λ r. named false r (names_in false (number S f width) shape.values.items)) leaf
 
 named_some : (text : List ℕ) (names : List (List ℕ)) → (name : List ℕ) × (more : List (List ℕ)) × (names ≡ name ∷ more) → named false (Ok text) names ≡ Ok (text ++ names_text names)

@@ -7,10 +7,11 @@ use Rattle.std.proofs.lemmas.Bool.{leb-false}
 use Rattle.std.proofs.lemmas.List.{drop_more}
 use Rattle.planus_read.specs.Reading.{number}
 use Rattle.planus_read.specs.declared.errors.ErrorKind.TheVariants.{InvalidOffset}
+use Rattle.planus_dump.specs.declared.values.Leaf.TheVariants as leaf
 use Rattle.planus_dump.specs.Answers.{SeenItems, vector_at, leaf_at}
 use Rattle.planus_dump.specs.Tests.{fault_text, answered, number_test}
 use Rattle.planus_dump.specs.Lines.{struct_line, list_line, item_path, field_path}
-use Rattle.planus_dump.specs.Events.{line, fault_event, answer_event, float_event, deep, TableEvents, fixed_events, counted_events, struct_fields_events, struct_events, structs, fixed_size, values_events, fixed_list_events, greatest_nesting, number_leaf, number_width, named, names_in, enum_at, enum_events}
+use Rattle.planus_dump.specs.Events.{line, fault_event, answer_event, float_event, deep, TableEvents, fixed_events, counted_events, struct_fields_events, struct_events, structs, fixed_size, values_events, fixed_list_events, greatest_nesting, number_width, named, names_in, enum_at, enum_events}
 use Rattle.planus_dump.specs.declared.line.Bits.TheVariants as bits
 use Rattle.planus_dump.specs.declared.schemas.Schema.{Schema}
 use Rattle.planus_dump.specs.declared.schemas.EnumSchema.{EnumSchema}
@@ -86,7 +87,7 @@ module _ (S : List ℕ) (f : ℕ) (past : length S < f) where
   unread : {A : Type 0} (w : Width) (x : A) → answered (number_test S f w ∷ []) x ≡ Err (fault_text InvalidOffset)
   unread w x = rw (past_test (byte_len w)) refl
 
-  leaf_unread : (number : Number) → leaf_at (number_leaf number) S f ≡ Err (fault_text InvalidOffset)
+  leaf_unread : (number : Number) → leaf_at (leaf.Number number) S f ≡ Err (fault_text InvalidOffset)
   leaf_unread numbers.U8 = unread w8 _
   leaf_unread numbers.U16 = unread w16 _
   leaf_unread numbers.U32 = unread w32 _

@@ -5,9 +5,10 @@ use Rattle.std.specs.String.{string_bytes}
 use Rattle.std.specs.declared.alloc.Global.{Global}
 use Rattle.std.proofs.lemmas.Bool.{eqb-true, eqb-false}
 use Rattle.planus_read.specs.Reading.{number}
+use Rattle.planus_dump.specs.declared.values.Leaf.TheVariants.{Number as LeafNumber}
 use Rattle.planus_dump.specs.Answers.{leaf_at}
 use Rattle.planus_dump.specs.AsRead.{HasFlag, AreFlags, FlagsAreSaid}
-use Rattle.planus_dump.specs.Events.{enum_at, has_value, named, names_in, number_leaf, number_width}
+use Rattle.planus_dump.specs.Events.{enum_at, has_value, named, names_in, number_width}
 use Rattle.planus_dump.specs.declared.schemas.EnumSchema.{EnumSchema}
 
 has_flag : (n v : ℕ) → has_value true n v ≡ true → HasFlag n v
@@ -35,10 +36,10 @@ are_flags : (n : ℕ) (values : List (ℕ × String Global)) → AreFlags n valu
 are_flags n [] = refl
 are_flags n (value ∷ values) = flag_first n value values (names_in true n values) (has_value true n value.0) refl (are_flags n values)
 
-enum_is : (shape : EnumSchema) (S : List ℕ) (f : ℕ) (a : Result (List ℕ) (List ℕ)) → shape.flags ≡ true → leaf_at (number_leaf shape.number) S f ≡ a
+enum_is : (shape : EnumSchema) (S : List ℕ) (f : ℕ) (a : Result (List ℕ) (List ℕ)) → shape.flags ≡ true → leaf_at (LeafNumber shape.number) S f ≡ a
     → enum_at shape S f ≡ named true a (names_in true (number S f (number_width shape.number)) shape.values.items)
 enum_is shape S f a flags leaf =
-    ap (λ flags. named flags (leaf_at (number_leaf shape.number) S f) (names_in flags (number S f (number_width shape.number)) shape.values.items)) flags
+    ap (λ flags. named flags (leaf_at (LeafNumber shape.number) S f) (names_in flags (number S f (number_width shape.number)) shape.values.items)) flags
     ∙ ap (λ r. named true r (names_in true (number S f (number_width shape.number)) shape.values.items)) leaf
 
 pub flags_are_said : (S : List ℕ) (f : ℕ) → FlagsAreSaid S f

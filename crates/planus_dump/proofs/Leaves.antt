@@ -14,14 +14,16 @@ use Rattle.planus_read.proofs.Reading.{num_inside, num_value, text_holds, byte_l
 use Rattle.planus_dump.specs.Lines.{quoted, bytes_text, truth_text}
 use Rattle.planus_dump.specs.Tests.{test, answered, number_test, text_tests, byte_list_tests, vector_tests, union_vector_tests, content_at}
 use Rattle.planus_dump.specs.Answers.{leaf_at, unsigned_at, signed_at, SeenItems, vector_at, SeenUnions, union_vector_at}
-use Rattle.planus_dump.specs.Events.{TableEvents, answer_event, leaf_events, item_events, place_events, stride_of}
+use Rattle.planus_dump.specs.Events.{TableEvents, answer_event, leaf_events, item_events, number_width, place_events, stride_of}
 use Rattle.planus_dump.specs.Faults.{HaveNoFault}
 use Rattle.planus_dump.specs.Describes.{plain_size, plain_field_size}
 use Rattle.planus_dump.specs.declared.schemas.Kind.{Kind}
-use Rattle.planus_dump.specs.declared.schemas.Kind.TheVariants.{One, List as ListOf, Union, UnionVector, U8, I8, Bytes, Fixed, FixedList, Nested}
+use Rattle.planus_dump.specs.declared.schemas.Kind.TheVariants.{One, List as ListOf, Union, UnionVector, Bytes, Fixed, FixedList, Nested}
+use Rattle.planus_dump.specs.declared.schemas.Number.{Number}
+use Rattle.planus_dump.specs.declared.schemas.Number.TheVariants as numbers
 use Rattle.planus_dump.specs.declared.schemas.Item.{Item}
-use Rattle.planus_dump.specs.declared.schemas.Item.TheVariants.{U16, U32, U64, I16, I32, I64, Bool, Text, Table}
-use Rattle.planus_dump.specs.declared.values.Leaf.TheVariants.{Bool as LeafBool, Text as LeafText, Bytes as LeafBytes}
+use Rattle.planus_dump.specs.declared.schemas.Item.TheVariants.{Number as NumberItem, Bool, Text, Table}
+use Rattle.planus_dump.specs.declared.values.Leaf.TheVariants.{Number as LeafNumber, Bool as LeafBool, Text as LeafText, Bytes as LeafBytes}
 use Rattle.planus_dump.proofs.Matching.{Matches, all_pass, le_match}
 use Rattle.planus_dump.proofs.Answering.{head_matches, text_matches, union_vector_matches}
 
@@ -37,6 +39,16 @@ unsigned_event w S f path inside = value_event path (unsigned_at w S f) (decimal
 signed_event : (w : Width) (S : List ℕ) (f : ℕ) (path : List ℕ) → f + byte_len w ≤ length S → HaveNoFault (answer_event path (signed_at w S f) ∷ [])
 signed_event w S f path inside = value_event path (signed_at w S f) (signed_decimal (cast_signed w (number S f w))) (number_passes S f w (signed_decimal (cast_signed w (number S f w))) inside)
 
+number_event : (number : Number) (S : List ℕ) (f : ℕ) (path : List ℕ) → f + byte_len (number_width number) ≤ length S → HaveNoFault (leaf_events (LeafNumber number) S f path)
+number_event numbers.U8 S f path inside = unsigned_event w8 S f path inside
+number_event numbers.U16 S f path inside = unsigned_event w16 S f path inside
+number_event numbers.U32 S f path inside = unsigned_event w32 S f path inside
+number_event numbers.U64 S f path inside = unsigned_event w64 S f path inside
+number_event numbers.I8 S f path inside = signed_event w8 S f path inside
+number_event numbers.I16 S f path inside = signed_event w16 S f path inside
+number_event numbers.I32 S f path inside = signed_event w32 S f path inside
+number_event numbers.I64 S f path inside = signed_event w64 S f path inside
+
 truth_event : (S : List ℕ) (f : ℕ) (path : List ℕ) → f + 1 ≤ length S → HaveNoFault (leaf_events LeafBool S f path)
 truth_event S f path inside = value_event path (leaf_at LeafBool S f) (truth_text (not (number S f w8 == 0))) (number_passes S f w8 (truth_text (not (number S f w8 == 0))) inside)
 
@@ -45,12 +57,8 @@ some_same a b e = cc
 
 pub plain_item_event : (E : TableEvents) (item : Item) (size : ℕ) (S : List ℕ) (f : ℕ) (path : List ℕ) → plain_size item ≡ Some size → f + size ≤ length S
     → HaveNoFault (item_events E item S f path)
-plain_item_event E U16 size S f path e inside = let same : 2 ≡ size = some_same 2 size e in unsigned_event w16 S f path (omega arith)
-plain_item_event E U32 size S f path e inside = let same : 4 ≡ size = some_same 4 size e in unsigned_event w32 S f path (omega arith)
-plain_item_event E U64 size S f path e inside = let same : 8 ≡ size = some_same 8 size e in unsigned_event w64 S f path (omega arith)
-plain_item_event E I16 size S f path e inside = let same : 2 ≡ size = some_same 2 size e in signed_event w16 S f path (omega arith)
-plain_item_event E I32 size S f path e inside = let same : 4 ≡ size = some_same 4 size e in signed_event w32 S f path (omega arith)
-plain_item_event E I64 size S f path e inside = let same : 8 ≡ size = some_same 8 size e in signed_event w64 S f path (omega arith)
+plain_item_event E (NumberItem number) size S f path e inside =
+    let same : byte_len (number_width number) ≡ size = some_same (byte_len (number_width number)) size e in number_event number S f path (omega (arith, same, inside))
 plain_item_event E Bool size S f path e inside = let same : 1 ≡ size = some_same 1 size e in truth_event S f path (omega arith)
 plain_item_event E Text size S f path e inside = cc
 plain_item_event E (Table index) size S f path e inside = cc
@@ -58,8 +66,6 @@ plain_item_event E (Table index) size S f path e inside = cc
 pub plain_field_event : (E : TableEvents) (kind : Kind) (size : ℕ) (S : List ℕ) (f : ℕ) (path : List ℕ) → plain_field_size kind ≡ Some size → f + size ≤ length S
     → HaveNoFault (place_events E kind S f path)
 plain_field_event E (One item) size S f path e inside = plain_item_event E item size S f path e inside
-plain_field_event E U8 size S f path e inside = let same : 1 ≡ size = some_same 1 size e in unsigned_event w8 S f path (omega arith)
-plain_field_event E I8 size S f path e inside = let same : 1 ≡ size = some_same 1 size e in signed_event w8 S f path (omega arith)
 plain_field_event E Bytes size S f path e inside = cc
 plain_field_event E (ListOf item) size S f path e inside = cc
 plain_field_event E (Union index) size S f path e inside = cc
@@ -69,23 +75,13 @@ plain_field_event E (FixedList value) size S f path e inside = cc
 plain_field_event E (Nested index) size S f path e inside = cc
 
 pub plain_stride : (item : Item) (size : ℕ) → plain_size item ≡ Some size → stride_of item ≡ size
-plain_stride U16 size e = some_same 2 size e
-plain_stride U32 size e = some_same 4 size e
-plain_stride U64 size e = some_same 8 size e
-plain_stride I16 size e = some_same 2 size e
-plain_stride I32 size e = some_same 4 size e
-plain_stride I64 size e = some_same 8 size e
+plain_stride (NumberItem number) size e = some_same (byte_len (number_width number)) size e
 plain_stride Bool size e = some_same 1 size e
 plain_stride Text size e = cc
 plain_stride (Table index) size e = cc
 
 pub reference_stride : (item : Item) → plain_size item ≡ None → stride_of item ≡ 4
-reference_stride U16 e = cc
-reference_stride U32 e = cc
-reference_stride U64 e = cc
-reference_stride I16 e = cc
-reference_stride I32 e = cc
-reference_stride I64 e = cc
+reference_stride (NumberItem number) e = cc
 reference_stride Bool e = cc
 reference_stride Text e = refl
 reference_stride (Table index) e = refl

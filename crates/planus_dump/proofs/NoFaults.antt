@@ -21,11 +21,12 @@ use Rattle.planus_read.proofs.Reading.{num_inside, num_there, table_holds, numbe
 use Rattle.planus_read.proofs.SliceLaws.{references_lead, bytes_in_slice, stands_in_slices, leads_in_slices}
 use Rattle.planus_read.proofs.ListItems.{num_of_bytes}
 use Rattle.planus_read.proofs.TableReading.{table_there, any_slot_reads, table_slot_bytes, slot_reads_whole}
-use Rattle.planus.specs.Steps.{Step, FieldStep, text, bytes, numbers, refs, unions, table, number_field, ref_field, tags_field, values_field}
+use Rattle.planus.specs.Steps.{Step, FieldStep, text, bytes, numbers, refs, unions, table, number_field, struct_field, ref_field, tags_field, values_field}
 use Rattle.planus.specs.Slots.{greatest_field}
-use Rattle.planus.specs.Runs.{Finish, value_at, value_of, width_of, fits_width, numbers_value, fields_of, field_of, all_of, union_of, distance_at, tags_distance, references_distance}
+use Rattle.planus.specs.Runs.{Finish, value_at, value_of, width_of, fits_width, numbers_value, table_of, field_of, all_of, union_of, distance_at, tags_distance, references_distance}
 use Rattle.planus.specs.FinishHolds.{ValueHolds}
 use Rattle.planus.proofs.Lists.{made_of}
+use Rattle.planus.proofs.TableFields.{table_made}
 use Rattle.planus_dump.specs.Lines.{item_path, field_path}
 use Rattle.planus_dump.specs.Tests.{table_tests}
 use Rattle.planus_dump.specs.Answers.{lone_tag, Seen, SeenItems, SeenUnion, SeenUnions, table_at, union_at, unions_at, tagged_union, union_vector_by, union_vector_at, some_of}
@@ -39,7 +40,7 @@ use Rattle.planus_dump.specs.declared.schemas.VariantSchema.{VariantSchema}
 use Rattle.planus_dump.specs.declared.schemas.VariantKind.{VariantKind}
 use Rattle.planus_dump.specs.declared.schemas.VariantKind.TheVariants as member
 use Rattle.planus_dump.specs.declared.schemas.Kind.{Kind}
-use Rattle.planus_dump.specs.declared.schemas.Kind.TheVariants.{One, List as ListOf, Union, UnionVector, U8, I8, Bytes, Fixed, FixedList, Nested}
+use Rattle.planus_dump.specs.declared.schemas.Kind.TheVariants.{One, List as ListOf, Union, UnionVector, Bytes, Fixed, FixedList, Nested}
 use Rattle.planus_dump.specs.declared.schemas.Item.{Item}
 use Rattle.planus_dump.specs.declared.schemas.Item.TheVariants.{Text, Table}
 use Rattle.planus_dump.specs.declared.values.Leaf.TheVariants.{Text as LeafText, Bytes as LeafBytes}
@@ -204,6 +205,7 @@ module _ (steps : List Step) (given : Finish) (values : AllByRecursion (ValueHol
       referred_no_fault kind n made.0 k q path is made.1 (references_lead given.bytes (k + q) made.0 there)
   field_no_fault required kind (tags_field n) field k q path is e stands = absurd is
   field_no_fault required kind (values_field n) field k q path is e stands = absurd is
+  field_no_fault required kind (struct_field alignment content) field k q path is e stands = absurd is
 
   present_no_fault : (schema : Schema) (required : Bool) (kind : Kind) (o : Option FieldStep) (p : Option Field) (k q : ℕ) (path : List ℕ) → IsFieldOf steps IsTable required kind o → SameSlot given.places o p
       → SlotReads given.bytes k q p → HaveNoFault (present E schema required path q (place_events E kind (drop k given.bytes) q path))
@@ -405,6 +407,7 @@ module _ (steps : List Step) (given : Finish) (values : AllByRecursion (ValueHol
   absent_no_fault kind (Some (ref_field n)) es none refers is same = absurd (refers n is)
   absent_no_fault kind (Some (tags_field n)) es none refers is same = absurd is
   absent_no_fault kind (Some (values_field n)) es none refers is same = absurd is
+  absent_no_fault kind (Some (struct_field alignment content)) es none refers is same = absurd is
 
   zero_tagged : (index tag n : ℕ) → tag ≡ 0 → IsTagged steps IsTable (slice_get schema.unions.items index) tag n → ⊥
   zero_tagged index tag n zero_is is = by_union (slice_get schema.unions.items index) (λ variants there. all_at HasTags schema.unions.items index variants tags_are there) (subst (λ t. IsTagged steps IsTable (slice_get schema.unions.items index) t n) zero_is is)
@@ -501,8 +504,6 @@ module _ (steps : List Step) (given : Finish) (values : AllByRecursion (ValueHol
   kind_no_fault fields same (Union index) is = union_no_fault index (held_at fields i) (held_at fields (i + 1)) is (same i) (same (i + 1))
   kind_no_fault fields same (UnionVector index) is = union_vector_no_fault index (held_at fields i) (held_at fields (i + 1)) is (same i) (same (i + 1))
   kind_no_fault fields same (One item) is = place_no_fault (One item) (held_at fields i) is (same i)
-  kind_no_fault fields same U8 is = place_no_fault U8 (held_at fields i) is (same i)
-  kind_no_fault fields same I8 is = place_no_fault I8 (held_at fields i) is (same i)
   kind_no_fault fields same Bytes is = place_no_fault Bytes (held_at fields i) is (same i)
   kind_no_fault fields same (ListOf item) is = place_no_fault (ListOf item) (held_at fields i) is (same i)
   kind_no_fault fields same (Nested index) is = place_no_fault (Nested index) (held_at fields i) is (same i)
@@ -528,12 +529,12 @@ module _ (steps : List Step) (given : Finish) (values : AllByRecursion (ValueHol
         → value_of given.places step ≡ Some v → Stands given.bytes (at (position_of given.bytes d)) v → Leads given.bytes (start + f) (position_of given.bytes d)
         → HaveNoFault (shape_events E schema (Some shape) (drop start given.bytes) f path)
     table_by shape d start f path (table fields) v is e stands leads =
-        let made = made_of value.table (fields_of given.places [] greatest_field fields) v e in
+        let made = made_of value.table (table_of given.places fields) v e in
         let here : TableStands given.bytes (position_of given.bytes d) made.0 = subst (Stands given.bytes (at (position_of given.bytes d))) (sym made.2) stands in
         let found : Found given.bytes (position_of given.bytes d) start f made.0 = table_found given.bytes (position_of given.bytes d) start f made.0 here leads in
         subst (λ (a : Result Seen (List ℕ)). HaveNoFault (table_events E schema shape path a)) (sym found.is) (
           refl,
-          fields_no_fault (position_of given.bytes d) made.0 found.seen found.sees path fields (same_slots given.places [] greatest_field fields made.0 made.1) shape.fields.items is,
+          fields_no_fault (position_of given.bytes d) made.0 found.seen found.sees path fields (same_slots given.places [] greatest_field fields made.0 (table_made given.places fields made.0 made.1).1) shape.fields.items is,
         )
     table_by shape d start f path _ v is e stands leads = absurd is
 

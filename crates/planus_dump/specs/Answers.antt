@@ -13,8 +13,9 @@ use Rattle.planus_dump.specs.Lines.{quoted, bytes_text, truth_text}
 use Rattle.planus_dump.specs.Tests.{answered, number_test, text_tests, byte_list_tests}
 use Rattle.planus_dump.specs.Tests.{vector_tests, union_vector_tests, table_tests, content_at}
 use Rattle.planus_dump.specs.Tests.{fault_text}
+use Rattle.planus_dump.specs.declared.schemas.Number.TheVariants as numbers
 use Rattle.planus_dump.specs.declared.values.Leaf.{Leaf}
-use Rattle.planus_dump.specs.declared.values.Leaf.TheVariants.{U8, U16, U32, U64, I8, I16, I32, I64}
+use Rattle.planus_dump.specs.declared.values.Leaf.TheVariants.{Number}
 use Rattle.planus_dump.specs.declared.values.Leaf.TheVariants.{Bool, Text, Bytes}
 
 -- the bits of the number of this width at f
@@ -30,14 +31,14 @@ signed_at width S f =
 
 -- the printed scalar at f
 abbrev pub leaf_at : Leaf → List ℕ → ℕ → Result (List ℕ) (List ℕ)
-leaf_at U8 S f = unsigned_at w8 S f
-leaf_at U16 S f = unsigned_at w16 S f
-leaf_at U32 S f = unsigned_at w32 S f
-leaf_at U64 S f = unsigned_at w64 S f
-leaf_at I8 S f = signed_at w8 S f
-leaf_at I16 S f = signed_at w16 S f
-leaf_at I32 S f = signed_at w32 S f
-leaf_at I64 S f = signed_at w64 S f
+leaf_at (Number numbers.U8) S f = unsigned_at w8 S f
+leaf_at (Number numbers.U16) S f = unsigned_at w16 S f
+leaf_at (Number numbers.U32) S f = unsigned_at w32 S f
+leaf_at (Number numbers.U64) S f = unsigned_at w64 S f
+leaf_at (Number numbers.I8) S f = signed_at w8 S f
+leaf_at (Number numbers.I16) S f = signed_at w16 S f
+leaf_at (Number numbers.I32) S f = signed_at w32 S f
+leaf_at (Number numbers.I64) S f = signed_at w64 S f
 leaf_at Bool S f = answered (number_test S f w8 ∷ []) (truth_text (not (number S f w8 == 0)))
 leaf_at Text S f = answered (text_tests S f) (quoted (content_at S f))
 leaf_at Bytes S f = answered (byte_list_tests S f) (bytes_text (content_at S f))

@@ -34,8 +34,8 @@ use Rattle.planus_dump.specs.Answers.{SeenUnions, some_of}
 use Rattle.planus_dump.specs.ReadingViews.{answer_seen, table_seen}
 use Rattle.planus_dump.specs.Events.{Event, line, TableEvents, fault_event, counted_events}
 use Rattle.planus_dump.specs.Events.{led_events}
-use Rattle.planus_dump.specs.Events.{struct_events, structs, enum_at, number_leaf, number_width, names_in, place_events}
-use Rattle.planus_dump.specs.declared.values.Leaf.TheVariants.{Bool, Text, Bytes}
+use Rattle.planus_dump.specs.Events.{struct_events, structs, enum_at, number_width, names_in, place_events}
+use Rattle.planus_dump.specs.declared.values.Leaf.TheVariants.{Number as LeafNumber, Bool, Text, Bytes}
 use Rattle.planus_dump.specs.declared.schemas.Schema.{Schema}
 use Rattle.planus_dump.specs.declared.schemas.EnumSchema.{EnumSchema}
 use Rattle.planus_dump.specs.declared.schemas.StructSchema.{StructSchema}
@@ -166,12 +166,12 @@ AreFlags n (value ∷ values) names =
 pub record FlagsAreSaid (S : List ℕ) (f : ℕ) : Type 0 where
   pub value :
       (shape : EnumSchema) (text : List ℕ) → shape.flags ≡ true
-      → leaf_at (number_leaf shape.number) S f ≡ Ok text
+      → leaf_at (LeafNumber shape.number) S f ≡ Ok text
       → (names : List (List ℕ)) × (enum_at shape S f ≡ Ok (text ++ names_text names))
       × AreFlags (number S f (number_width shape.number)) shape.values.items names
   pub fault :
       (shape : EnumSchema) (fault : List ℕ) → shape.flags ≡ true
-      → leaf_at (number_leaf shape.number) S f ≡ Err fault → enum_at shape S f ≡ Err fault
+      → leaf_at (LeafNumber shape.number) S f ≡ Err fault → enum_at shape S f ≡ Err fault
 
 -- ---- structs
 

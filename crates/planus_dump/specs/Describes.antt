@@ -2,12 +2,13 @@
 use Rattle.std.specs.Prelude.{◌≡◌, ℕ, zero, suc, ◌+◌, ◌==◌, List, [], ◌∷◌, Vec, ⊤, false}
 use Rattle.std.specs.Prelude.{Bool as Truth}
 use Rattle.std.specs.Prelude.{Option, Some, None, slice_get, if◌then◌else◌}
+use Rattle.std.specs.Int.{byte_len}
 use Rattle.std.specs.List.{AllByRecursion}
 use Rattle.std.specs.declared.alloc.Global.{Global}
 use Rattle.planus.specs.Steps.{Step, text, bytes, numbers, refs, unions, table}
-use Rattle.planus.specs.Steps.{FieldStep, number_field, ref_field, tags_field, values_field}
+use Rattle.planus.specs.Steps.{FieldStep, number_field, struct_field, ref_field, tags_field, values_field}
 use Rattle.planus_dump.specs.Dumped.{greatest_depth}
-use Rattle.planus_dump.specs.Events.{variant_of}
+use Rattle.planus_dump.specs.Events.{variant_of, number_width}
 use Rattle.planus_dump.specs.declared.schemas.Schema.{Schema}
 use Rattle.planus_dump.specs.declared.schemas.TableSchema.{TableSchema}
 use Rattle.planus_dump.specs.declared.schemas.VariantSchema.{VariantSchema}
@@ -15,27 +16,19 @@ use Rattle.planus_dump.specs.declared.schemas.VariantKind.{VariantKind}
 use Rattle.planus_dump.specs.declared.schemas.VariantKind.TheVariants as member
 use Rattle.planus_dump.specs.declared.schemas.Kind.{Kind}
 use Rattle.planus_dump.specs.declared.schemas.Kind.TheVariants.{One, List as ListOf, Union}
-use Rattle.planus_dump.specs.declared.schemas.Kind.TheVariants.{UnionVector, U8, I8, Bytes}
+use Rattle.planus_dump.specs.declared.schemas.Kind.TheVariants.{UnionVector, Bytes}
 use Rattle.planus_dump.specs.declared.schemas.Item.{Item}
-use Rattle.planus_dump.specs.declared.schemas.Item.TheVariants.{U16, U32, U64, I16, I32, I64}
-use Rattle.planus_dump.specs.declared.schemas.Item.TheVariants.{Bool, Text, Table}
+use Rattle.planus_dump.specs.declared.schemas.Item.TheVariants.{Number, Bool, Text, Table}
 
 -- the size of a number or a bool
 abbrev pub plain_size : Item → Option ℕ
-plain_size U16 = Some 2
-plain_size U32 = Some 4
-plain_size U64 = Some 8
-plain_size I16 = Some 2
-plain_size I32 = Some 4
-plain_size I64 = Some 8
+plain_size (Number number) = Some (byte_len (number_width number))
 plain_size Bool = Some 1
 plain_size Text = None
 plain_size (Table index) = None
 
 abbrev pub plain_field_size : Kind → Option ℕ
 plain_field_size (One item) = plain_size item
-plain_field_size U8 = Some 1
-plain_field_size I8 = Some 1
 plain_field_size _ = None
 
 abbrev pub IsTextStep : Option Step → Type 0
@@ -72,10 +65,11 @@ module _ (steps : List Step) (IsTable : ℕ → ℕ → Type 0) where
   IsReferred _ n = ⊥
 
   -- the field isn't required and is absent, a number of its size, or a reference to a value of the
-  -- kind
+  -- kind; of structs nothing is said
   abbrev pub IsFieldOf : Truth → Kind → Option FieldStep → Type 0
   IsFieldOf required kind None = required ≡ false
   IsFieldOf required kind (Some (number_field width value)) = plain_field_size kind ≡ Some width
+  IsFieldOf required kind (Some (struct_field alignment content)) = ⊥
   IsFieldOf required kind (Some (ref_field n)) = IsReferred kind n
   IsFieldOf required kind (Some (tags_field n)) = ⊥
   IsFieldOf required kind (Some (values_field n)) = ⊥

@@ -35,18 +35,13 @@ use Rattle.planus_dump.specs.declared.schemas.VariantKind.{VariantKind}
 use Rattle.planus_dump.specs.declared.schemas.VariantKind.TheVariants as member
 use Rattle.planus_dump.specs.declared.schemas.Kind.{Kind}
 use Rattle.planus_dump.specs.declared.schemas.Kind.TheVariants.{One, List as ListOf, Union}
-use Rattle.planus_dump.specs.declared.schemas.Kind.TheVariants.{UnionVector, U8, I8, Bytes}
+use Rattle.planus_dump.specs.declared.schemas.Kind.TheVariants.{UnionVector, Bytes}
 use Rattle.planus_dump.specs.declared.schemas.Kind.TheVariants.{Fixed as FixedKind, FixedList}
 use Rattle.planus_dump.specs.declared.schemas.Kind.TheVariants.{Nested}
 use Rattle.planus_dump.specs.declared.schemas.Item.{Item}
-use Rattle.planus_dump.specs.declared.schemas.Item.TheVariants.{U16, U32, U64, I16, I32, I64}
-use Rattle.planus_dump.specs.declared.schemas.Item.TheVariants.{Bool, Text, Table}
+use Rattle.planus_dump.specs.declared.schemas.Item.TheVariants.{Number as NumberItem, Bool, Text, Table}
 use Rattle.planus_dump.specs.declared.values.Leaf.{Leaf}
-use Rattle.planus_dump.specs.declared.values.Leaf.TheVariants.{U8 as LeafU8, U16 as LeafU16}
-use Rattle.planus_dump.specs.declared.values.Leaf.TheVariants.{U32 as LeafU32, U64 as LeafU64}
-use Rattle.planus_dump.specs.declared.values.Leaf.TheVariants.{I8 as LeafI8, I16 as LeafI16}
-use Rattle.planus_dump.specs.declared.values.Leaf.TheVariants.{I32 as LeafI32, I64 as LeafI64}
-use Rattle.planus_dump.specs.declared.values.Leaf.TheVariants.{Bool as LeafBool, Text as LeafText}
+use Rattle.planus_dump.specs.declared.values.Leaf.TheVariants.{Number as LeafNumber, Bool as LeafBool, Text as LeafText}
 use Rattle.planus_dump.specs.declared.values.Leaf.TheVariants.{Bytes as LeafBytes}
 
 -- a line, one that states an error, the mark of a table or a struct that is too deep and isn't read,
@@ -89,14 +84,20 @@ answer_event path (Err fault) = fault_event path fault
 abbrev pub leaf_events : Leaf → List ℕ → ℕ → List ℕ → List Event
 leaf_events leaf S f path = answer_event path (leaf_at leaf S f) ∷ []
 
+-- the width of an integer
+abbrev pub number_width : Number → Width
+number_width numbers.U8 = w8
+number_width numbers.U16 = w16
+number_width numbers.U32 = w32
+number_width numbers.U64 = w64
+number_width numbers.I8 = w8
+number_width numbers.I16 = w16
+number_width numbers.I32 = w32
+number_width numbers.I64 = w64
+
 -- the size of an item in a vector
 abbrev pub stride_of : Item → ℕ
-stride_of U16 = 2
-stride_of U32 = 4
-stride_of U64 = 8
-stride_of I16 = 2
-stride_of I32 = 4
-stride_of I64 = 8
+stride_of (NumberItem number) = byte_len (number_width number)
 stride_of Bool = 1
 stride_of Text = 4
 stride_of (Table index) = 4
@@ -112,27 +113,6 @@ abbrev pub TableEvents : Type 0
 TableEvents = ℕ → List ℕ → ℕ → List ℕ → List Event
 
 -- ---- values of a fixed size
-
--- the width of an integer
-abbrev pub number_width : Number → Width
-number_width numbers.U8 = w8
-number_width numbers.U16 = w16
-number_width numbers.U32 = w32
-number_width numbers.U64 = w64
-number_width numbers.I8 = w8
-number_width numbers.I16 = w16
-number_width numbers.I32 = w32
-number_width numbers.I64 = w64
-
-abbrev pub number_leaf : Number → Leaf
-number_leaf numbers.U8 = LeafU8
-number_leaf numbers.U16 = LeafU16
-number_leaf numbers.U32 = LeafU32
-number_leaf numbers.U64 = LeafU64
-number_leaf numbers.I8 = LeafI8
-number_leaf numbers.I16 = LeafI16
-number_leaf numbers.I32 = LeafI32
-number_leaf numbers.I64 = LeafI64
 
 abbrev pub float_event : (ℕ → Bits) → List ℕ → Result ℕ (List ℕ) → Event
 float_event make path (Ok n) = float path (make n)
@@ -163,7 +143,7 @@ named flags (Err fault) names = Err fault
 -- the number of an enum at f of S
 abbrev pub enum_at : EnumSchema → List ℕ → ℕ → Result (List ℕ) (List ℕ)
 enum_at shape S f =
-    named shape.flags (leaf_at (number_leaf shape.number) S f)
+    named shape.flags (leaf_at (LeafNumber shape.number) S f)
     (names_in shape.flags (number S f (number_width shape.number)) shape.values.items)
 
 abbrev pub enum_events : Option EnumSchema → List ℕ → ℕ → List ℕ → List Event
@@ -191,7 +171,7 @@ fixed_size schema (fixed.Struct index) = struct_size (slice_get schema.structs.i
 module _ (schema : Schema) (T : TableEvents) where
   -- a value of a fixed size at f of S
   abbrev pub fixed_events : Fixed → List ℕ → ℕ → List ℕ → List Event
-  fixed_events (fixed.Number number) S f path = leaf_events (number_leaf number) S f path
+  fixed_events (fixed.Number number) S f path = leaf_events (LeafNumber number) S f path
   fixed_events fixed.Bool S f path = leaf_events LeafBool S f path
   fixed_events fixed.F32 S f path = float_event bits.F32 path (bits_at w32 S f) ∷ []
   fixed_events fixed.F64 S f path = float_event bits.F64 path (bits_at w64 S f) ∷ []
@@ -256,12 +236,7 @@ fixed_list_events schema value path (Err fault) = fault_event path fault ∷ []
 
 module _ (E : TableEvents) where
   abbrev pub item_events : Item → List ℕ → ℕ → List ℕ → List Event
-  item_events U16 S f path = leaf_events LeafU16 S f path
-  item_events U32 S f path = leaf_events LeafU32 S f path
-  item_events U64 S f path = leaf_events LeafU64 S f path
-  item_events I16 S f path = leaf_events LeafI16 S f path
-  item_events I32 S f path = leaf_events LeafI32 S f path
-  item_events I64 S f path = leaf_events LeafI64 S f path
+  item_events (NumberItem number) S f path = leaf_events (LeafNumber number) S f path
   item_events Bool S f path = leaf_events LeafBool S f path
   item_events Text S f path = leaf_events LeafText S f path
   item_events (Table index) S f path = E index S f path
@@ -290,8 +265,6 @@ module _ (E : TableEvents) where
   -- a field with one place, of no fixed size
   abbrev pub place_events : Kind → List ℕ → ℕ → List ℕ → List Event
   place_events (One item) S f path = item_events item S f path
-  place_events U8 S f path = leaf_events LeafU8 S f path
-  place_events I8 S f path = leaf_events LeafI8 S f path
   place_events Bytes S f path = leaf_events LeafBytes S f path
   place_events (ListOf item) S f path = list_events item path (vector_at (stride_of item) S f)
   place_events (Union index) S f path = []

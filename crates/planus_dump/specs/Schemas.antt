@@ -10,7 +10,7 @@ use Rattle.planus_dump.specs.declared.schemas.TableSchema.{TableSchema}
 use Rattle.planus_dump.specs.declared.schemas.FieldSchema.{FieldSchema}
 use Rattle.planus_dump.specs.declared.schemas.Kind.{Kind}
 use Rattle.planus_dump.specs.declared.schemas.Kind.TheVariants.{One, List as ListOf, Union}
-use Rattle.planus_dump.specs.declared.schemas.Kind.TheVariants.{UnionVector, U8, I8, Bytes}
+use Rattle.planus_dump.specs.declared.schemas.Kind.TheVariants.{UnionVector, Bytes}
 use Rattle.planus_dump.specs.declared.schemas.Kind.TheVariants.{Fixed as FixedKind, FixedList}
 use Rattle.planus_dump.specs.declared.schemas.Kind.TheVariants.{Nested}
 use Rattle.planus_dump.specs.declared.schemas.StructSchema.{StructSchema}
@@ -49,8 +49,6 @@ kind_fits tables unions (One item) = item_fits tables item
 kind_fits tables unions (ListOf item) = item_fits tables item
 kind_fits tables unions (Union index) = nat_lt index unions
 kind_fits tables unions (UnionVector index) = nat_lt index unions
-kind_fits tables unions U8 = true
-kind_fits tables unions I8 = true
 kind_fits tables unions Bytes = true
 kind_fits tables unions (FixedKind value) = true
 kind_fits tables unions (FixedList value) = true

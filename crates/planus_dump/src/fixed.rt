@@ -22,23 +22,8 @@ use planus::{Place, SliceWithStartOffset};
 
 const GREATEST_NESTING: usize = 64;
 
-/// An integer as a scalar.
-pub fn leaf_of(number: Number) -> Leaf
-    ensures { result ≡ spec.number_leaf number }
-{
-    match number {
-        Number::U8 => Leaf::U8,
-        Number::U16 => Leaf::U16,
-        Number::U32 => Leaf::U32,
-        Number::U64 => Leaf::U64,
-        Number::I8 => Leaf::I8,
-        Number::I16 => Leaf::I16,
-        Number::I32 => Leaf::I32,
-        Number::I64 => Leaf::I64,
-    }
-}
-
-fn number_size(number: Number) -> usize
+/// The bytes of an integer.
+pub fn number_size(number: Number) -> usize
     ensures { result ≡ byte_len (spec.number_width number) }
 {
     match number {
@@ -95,7 +80,7 @@ fn dump_enum<L: Lines>(
         (spec.enum_events (Some shape.now)
         (place_bytes place.entry) (place_offset place.entry) path.now) result out.new }
 {
-    let value = match value_at(place, leaf_of(shape.number)) {
+    let value = match value_at(place, Leaf::Number(shape.number)) {
         Ok(value) => value,
         Err(kind) => return out.put_fault(path, kind),
     };
@@ -124,7 +109,7 @@ fn dump_fixed<L: Lines>(
         (place_bytes place.entry) (place_offset place.entry) path.now) result out.new }
 {
     match fixed {
-        Fixed::Number(number) => dump_leaf(out, path, leaf_of(number), place),
+        Fixed::Number(number) => dump_leaf(out, path, Leaf::Number(number), place),
         Fixed::Bool => dump_leaf(out, path, Leaf::Bool, place),
         Fixed::F32 => match single_at(place) {
             Ok(bits) => out.put_float(path, bits),

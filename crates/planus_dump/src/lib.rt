@@ -27,7 +27,7 @@ mod writing;
 
 pub use dumps::{DumpError, dump};
 pub use end::End;
-pub use fixed::{fixed_size, leaf_of};
+pub use fixed::fixed_size;
 pub use line::Bits;
 pub use printed::push_hex;
 pub use runs::{DumpRunError, dump_run};

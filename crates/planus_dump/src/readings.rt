@@ -43,20 +43,29 @@ fn text_at<'buf>(place: Place<'buf>) -> Result<Value<'buf>, ErrorKind>
     }
 }
 
+fn number_at<'buf>(place: Place<'buf>, number: Number) -> Result<Value<'buf>, ErrorKind>
+    ensures { answer_seen value_text result
+        ≡ spec.leaf_at (Leaf.Number number) (place_bytes place.entry) (place_offset place.entry) }
+{
+    match number {
+        Number::U8 => Ok(Value::Unsigned(u64::from(place.read::<u8>()?))),
+        Number::U16 => Ok(Value::Unsigned(u64::from(place.read::<u16>()?))),
+        Number::U32 => Ok(Value::Unsigned(u64::from(place.read::<u32>()?))),
+        Number::U64 => Ok(Value::Unsigned(place.read::<u64>()?)),
+        Number::I8 => Ok(Value::Signed(i64::from(place.read::<i8>()?))),
+        Number::I16 => Ok(Value::Signed(i64::from(place.read::<i16>()?))),
+        Number::I32 => Ok(Value::Signed(i64::from(place.read::<i32>()?))),
+        Number::I64 => Ok(Value::Signed(place.read::<i64>()?)),
+    }
+}
+
 /// Reads a scalar.
 pub fn value_at<'buf>(place: Place<'buf>, leaf: Leaf) -> Result<Value<'buf>, ErrorKind>
     ensures { answer_seen value_text result
         ≡ spec.leaf_at leaf (place_bytes place.entry) (place_offset place.entry) }
 {
     match leaf {
-        Leaf::U8 => Ok(Value::Unsigned(u64::from(place.read::<u8>()?))),
-        Leaf::U16 => Ok(Value::Unsigned(u64::from(place.read::<u16>()?))),
-        Leaf::U32 => Ok(Value::Unsigned(u64::from(place.read::<u32>()?))),
-        Leaf::U64 => Ok(Value::Unsigned(place.read::<u64>()?)),
-        Leaf::I8 => Ok(Value::Signed(i64::from(place.read::<i8>()?))),
-        Leaf::I16 => Ok(Value::Signed(i64::from(place.read::<i16>()?))),
-        Leaf::I32 => Ok(Value::Signed(i64::from(place.read::<i32>()?))),
-        Leaf::I64 => Ok(Value::Signed(place.read::<i64>()?)),
+        Leaf::Number(number) => number_at(place, number),
         Leaf::Bool => Ok(Value::Truth(place.read::<bool>()?)),
         Leaf::Text => text_at(place),
         Leaf::Bytes => Ok(Value::Bytes(place.read::<&'buf [u8]>()?)),
@@ -79,12 +88,7 @@ pub fn item_found<'buf>(place: Place<'buf>, item: Item) -> Found<'buf>
     ensures { IsFound item (place_bytes place.entry) (place_offset place.entry) result }
 {
     match item {
-        Item::U16 => leaf_found(place, Leaf::U16),
-        Item::U32 => leaf_found(place, Leaf::U32),
-        Item::U64 => leaf_found(place, Leaf::U64),
-        Item::I16 => leaf_found(place, Leaf::I16),
-        Item::I32 => leaf_found(place, Leaf::I32),
-        Item::I64 => leaf_found(place, Leaf::I64),
+        Item::Number(number) => leaf_found(place, Leaf::Number(number)),
         Item::Bool => leaf_found(place, Leaf::Bool),
         Item::Text => leaf_found(place, Leaf::Text),
         Item::Table(index) => Found::Table(index, place),

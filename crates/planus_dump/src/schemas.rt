@@ -104,10 +104,6 @@ pub struct StructFieldSchema {
 pub enum Kind {
     /// One item.
     One(Item),
-    /// An unsigned number of one byte.
-    U8,
-    /// A signed number of one byte.
-    I8,
     /// A byte vector.
     Bytes,
     /// A vector of items.
@@ -127,18 +123,8 @@ pub enum Kind {
 /// What can be an item of a vector.
 #[derive(Clone, Copy, Debug)]
 pub enum Item {
-    /// An unsigned number of 2 bytes.
-    U16,
-    /// An unsigned number of 4 bytes.
-    U32,
-    /// An unsigned number of 8 bytes.
-    U64,
-    /// A signed number of 2 bytes.
-    I16,
-    /// A signed number of 4 bytes.
-    I32,
-    /// A signed number of 8 bytes.
-    I64,
+    /// An integer.
+    Number(Number),
     /// A bool.
     Bool,
     /// A string.

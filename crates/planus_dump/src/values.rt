@@ -1,16 +1,11 @@
 //! Scalars.
 
+use crate::schemas::Number;
+
 /// What a scalar is read as.
 #[derive(Clone, Copy)]
 pub enum Leaf {
-    U8,
-    U16,
-    U32,
-    U64,
-    I8,
-    I16,
-    I32,
-    I64,
+    Number(Number),
     Bool,
     Text,
     Bytes,

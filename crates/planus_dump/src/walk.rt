@@ -12,7 +12,7 @@ ghost use Rattle.planus_dump.specs.inner.Feeding.{Feeds};
 ghost use Rattle.std.specs.Prelude.{Some, Ok, false};
 ghost use Rattle.std.specs.Option.{option_map};
 
-use crate::fixed::{dump_led, dump_value, dump_values};
+use crate::fixed::{dump_led, dump_value, dump_values, number_size};
 use crate::line_sink::LineSink;
 use crate::lines::Lines;
 use crate::readings::{
@@ -82,10 +82,9 @@ pub fn stride_of(item: Item) -> usize
     ensures { result ≡ spec.stride_of item }
 {
     match item {
+        Item::Number(number) => number_size(number),
         Item::Bool => 1,
-        Item::U16 | Item::I16 => 2,
-        Item::U32 | Item::I32 | Item::Text | Item::Table(_) => 4,
-        Item::U64 | Item::I64 => 8,
+        Item::Text | Item::Table(_) => 4,
     }
 }
 
@@ -246,8 +245,6 @@ fn dump_place<L: Lines>(
 {
     match kind {
         Kind::One(item) => dump_found(schema, out, left, path, item_found(place, item)),
-        Kind::U8 => dump_found(schema, out, left, path, leaf_found(place, Leaf::U8)),
-        Kind::I8 => dump_found(schema, out, left, path, leaf_found(place, Leaf::I8)),
         Kind::Bytes => dump_found(schema, out, left, path, leaf_found(place, Leaf::Bytes)),
         Kind::List(item) => dump_items(schema, out, left, path, item, place),
         Kind::Nested(index) => match place.read::<&[u8]>() {

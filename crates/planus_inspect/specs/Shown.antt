@@ -74,29 +74,16 @@ scalar_fixed s = fixed.Number (scalar_number s)
 
 abbrev pub scalar_kind : Scalar → Kind
 scalar_kind scalar.Bool = kind.One item.Bool
-scalar_kind scalar.Byte = kind.I8
-scalar_kind scalar.UByte = kind.U8
-scalar_kind scalar.Short = kind.One item.I16
-scalar_kind scalar.UShort = kind.One item.U16
-scalar_kind scalar.Int = kind.One item.I32
-scalar_kind scalar.UInt = kind.One item.U32
-scalar_kind scalar.Long = kind.One item.I64
-scalar_kind scalar.ULong = kind.One item.U64
 scalar_kind scalar.Float = kind.Fixed fixed.F32
 scalar_kind scalar.Double = kind.Fixed fixed.F64
+scalar_kind s = kind.One (item.Number (scalar_number s))
 
 abbrev pub scalar_list : Scalar → Kind
 scalar_list scalar.Bool = kind.List item.Bool
-scalar_list scalar.Byte = kind.FixedList (fixed.Number number.I8)
 scalar_list scalar.UByte = kind.Bytes
-scalar_list scalar.Short = kind.List item.I16
-scalar_list scalar.UShort = kind.List item.U16
-scalar_list scalar.Int = kind.List item.I32
-scalar_list scalar.UInt = kind.List item.U32
-scalar_list scalar.Long = kind.List item.I64
-scalar_list scalar.ULong = kind.List item.U64
 scalar_list scalar.Float = kind.FixedList fixed.F32
 scalar_list scalar.Double = kind.FixedList fixed.F64
+scalar_list s = kind.List (item.Number (scalar_number s))
 
 -- a value in a struct: a scalar, an enum or a struct
 abbrev pub base_fixed : Base → Fixed

@@ -36,16 +36,9 @@ fn scalar_kind(scalar: Scalar) -> Kind
 {
     match scalar {
         Scalar::Bool => Kind::One(Item::Bool),
-        Scalar::Byte => Kind::I8,
-        Scalar::UByte => Kind::U8,
-        Scalar::Short => Kind::One(Item::I16),
-        Scalar::UShort => Kind::One(Item::U16),
-        Scalar::Int => Kind::One(Item::I32),
-        Scalar::UInt => Kind::One(Item::U32),
-        Scalar::Long => Kind::One(Item::I64),
-        Scalar::ULong => Kind::One(Item::U64),
         Scalar::Float => Kind::Fixed(Fixed::F32),
         Scalar::Double => Kind::Fixed(Fixed::F64),
+        scalar => Kind::One(Item::Number(scalar_number(scalar))),
     }
 }
 
@@ -54,16 +47,10 @@ fn scalar_list(scalar: Scalar) -> Kind
 {
     match scalar {
         Scalar::Bool => Kind::List(Item::Bool),
-        Scalar::Byte => Kind::FixedList(Fixed::Number(Number::I8)),
         Scalar::UByte => Kind::Bytes,
-        Scalar::Short => Kind::List(Item::I16),
-        Scalar::UShort => Kind::List(Item::U16),
-        Scalar::Int => Kind::List(Item::I32),
-        Scalar::UInt => Kind::List(Item::U32),
-        Scalar::Long => Kind::List(Item::I64),
-        Scalar::ULong => Kind::List(Item::U64),
         Scalar::Float => Kind::FixedList(Fixed::F32),
         Scalar::Double => Kind::FixedList(Fixed::F64),
+        scalar => Kind::List(Item::Number(scalar_number(scalar))),
     }
 }
 

@@ -11,7 +11,8 @@ use Rattle.planus_read.specs.declared.errors.ErrorKind.TheVariants.{InvalidOffse
 use Rattle.planus_dump.specs.Answers.{SeenItems, vector_at, leaf_at}
 use Rattle.planus_dump.specs.Tests.{fault_text, answered, number_test}
 use Rattle.planus_dump.specs.Lines.{item_path, field_path}
-use Rattle.planus_dump.specs.Events.{fixed_size, greatest_nesting, number_leaf, number_width}
+use Rattle.planus_dump.specs.Events.{fixed_size, greatest_nesting, number_width}
+use Rattle.planus_dump.specs.declared.values.Leaf.TheVariants as leaf
 use Rattle.planus_dump.specs.declared.schemas.Schema.{Schema}
 use Rattle.planus_dump.specs.declared.schemas.EnumSchema.{EnumSchema}
 use Rattle.planus_dump.specs.declared.schemas.StructSchema.{StructSchema}
@@ -87,7 +88,7 @@ module _ (S : List ℕ) (f : ℕ) (past : length S < f) where
   unread : {A : Type 0} (w : Width) (x : A) → answered (number_test S f w ∷ []) x ≡ Err (fault_text InvalidOffset)
   unread w x = rw (past_test (byte_len w)) refl
 
-  leaf_unread : (number : Number) → leaf_at (number_leaf number) S f ≡ Err (fault_text InvalidOffset)
+  leaf_unread : (number : Number) → leaf_at (leaf.Number number) S f ≡ Err (fault_text InvalidOffset)
   leaf_unread numbers.U8 = unread w8 _
   leaf_unread numbers.U16 = unread w16 _
   leaf_unread numbers.U32 = unread w32 _

@@ -16,7 +16,7 @@ use Rattle.planus_dump.specs.Lines.{field_path, item_path, lone_tag_text}
 use Rattle.planus_dump.specs.Tests.{fault_text, answered, text_tests, byte_list_tests, content_at}
 use Rattle.planus_dump.specs.Answers.{leaf_at, bits_at, Seen, table_at, SeenItems, vector_at}
 use Rattle.planus_dump.specs.Answers.{SeenUnion, SeenUnions, union_at, unions_at}
-use Rattle.planus_dump.specs.Events.{stride_of, variant_of, number_width, number_leaf, has_value}
+use Rattle.planus_dump.specs.Events.{stride_of, variant_of, number_width, has_value}
 use Rattle.planus_dump.specs.Events.{names_in, fixed_size, greatest_nesting, wrong_tag, field_label}
 use Rattle.planus_dump.specs.Dumped.{greatest_depth}
 use Rattle.planus_dump.specs.declared.line.Bits.{Bits}
@@ -24,7 +24,6 @@ use Rattle.planus_dump.specs.declared.line.Bits.TheVariants as bits
 use Rattle.planus_dump.specs.declared.schemas.EnumSchema.{EnumSchema}
 use Rattle.planus_dump.specs.declared.schemas.StructSchema.{StructSchema}
 use Rattle.planus_dump.specs.declared.schemas.StructFieldSchema.{StructFieldSchema}
-use Rattle.planus_dump.specs.declared.schemas.Number.TheVariants as numbers
 use Rattle.planus_dump.specs.declared.schemas.Fixed.{Fixed}
 use Rattle.planus_dump.specs.declared.schemas.Fixed.TheVariants as fixed
 use Rattle.planus_dump.specs.declared.schemas.Schema.{Schema}
@@ -35,12 +34,12 @@ use Rattle.planus_dump.specs.declared.schemas.VariantKind.{VariantKind}
 use Rattle.planus_dump.specs.declared.schemas.VariantKind.TheVariants as member_kinds
 use Rattle.planus_dump.specs.declared.schemas.Kind.{Kind}
 use Rattle.planus_dump.specs.declared.schemas.Kind.TheVariants.{One, List as ListOf, Union}
-use Rattle.planus_dump.specs.declared.schemas.Kind.TheVariants.{UnionVector, U8, I8, Bytes}
+use Rattle.planus_dump.specs.declared.schemas.Kind.TheVariants.{UnionVector, Bytes}
 use Rattle.planus_dump.specs.declared.schemas.Kind.TheVariants.{Fixed as FixedKind, FixedList}
 use Rattle.planus_dump.specs.declared.schemas.Kind.TheVariants.{Nested}
 use Rattle.planus_dump.specs.declared.schemas.Item.{Item}
 use Rattle.planus_dump.specs.declared.schemas.Item.TheVariants as items
-use Rattle.planus_dump.specs.declared.values.Leaf.TheVariants.{Bool as LeafBool}
+use Rattle.planus_dump.specs.declared.values.Leaf.TheVariants.{Number as LeafNumber, Bool as LeafBool}
 
 -- a number, or true or false, as it is printed; a float; a string; a list; an object; an error, of a
 -- path; a table or a struct that is too deep and isn't read; what the schema doesn't have
@@ -143,13 +142,13 @@ abbrev pub enum_tree : Option EnumSchema → List ℕ → ℕ → List ℕ → T
 enum_tree None S f path = nothing
 enum_tree (Some shape) S f path =
     number_tree shape (number S f (number_width shape.number)) path
-    (leaf_at (number_leaf shape.number) S f)
+    (leaf_at (LeafNumber shape.number) S f)
 
 -- T has a struct's tree, by its index in the schema, bytes, its offset in them, and its path.
 module _ (schema : Schema) (T : TableTree) where
   -- a value of a fixed size at f of S
   abbrev pub fixed_tree : Fixed → List ℕ → ℕ → List ℕ → Tree
-  fixed_tree (fixed.Number number) S f path = word_tree path (leaf_at (number_leaf number) S f)
+  fixed_tree (fixed.Number number) S f path = word_tree path (leaf_at (LeafNumber number) S f)
   fixed_tree fixed.Bool S f path = word_tree path (leaf_at LeafBool S f)
   fixed_tree fixed.F32 S f path = float_tree bits.F32 path (bits_at w32 S f)
   fixed_tree fixed.F64 S f path = float_tree bits.F64 path (bits_at w64 S f)
@@ -242,12 +241,7 @@ types_trees schema index seen (suc n) i =
 
 module _ (E : TableTree) where
   abbrev pub item_tree : Item → List ℕ → ℕ → List ℕ → Tree
-  item_tree items.U16 S f path = word_tree path (leaf_at (number_leaf numbers.U16) S f)
-  item_tree items.U32 S f path = word_tree path (leaf_at (number_leaf numbers.U32) S f)
-  item_tree items.U64 S f path = word_tree path (leaf_at (number_leaf numbers.U64) S f)
-  item_tree items.I16 S f path = word_tree path (leaf_at (number_leaf numbers.I16) S f)
-  item_tree items.I32 S f path = word_tree path (leaf_at (number_leaf numbers.I32) S f)
-  item_tree items.I64 S f path = word_tree path (leaf_at (number_leaf numbers.I64) S f)
+  item_tree (items.Number number) S f path = word_tree path (leaf_at (LeafNumber number) S f)
   item_tree items.Bool S f path = word_tree path (leaf_at LeafBool S f)
   item_tree items.Text S f path = string_tree path (text_at S f)
   item_tree (items.Table index) S f path = E index S f path
@@ -275,8 +269,6 @@ module _ (E : TableTree) where
   -- a field with one place
   abbrev pub place_tree : Schema → Kind → List ℕ → ℕ → List ℕ → Tree
   place_tree schema (One one) S f path = item_tree one S f path
-  place_tree schema U8 S f path = word_tree path (leaf_at (number_leaf numbers.U8) S f)
-  place_tree schema I8 S f path = word_tree path (leaf_at (number_leaf numbers.I8) S f)
   place_tree schema Bytes S f path = bytes_tree path (bytes_at S f)
   place_tree schema (ListOf one) S f path = list_tree one path (vector_at (stride_of one) S f)
   place_tree schema (Union index) S f path = nothing

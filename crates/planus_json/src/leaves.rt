@@ -4,7 +4,6 @@
 ghost use Rattle.std.specs.Prelude.{◌∷◌, []};
 ghost use Rattle.planus_read.specs.Places.{place_bytes, place_offset};
 ghost use Rattle.planus_dump.specs.Answers.{leaf_at};
-ghost use Rattle.planus_dump.specs.Events as dump_spec;
 ghost use Rattle.planus_dump.specs.declared.values.Leaf.TheVariants as leaves;
 ghost use Rattle.planus_json.specs.Json as json;
 ghost use Rattle.planus_json.specs.Trees as spec;
@@ -24,7 +23,7 @@ pub fn print_number(
     place: Place<'_>,
 ) -> Result<(), JsonError>
     ensures { Prints out.old (json.tokens line.now (spec.word_tree path.now
-        (leaf_at (dump_spec.number_leaf number) (place_bytes place.entry)
+        (leaf_at (leaves.Number number) (place_bytes place.entry)
         (place_offset place.entry)))) result out.new }
 {
     match number_at(place, number) {

@@ -2,7 +2,6 @@
 ghost use Rattle.std.specs.Prelude.{◌≡◌};
 ghost use Rattle.planus_read.specs.Places.{place_bytes, place_offset};
 ghost use Rattle.planus_dump.specs.Answers.{leaf_at};
-ghost use Rattle.planus_dump.specs.Events.{number_leaf};
 ghost use Rattle.planus_dump.specs.Lines.{truth_text};
 ghost use Rattle.planus_dump.specs.ReadingViews.{answer_seen};
 ghost use Rattle.planus_json.specs.Trees as spec;
@@ -23,7 +22,7 @@ pub enum Scalar {
 
 pub fn number_at(place: Place<'_>, number: Number) -> Result<Scalar, ErrorKind>
     ensures { answer_seen scalar_text result
-        ≡ leaf_at (number_leaf number) (place_bytes place.entry) (place_offset place.entry) }
+        ≡ leaf_at (Leaf.Number number) (place_bytes place.entry) (place_offset place.entry) }
 {
     match number {
         Number::U8 => Ok(Scalar::Unsigned(u64::from(place.read::<u8>()?))),

@@ -261,12 +261,7 @@ fn print_item(
         (place_bytes place.entry) (place_offset place.entry) path.now)) result out.new }
 {
     match item {
-        Item::U16 => print_number(out, path, line, Number::U16, place),
-        Item::U32 => print_number(out, path, line, Number::U32, place),
-        Item::U64 => print_number(out, path, line, Number::U64, place),
-        Item::I16 => print_number(out, path, line, Number::I16, place),
-        Item::I32 => print_number(out, path, line, Number::I32, place),
-        Item::I64 => print_number(out, path, line, Number::I64, place),
+        Item::Number(number) => print_number(out, path, line, number, place),
         Item::Bool => print_truth(out, path, line, place),
         Item::Text => print_text(out, path, line, place),
         Item::Table(index) => print_table(schema, out, left, path, line, index, place),
@@ -289,8 +284,6 @@ fn print_place(
 {
     match kind {
         Kind::One(item) => print_item(schema, out, left, path, line, item, place),
-        Kind::U8 => print_number(out, path, line, Number::U8, place),
-        Kind::I8 => print_number(out, path, line, Number::I8, place),
         Kind::Bytes => print_bytes(out, path, line, place),
         Kind::List(item) => print_list(schema, out, left, path, line, item, place),
         Kind::Fixed(fixed) => print_value(schema, out, path, line, fixed, place),

@@ -6,7 +6,8 @@ mod steps;
 mod structs;
 
 use planus_dump::{
-    DumpError, FieldSchema, Item, Kind, Schema, TableSchema, VariantKind, VariantSchema, dump,
+    DumpError, FieldSchema, Item, Kind, Number, Schema, TableSchema, VariantKind, VariantSchema,
+    dump,
 };
 use planus_testing::{Test, check, check_eq};
 use std::alloc::{AllocError, Global};
@@ -20,11 +21,11 @@ pub type SchemaParts<'a> = (&'a [TableParts<'a>], &'a [&'a [(u8, usize)]]);
 
 pub const WEAPON: &[FieldParts<'static>] = &[
     (0, "name", Kind::One(Item::Text)),
-    (1, "damage", Kind::One(Item::I16)),
+    (1, "damage", Kind::One(Item::Number(Number::I16))),
 ];
 
 pub const MONSTER: &[FieldParts<'static>] = &[
-    (0, "hp", Kind::One(Item::I16)),
+    (0, "hp", Kind::One(Item::Number(Number::I16))),
     (1, "name", Kind::One(Item::Text)),
     (2, "inventory", Kind::Bytes),
     (3, "weapons", Kind::List(Item::Table(0))),

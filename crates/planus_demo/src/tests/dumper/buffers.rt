@@ -1,5 +1,5 @@
 use super::{FieldParts, MONSTER, SchemaParts, WEAPON, check_dump};
-use planus_dump::{DumpError, Item, Kind};
+use planus_dump::{DumpError, Item, Kind, Number};
 use planus_testing::Test;
 use std::test::Fail;
 
@@ -19,24 +19,24 @@ const ORC: &[u8] = b"\x04\0\0\0\xec\xff\xff\xff(\0\0\0\x1c\0\0\0(\0\0\0\
 
 // The second tag of the union vector is unknown.
 const KINDS: &[FieldParts<'static>] = &[
-    (0, "u8", Kind::U8),
-    (1, "i8", Kind::I8),
-    (2, "u16", Kind::One(Item::U16)),
-    (3, "u32", Kind::One(Item::U32)),
-    (4, "u64", Kind::One(Item::U64)),
-    (5, "i16", Kind::One(Item::I16)),
-    (6, "i32", Kind::One(Item::I32)),
-    (7, "i64", Kind::One(Item::I64)),
+    (0, "u8", Kind::One(Item::Number(Number::U8))),
+    (1, "i8", Kind::One(Item::Number(Number::I8))),
+    (2, "u16", Kind::One(Item::Number(Number::U16))),
+    (3, "u32", Kind::One(Item::Number(Number::U32))),
+    (4, "u64", Kind::One(Item::Number(Number::U64))),
+    (5, "i16", Kind::One(Item::Number(Number::I16))),
+    (6, "i32", Kind::One(Item::Number(Number::I32))),
+    (7, "i64", Kind::One(Item::Number(Number::I64))),
     (8, "flag", Kind::One(Item::Bool)),
     (9, "text", Kind::One(Item::Text)),
     (10, "bytes", Kind::Bytes),
     (11, "none", Kind::Bytes),
-    (12, "u16s", Kind::List(Item::U16)),
-    (13, "u32s", Kind::List(Item::U32)),
-    (14, "u64s", Kind::List(Item::U64)),
-    (15, "i16s", Kind::List(Item::I16)),
-    (16, "i32s", Kind::List(Item::I32)),
-    (17, "i64s", Kind::List(Item::I64)),
+    (12, "u16s", Kind::List(Item::Number(Number::U16))),
+    (13, "u32s", Kind::List(Item::Number(Number::U32))),
+    (14, "u64s", Kind::List(Item::Number(Number::U64))),
+    (15, "i16s", Kind::List(Item::Number(Number::I16))),
+    (16, "i32s", Kind::List(Item::Number(Number::I32))),
+    (17, "i64s", Kind::List(Item::Number(Number::I64))),
     (18, "flags", Kind::List(Item::Bool)),
     (19, "texts", Kind::List(Item::Text)),
     (20, "tables", Kind::List(Item::Table(0))),

@@ -1,7 +1,7 @@
 //! The walk goes on after each kind of damage.
 
 use super::{FieldParts, SchemaParts, check_dump};
-use planus_dump::{Item, Kind};
+use planus_dump::{Item, Kind, Number};
 use planus_testing::Test;
 use std::test::Fail;
 
@@ -9,7 +9,7 @@ use std::test::Fail;
 // past the end; an unknown tag; two tags and one reference; a union whose vtable, of size 22, has
 // the first slot alone.
 const FIELDS: &[FieldParts<'static>] = &[
-    (0, "number", Kind::One(Item::U32)),
+    (0, "number", Kind::One(Item::Number(Number::U32))),
     (1, "text", Kind::One(Item::Text)),
     (2, "open", Kind::One(Item::Text)),
     (3, "bytes", Kind::Bytes),

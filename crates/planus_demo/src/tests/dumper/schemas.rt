@@ -1,5 +1,5 @@
 use super::{SchemaParts, TableParts, check_dump};
-use planus_dump::{DumpError, Item, Kind};
+use planus_dump::{DumpError, Item, Kind, Number};
 use planus_testing::Test;
 use std::test::Fail;
 
@@ -12,8 +12,8 @@ const BAD_TABLES: &[&[TableParts<'static>]] = &[
     &[("", &[])],
     &[("A-B", &[])],
     &[("\u{c4}", &[])],
-    &[("A", &[(0, "", Kind::U8)])],
-    &[("A", &[(0, "a b", Kind::U8)])],
+    &[("A", &[(0, "", Kind::One(Item::Number(Number::U8)))])],
+    &[("A", &[(0, "a b", Kind::One(Item::Number(Number::U8)))])],
     &[("A", &[(0, "a", Kind::One(Item::Table(1)))])],
     &[("A", &[(0, "a", Kind::List(Item::Table(1)))])],
 ];
