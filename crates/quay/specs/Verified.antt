@@ -13,14 +13,14 @@ verified_whole = refl
 
 -- the tables' names by their indices
 abbrev pub table_names : List (ℕ × List ℕ)
-table_names = (0, codes "Boat") ∷ (1, codes "Fee") ∷ (2, codes "Quay") ∷ []
+table_names = (0, codes "Boat") ∷ (1, codes "Fee") ∷ (2, codes "Slip") ∷ (3, codes "Quay") ∷ []
 
 -- the fields' names by the indices of their tables and by their slots
 abbrev pub field_names : List (ℕ × ℕ × List ℕ)
 field_names = (0, 0, codes "name") ∷ (1, 0, codes "gear") ∷ (1, 1, codes "euros") ∷
-    (2, 0, codes "name") ∷ (2, 1, codes "plate") ∷ (2, 2, codes "cranes") ∷ (2, 3, codes "first") ∷
-    (2, 5, codes "berths") ∷ (2, 7, codes "boats") ∷ (2, 8, codes "fees") ∷ (2, 9, codes "dives") ∷
-    []
+    (2, 0, codes "berth") ∷ (3, 0, codes "name") ∷ (3, 1, codes "plate") ∷ (3, 2, codes "cranes") ∷
+    (3, 3, codes "first") ∷ (3, 5, codes "berths") ∷ (3, 7, codes "boats") ∷ (3, 8, codes "fees") ∷
+    (3, 9, codes "dives") ∷ (3, 10, codes "slips") ∷ []
 
 -- the names of both
 abbrev pub verified_names : NameTexts

@@ -10,6 +10,7 @@ mod gear;
 mod load;
 mod plate;
 mod quay;
+mod slip;
 
 pub use berth::{Berth, BerthRef};
 pub use boat::{Boat, BoatFields, BoatRef};
@@ -21,6 +22,7 @@ pub use load::Load;
 pub use planus::Create;
 pub use plate::Plate;
 pub use quay::{Quay, QuayFields, QuayRef};
+pub use slip::{Slip, SlipFields, SlipRef};
 
 mod root;
 
@@ -35,3 +37,4 @@ pub use verified::berth::BerthView;
 pub use verified::boat::BoatView;
 pub use verified::fee::FeeView;
 pub use verified::quay::QuayView;
+pub use verified::slip::SlipView;

@@ -13,6 +13,7 @@ ghost use Rattle.quay.specs.Crane.{crane_shape};
 ghost use Rattle.quay.specs.Dive.{dive_shape};
 ghost use Rattle.quay.specs.declared.fee.Fee.{Fee};
 ghost use Rattle.quay.specs.Plate.{plate_shape};
+ghost use Rattle.quay.specs.declared.slip.Slip.{Slip};
 
 use crate::berth::{Berth, BerthRef};
 use crate::boat::{Boat, BoatRef};
@@ -20,6 +21,7 @@ use crate::crane::Crane;
 use crate::dive::Dive;
 use crate::fee::{Fee, FeeRef};
 use crate::plate::Plate;
+use crate::slip::{Slip, SlipRef};
 use planus::table_reader::Table;
 use planus::{
     Builder, Built, Create, List, Offset, OrDefault, Result, SliceWithStartOffset, Stride,
@@ -41,6 +43,7 @@ pub struct QuayFields<'a> {
     pub boats: Option<&'a [Offset<Boat>]>,
     pub fees: Option<&'a [Offset<Fee>]>,
     pub dives: Option<&'a [Dive]>,
+    pub slips: Option<&'a [Offset<Slip>]>,
 }
 
 impl Quay {
@@ -48,7 +51,8 @@ impl Quay {
     pub fn fields<'a>(name: &'a str) -> QuayFields<'a>
         ensures given { (result.name ≡ name.entry) }
         ensures rest { let x = result in (x.plate ≡ None) × (x.cranes ≡ None) × (x.first ≡ None) ×
-            (x.berths.now ≡ []) × (x.boats ≡ None) × (x.fees ≡ None) × (x.dives ≡ None) }
+            (x.berths.now ≡ []) × (x.boats ≡ None) × (x.fees ≡ None) × (x.dives ≡ None) ×
+            (x.slips ≡ None) }
     {
         QuayFields {
             name,
@@ -59,6 +63,7 @@ impl Quay {
             boats: None,
             fees: None,
             dives: None,
+            slips: None,
         }
     }
 }
@@ -72,12 +77,14 @@ impl<'a> Create<QuayFields<'a>> for Quay {
         optional (tables Boat) 7 fields.boats ∷
         optional (tables Fee) 8 fields.fees ∷
         optional (judged dive_shape) 9 fields.dives ∷
+        optional (tables Slip) 10 fields.slips ∷
         plain_if plate_shape 1 fields.plate ∷ [] };
 
     ghost may = { λ fields builder. MatchOption fields.first ⊤ (λ x. IsIn builder x.offset) ×
         AllUnionsIn builder fields.berths.now ×
         MatchOption fields.boats ⊤ (λ x. AllIn builder x.now) ×
-        MatchOption fields.fees ⊤ (λ x. AllIn builder x.now) };
+        MatchOption fields.fees ⊤ (λ x. AllIn builder x.now) ×
+        MatchOption fields.slips ⊤ (λ x. AllIn builder x.now) };
 
     fn create(builder: &mut Builder, fields: QuayFields<'a>) -> Built<Quay> {
         let lines = fields![
@@ -88,6 +95,7 @@ impl<'a> Create<QuayFields<'a>> for Quay {
             7: Offset<List<Offset<Boat>>> = fields.boats,
             8: Offset<List<Offset<Fee>>> = fields.fees,
             9: Offset<List<Dive>> = fields.dives,
+            10: Offset<List<Offset<Slip>>> = fields.slips,
             1: Plate = fields.plate,
         ];
         create_table::<Quay, _>(builder, lines)
@@ -155,6 +163,13 @@ impl<'a> QuayRef<'a> {
     {
         plain_vector(&self.0, 9, "Quay", "dives")
     }
+
+    /// Returns `slips`.
+    pub fn slips(&self) -> Result<Option<Vector<'a, Result<SlipRef<'a>>>>>
+        ensures { IsTableVector Slip self.now.0 10 (codes "Quay") (codes "slips") result }
+    {
+        table_vector(&self.0, 10, "Quay", "slips")
+    }
 }
 
 impl<'a> TableView<'a> for QuayRef<'a> {
@@ -184,7 +199,7 @@ impl<'a> planus::VectorReadInner<'a> for QuayRef<'a> {
 }
 
 impl TableKind for Quay {
-    type Writer = TableWriter<24>;
+    type Writer = TableWriter<26>;
 
     ghost name = { codes "[QuayRef]" };
 
@@ -204,6 +219,7 @@ impl<'a> std::fmt::Debug for QuayRef<'a> {
         shown.field("boats", &self.boats());
         shown.field("fees", &self.fees());
         shown.field("dives", &self.dives());
+        shown.field("slips", &self.slips());
         shown.finish()
     }
 }

@@ -35,9 +35,9 @@ pub fn verify_as_root(
 ) -> Result<QuayView<'_>, planus_views::Fault>
     ensures root { (name : List ℕ) → IfOk result (λ view. IsRoot Quay name
         (λ (view : QuayView). view_table view.0) bytes.now (Ok view)) }
-    ensures passed { IfOk result (λ view. (left : ℕ) × RootWalks verified_schema 2 limits.depth
+    ensures passed { IfOk result (λ view. (left : ℕ) × RootWalks verified_schema 3 limits.depth
         limits.tables bytes.now (Ok left)) }
-    ensures fault { IfErr result (λ found. RootWalks verified_schema 2 limits.depth limits.tables
+    ensures fault { IfErr result (λ found. RootWalks verified_schema 3 limits.depth limits.tables
         bytes.now (Err found)) }
 {
     planus_views::verify_root(bytes, limits)
@@ -50,7 +50,7 @@ pub fn verify_size_prefixed_as_root(
     limits: planus_views::Limits,
 ) -> Result<(QuayView<'_>, &[u8]), planus_views::BufferFault>
     ensures { IsVerifiedSized (VerifiesRoot Quay (λ (view : QuayView). view_table view.0)
-        verified_schema 2 limits) None bytes.now result }
+        verified_schema 3 limits) None bytes.now result }
 {
     planus_views::verify_sized_buffer(bytes, limits, None)
 }
@@ -62,7 +62,7 @@ pub fn where_is(
     error: &planus::Error,
     bytes: &[u8],
 ) -> Result<Option<planus_views::FieldPath>, std::alloc::AllocError>
-    ensures { IsWhereBy verified_schema verified_names 2 default_limits error.now bytes.now
+    ensures { IsWhereBy verified_schema verified_names 3 default_limits error.now bytes.now
         result }
 {
     let names = crate::verified::names();
@@ -76,7 +76,7 @@ pub fn where_fault_is(
     fault: &planus_views::Fault,
     bytes: &[u8],
 ) -> Result<Option<planus_views::FieldPath>, std::alloc::AllocError>
-    ensures { IsWhereFaultBy verified_schema verified_names 2 default_limits fault.now bytes.now
+    ensures { IsWhereFaultBy verified_schema verified_names 3 default_limits fault.now bytes.now
         result }
 {
     let names = crate::verified::names();

@@ -4,6 +4,7 @@ pub(crate) mod berth;
 pub(crate) mod boat;
 pub(crate) mod fee;
 pub(crate) mod quay;
+pub(crate) mod slip;
 
 ghost use Rattle.std.specs.Prelude.{◌≡◌};
 ghost use Rattle.planus_views.specs.Printed.{shapes, names_of, name_texts};
@@ -14,7 +15,7 @@ use planus_views::{
     VariantKind,
 };
 
-pub const FIELDS: [FieldShape; 11] = [
+pub const FIELDS: [FieldShape; 13] = [
     FieldShape {
         slot: 0,
         required: true,
@@ -29,6 +30,11 @@ pub const FIELDS: [FieldShape; 11] = [
         slot: 1,
         required: false,
         kind: FieldKind::Value(ValueKind::Plain(4)),
+    },
+    FieldShape {
+        slot: 0,
+        required: true,
+        kind: FieldKind::Union(0),
     },
     FieldShape {
         slot: 0,
@@ -70,12 +76,18 @@ pub const FIELDS: [FieldShape; 11] = [
         required: false,
         kind: FieldKind::Value(ValueKind::Plains(56)),
     },
+    FieldShape {
+        slot: 10,
+        required: false,
+        kind: FieldKind::Value(ValueKind::Tables(2)),
+    },
 ];
 
-pub const TABLES: [TableShape; 3] = [
+pub const TABLES: [TableShape; 4] = [
     TableShape { first: 0, count: 1 },
     TableShape { first: 1, count: 2 },
-    TableShape { first: 3, count: 8 },
+    TableShape { first: 3, count: 1 },
+    TableShape { first: 4, count: 9 },
 ];
 
 pub const VARIANTS: [Variant; 4] = [
@@ -112,7 +124,7 @@ pub(crate) fn schema() -> Schema<'static>
     }
 }
 
-pub const TABLE_NAMES: [TableName<'static>; 3] = [
+pub const TABLE_NAMES: [TableName<'static>; 4] = [
     TableName {
         index: 0,
         table: "Boat",
@@ -123,11 +135,15 @@ pub const TABLE_NAMES: [TableName<'static>; 3] = [
     },
     TableName {
         index: 2,
+        table: "Slip",
+    },
+    TableName {
+        index: 3,
         table: "Quay",
     },
 ];
 
-pub const FIELD_NAMES: [FieldName<'static>; 11] = [
+pub const FIELD_NAMES: [FieldName<'static>; 13] = [
     FieldName {
         table: 0,
         slot: 0,
@@ -146,42 +162,52 @@ pub const FIELD_NAMES: [FieldName<'static>; 11] = [
     FieldName {
         table: 2,
         slot: 0,
+        field: "berth",
+    },
+    FieldName {
+        table: 3,
+        slot: 0,
         field: "name",
     },
     FieldName {
-        table: 2,
+        table: 3,
         slot: 1,
         field: "plate",
     },
     FieldName {
-        table: 2,
+        table: 3,
         slot: 2,
         field: "cranes",
     },
     FieldName {
-        table: 2,
+        table: 3,
         slot: 3,
         field: "first",
     },
     FieldName {
-        table: 2,
+        table: 3,
         slot: 5,
         field: "berths",
     },
     FieldName {
-        table: 2,
+        table: 3,
         slot: 7,
         field: "boats",
     },
     FieldName {
-        table: 2,
+        table: 3,
         slot: 8,
         field: "fees",
     },
     FieldName {
-        table: 2,
+        table: 3,
         slot: 9,
         field: "dives",
+    },
+    FieldName {
+        table: 3,
+        slot: 10,
+        field: "slips",
     },
 ];
 

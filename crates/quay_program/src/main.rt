@@ -1,15 +1,18 @@
-//! Writes a quay with a load at its first berth, by itself, and reads it back in place; and one with
-//! boats in the order of their names, by which they are looked up.
+//! Writes a quay with a load at its first berth, by itself, and reads it back in place, a slip
+//! likewise; and a quay with boats in the order of their names, by which they are looked up.
 #![tactic(auto)]
 
 ghost use Rattle.std.specs.Prelude.{IfOk};
-ghost use Rattle.planus.specs.Printed.{ReadsVariants, ReturnsStruct};
+ghost use Rattle.planus.specs.Printed.{ReadsVariants, ReturnsStruct, ReturnsRequiredStruct};
 ghost use Rattle.quay.specs.Berth.{berth_variants};
 ghost use Rattle.quay.specs.Load.{load_shape};
 
 use planus::{BuildError, Builder, create_plain, laws};
 use planus_keys::{TextKey, find, in_key_order};
-use quay::{Berth, BerthRef, Boat, Create, Gear, Load, Quay, QuayFields, QuayRef, read_as_root};
+use quay::{
+    Berth, BerthRef, Boat, Create, Gear, Load, Quay, QuayFields, QuayRef, Slip, SlipRef,
+    read_as_root,
+};
 use std::alloc::Global;
 use std::io;
 
@@ -32,6 +35,27 @@ pub fn first_read_back(
             let first = quay.first();
             laws::struct_is_read(&load, &given, &quay, &first);
             Ok(first)
+        }
+        Err(error) => Ok(Err(error)),
+    }
+}
+
+/// Writes a slip with this load, and reads it back.
+pub fn slip_read_back(
+    builder: &mut Builder,
+    load: Load,
+) -> std::result::Result<planus::Result<BerthRef<'_>>, BuildError>
+    ensures { IfOk result (ReturnsRequiredStruct (ReadsVariants berth_variants) 2
+        ((load_shape).encoded load)) }
+{
+    let waiting = create_plain(builder, &load)?;
+    let given = Berth::from_waiting(waiting);
+    let slip: planus::Result<SlipRef<'_>> = Slip::read_back(builder, Slip::fields(given))?;
+    match slip {
+        Ok(slip) => {
+            let berth = slip.berth();
+            laws::required_struct_is_read(&load, &given, &slip, &berth);
+            Ok(berth)
         }
         Err(error) => Ok(Err(error)),
     }
@@ -69,6 +93,17 @@ fn main(rt: HostRuntime) -> io::Result<()> {
     match first_read_back(&mut builder, load) {
         Ok(Ok(Some(BerthRef::Waiting(load)))) => println!(rt; "waiting: {load:?}")?,
         Ok(Ok(first)) => println!(rt; "another berth: {first:?}")?,
+        Ok(Err(error)) => println!(rt; "{error}")?,
+        Err(error) => println!(rt; "{error}")?,
+    }
+    builder.clear();
+    let grab = Load {
+        pulls: [0.5, 0.25, 0.0],
+        gear: Gear::Grab,
+    };
+    match slip_read_back(&mut builder, grab) {
+        Ok(Ok(BerthRef::Waiting(load))) => println!(rt; "in a slip: {load:?}")?,
+        Ok(Ok(berth)) => println!(rt; "another berth: {berth:?}")?,
         Ok(Err(error)) => println!(rt; "{error}")?,
         Err(error) => println!(rt; "{error}")?,
     }

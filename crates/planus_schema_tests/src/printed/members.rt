@@ -130,6 +130,7 @@ fn writes_quay(builder: &mut Builder) -> std::result::Result<bool, BuildError> {
         boats: None,
         fees: None,
         dives: None,
+        slips: None,
     };
     let quay = Quay::create(builder, quay)?;
     let bytes = builder.finish(quay, None)?;

@@ -11,16 +11,18 @@ use crate::dive::Dive;
 use crate::fee::Fee;
 use crate::plate::Plate;
 use crate::quay::{Quay, QuayRef};
+use crate::slip::Slip;
 use crate::verified::berth::BerthView;
 use crate::verified::boat::BoatView;
 use crate::verified::fee::FeeView;
+use crate::verified::slip::SlipView;
 use planus::Vector;
 use planus::table_reader::Table;
 
 impl planus_views::VerifiedKind for Quay {
     ghost schema = { verified_schema };
 
-    ghost index = { 2 };
+    ghost index = { 3 };
 
     ghost whole = { verified_whole };
 
@@ -29,7 +31,7 @@ impl planus_views::VerifiedKind for Quay {
     }
 
     fn index() -> usize {
-        2
+        3
     }
 }
 
@@ -61,6 +63,7 @@ impl planus_views::Verify for Quay {
         let left = fields.tables::<Boat>(7, false, left)?;
         let left = fields.tables::<Fee>(8, false, left)?;
         let left = fields.value(9, false, planus_views::ValueKind::Plains(56), left)?;
+        let left = fields.tables::<Slip>(10, false, left)?;
         Some(left)
     }
 }
@@ -78,6 +81,7 @@ impl<'a> QuayView<'a> {
     ghost use Rattle.quay.specs.declared.boat.Boat.{Boat};
     ghost use Rattle.quay.specs.declared.fee.Fee.{Fee};
     ghost use Rattle.quay.specs.Plate.{plate_shape};
+    ghost use Rattle.quay.specs.declared.slip.Slip.{Slip};
 
     /// Returns `name`.
     pub fn name(&self) -> &'a str
@@ -140,6 +144,14 @@ impl<'a> QuayView<'a> {
         self.0.plain_vector(9)
     }
 
+    /// Returns `slips`.
+    pub fn slips(&self) -> Option<planus_views::Tables<'a, SlipView<'a>>>
+        ensures { Returns (IsTableVector Slip (view_table self.now.0) 10)
+            (option_map (λ all. checked_tables all) result) }
+    {
+        self.0.table_vector(10)
+    }
+
     /// Returns the view that tests what it reads.
     pub fn checked(&self) -> QuayRef<'a>
         ensures { result.0 ≡ view_table self.now.0 }
@@ -163,7 +175,7 @@ impl<'a> QuayRef<'a> {
     /// Verifies this table with all that it leads to, within limits, and returns its view, whose
     /// accessors don't fail.
     pub fn verify(&self, limits: planus_views::Limits) -> Result<QuayView<'a>, planus_views::Fault>
-        ensures { VerifiesTable (λ (view : QuayView). view_table view.0) verified_schema 2 limits
+        ensures { VerifiesTable (λ (view : QuayView). view_table view.0) verified_schema 3 limits
             self.now.0 result }
     {
         planus_views::verify_table(self.0, limits)
