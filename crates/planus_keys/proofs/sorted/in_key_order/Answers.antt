@@ -13,7 +13,6 @@ returns-clause-in_builder g c =
     recursion_from_All (IsIn c.args.builder.now) sorted
     (All-permutation (IsIn c.args.builder.now) given sorted
     (IsPermutation-map (λ one. one.1) c.args.tables.now c.sort.new.tables
-    c.in_ok-sort.ensures.permutation)
+    c.sort.ensures.permutation)
     (All-from_recursion (IsIn c.args.builder.now) given c.requires)) in
-    IfOk-weaker c.offsets_of.result _ _
-    (λ offsets is. subst (AllIn c.args.builder.now) (sym is) all) c.offsets_of.ensures
+    subst (AllIn c.args.builder.now) (sym {A = _} c.put_offsets.ensures) all
