@@ -25,9 +25,17 @@ struct Written {
 }
 
 fn size_of(field: &Field) -> usize {
-    match field.value {
-        FieldValue::Number { width, .. } => width as usize,
+    match &field.value {
+        FieldValue::Number { width, .. } => *width as usize,
+        FieldValue::Plain { bytes, .. } => bytes.len(),
         FieldValue::Ref(_) | FieldValue::Tags(_) | FieldValue::Values(_) => 4,
+    }
+}
+
+fn aligned_to(field: &Field) -> usize {
+    match &field.value {
+        FieldValue::Plain { alignment, .. } => *alignment as usize,
+        _ => size_of(field),
     }
 }
 
@@ -42,7 +50,7 @@ fn size_of_all(fields: &[Field]) -> usize {
 fn alignment_of(fields: &[Field]) -> usize {
     let mut alignment = 4;
     for field in fields {
-        alignment = alignment.max(size_of(field));
+        alignment = alignment.max(aligned_to(field));
     }
     alignment
 }
@@ -209,6 +217,14 @@ impl Written {
         self.add(step)
     }
 
+    fn plains(&mut self, step: usize, align: u8, size: usize, bytes: &[u8]) -> Result<(), Fail> {
+        let count = bytes.len().checked_div(size).ok_or("no size")?;
+        self.pad(bytes.len(), (align as usize).max(4))?;
+        self.put(bytes)?;
+        self.put_word(count)?;
+        self.add(step)
+    }
+
     fn numbers(&mut self, step: usize, width: u8, items: &[u64]) -> Result<(), Fail> {
         let alignment = if width == 8 { 8 } else { 4 };
         self.pad(items.len().wrapping_mul(width as usize), alignment)?;
@@ -290,6 +306,7 @@ impl Written {
     fn field(&mut self, value: &FieldValue) -> Result<(), Fail> {
         match value {
             FieldValue::Number { width, value } => Ok(self.put_number(*width, *value)?),
+            FieldValue::Plain { bytes, .. } => Ok(self.put(bytes.as_slice())?),
             FieldValue::Ref(named) | FieldValue::Values(named) => self.put_reference(*named),
             FieldValue::Tags(named) => self.put_reference_to(self.tags(*named)),
         }
@@ -386,6 +403,11 @@ impl Written {
             Step::Struct { alignment, bytes } => {
                 self.structure(number, *alignment, bytes.as_slice())
             }
+            Step::Plains {
+                alignment,
+                size,
+                bytes,
+            } => self.plains(number, *alignment, *size, bytes.as_slice()),
             Step::Table(fields) => self.table(number, fields.as_slice()),
             Step::Finish { .. } | Step::FinishSized { .. } | Step::Clear => Ok(()),
         }

@@ -86,6 +86,31 @@ impl<'a> Reading<'a> {
         Ok(self.finished.bytes.as_slice().get(begin..end) == Some(bytes))
     }
 
+    // The bytes of a struct in a table.
+    fn has_part(&self, place: Place<'a>, bytes: &[u8]) -> bool {
+        let begin = position(place);
+        let end = begin.wrapping_add(bytes.len());
+        self.finished.bytes.as_slice().get(begin..end) == Some(bytes)
+    }
+
+    // The count of a vector's values, and their bytes.
+    fn has_values(&self, place: Place<'a>, size: usize, bytes: &[u8]) -> Result<bool, Fail> {
+        let count = bytes.len().checked_div(size).ok_or("no size")?;
+        let list = place.read::<&'a [u8]>()?;
+        if list.len() != count {
+            return Ok(false);
+        }
+        let distance = self.distance(place)?;
+        let begin = self
+            .finished
+            .bytes
+            .len()
+            .wrapping_sub(distance)
+            .wrapping_add(4);
+        let end = begin.wrapping_add(bytes.len());
+        Ok(self.finished.bytes.as_slice().get(begin..end) == Some(bytes))
+    }
+
     fn unions(&self, step: usize) -> &'a [(u8, usize)] {
         match self.steps.get(step) {
             Some(Step::Unions(unions)) => unions.as_slice(),
@@ -126,6 +151,7 @@ impl<'a> Reading<'a> {
     fn has_field(&mut self, place: Place<'a>, value: &FieldValue) -> Result<bool, Fail> {
         match value {
             FieldValue::Number { width, value } => has_number(place, *width, *value),
+            FieldValue::Plain { bytes, .. } => Ok(self.has_part(place, bytes.as_slice())),
             FieldValue::Ref(step) => self.reads_later(Some(place), *step),
             FieldValue::Tags(step) => has_tags(place, self.unions(*step)),
             FieldValue::Values(step) => self.has_unions(place, self.unions(*step)),
@@ -151,6 +177,9 @@ impl<'a> Reading<'a> {
             Some(Step::Numbers { width, items }) => has_numbers(place, *width, items.as_slice()),
             Some(Step::Refs(steps)) => self.has_references(place, steps.as_slice()),
             Some(Step::Struct { bytes, .. }) => self.has_struct(place, bytes.as_slice()),
+            Some(Step::Plains { size, bytes, .. }) => {
+                self.has_values(place, *size, bytes.as_slice())
+            }
             Some(Step::Table(fields)) => self.has_fields(place, fields.as_slice()),
             _ => Ok(false),
         }

@@ -113,22 +113,52 @@ pub fn table(alloc: Global, named: Named, count: usize, apart: u16) -> Result<St
 }
 
 pub fn bytes(alloc: Global, count: usize) -> Result<Step, AllocError> {
+    Ok(Step::Bytes(counted(alloc, count)?))
+}
+
+fn counted(alloc: Global, count: usize) -> Result<Vec<u8>, AllocError> {
     let mut bytes = Vec::new(alloc);
     for index in 0..count {
         bytes.push((index % 256) as u8)?;
     }
-    Ok(Step::Bytes(bytes))
+    Ok(bytes)
 }
 
 // One to four alignments of 1, 2, 4, 8 or 16 bytes.
 fn structure(alloc: Global, shape: usize) -> Result<Step, AllocError> {
     let alignment = 1 << (shape % 5);
     let size = shape / 5 % 4 + 1;
-    let mut bytes = Vec::new(alloc);
-    for index in 0..size.wrapping_mul(alignment as usize) {
-        bytes.push((index % 256) as u8)?;
-    }
+    let bytes = counted(alloc, size.wrapping_mul(alignment as usize))?;
     Ok(Step::Struct { alignment, bytes })
+}
+
+// Up to four values of one to four such alignments.
+fn structures(alloc: Global, shape: usize) -> Result<Step, AllocError> {
+    let alignment = 1 << (shape % 5);
+    let size = (shape / 5 % 4 + 1).wrapping_mul(alignment as usize);
+    let bytes = counted(alloc, size.wrapping_mul(shape / 20 % 5))?;
+    Ok(Step::Plains {
+        alignment,
+        size,
+        bytes,
+    })
+}
+
+// A struct of such an alignment, and a reference behind it or before it.
+fn struct_table(alloc: Global, root: usize, shape: usize) -> Result<Step, AllocError> {
+    let alignment = 1 << (shape % 5);
+    let size = shape / 5 % 4 + 1;
+    let bytes = counted(alloc, size.wrapping_mul(alignment as usize))?;
+    let part = FieldValue::Plain { alignment, bytes };
+    let mut fields = Vec::new(alloc);
+    if alignment < 4 {
+        add_field(&mut fields, 7, FieldValue::Ref(root))?;
+        add_field(&mut fields, 3, part)?;
+    } else {
+        add_field(&mut fields, 3, part)?;
+        add_field(&mut fields, 7, FieldValue::Ref(root))?;
+    }
+    Ok(Step::Table(fields))
 }
 
 fn one_of(numbers: &[usize], draw: usize) -> Option<usize> {
@@ -169,13 +199,15 @@ impl Mixed {
                 Ok(Step::FinishSized { root, id })
             }
             (13, _) => text(alloc, self.numbers.draw() % 20000),
-            (14 | 15, _) => bytes(alloc, self.numbers.draw() % 50),
+            (14, _) => bytes(alloc, self.numbers.draw() % 50),
+            (15, _) => structures(alloc, self.numbers.draw()),
             (16, _) => structure(alloc, self.numbers.draw()),
             (17 | 18, _) => list(alloc, 2, self.numbers.draw() % 20),
             (19 | 20, _) => list(alloc, 4, self.numbers.draw() % 20),
             (21 | 22, _) => list(alloc, 8, self.numbers.draw() % 20),
             (23..=25, Some(root)) => refs(alloc, root, self.numbers.draw() % 20),
-            (26..=28, Some(root)) => self.table(root),
+            (26 | 27, Some(root)) => self.table(root),
+            (28, Some(root)) => struct_table(alloc, root, self.numbers.draw()),
             (29..=31, Some(root)) => unions(alloc, root, self.numbers.draw() % 20),
             _ => text(alloc, self.numbers.draw() % 50),
         }
