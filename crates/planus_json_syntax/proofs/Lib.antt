@@ -1,0 +1,12 @@
+pub mod Contents
+pub mod Words
+pub mod Lists
+pub mod Nested
+pub mod SpelledStrings
+pub mod SpelledTokens
+pub mod SpelledValues
+pub mod FoundStrings
+pub mod FoundTokens
+pub mod FoundValues
+pub mod Exact
+pub mod WrittenStrings
