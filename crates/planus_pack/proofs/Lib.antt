@@ -1,0 +1,4 @@
+pub mod Parts
+pub mod Nested
+pub mod Inserted
+pub mod Finishes

@@ -1,0 +1,9 @@
+use Rattle.std.proofs.Common.{◌≡◌, length}
+use Rattle.planus_pack.specs.Lookup as spec
+use Rattle.planus_pack.proofs.lookup.field_named.Given as goal
+
+abbrev pub invariant-fields : goal.invariant-fields
+invariant-fields l = spec.field_named l.key l.rest ≡ spec.field_named l.key l.fields
+
+abbrev pub decreases-fields : goal.decreases-fields
+decreases-fields l = length l.rest

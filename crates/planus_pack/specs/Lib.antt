@@ -1,0 +1,9 @@
+pub mod Faults
+pub mod Parts
+pub mod Numbers
+pub mod Floats
+pub mod Lookup
+pub mod Plain
+pub mod Tables
+pub mod Results
+pub mod Packs
