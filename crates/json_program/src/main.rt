@@ -5,7 +5,7 @@ use planus::Caches;
 use planus_dump::Schema as ShownSchema;
 use planus_inspect::dump_schema;
 use planus_json::{Layout, json};
-use planus_pack::binary;
+use planus_pack::{PackOptions, binary};
 use planus_resolve::{Schema, resolve};
 use planus_syntax::parse_text;
 use std::alloc::Global;
@@ -14,9 +14,12 @@ use std::io::Read;
 
 const SCHEMA: &[u8] = b"
 enum Color : ubyte { Red, Green, Blue = 7 }
+enum Traits : ubyte (bit_flags) { Brave, Fast, Loud }
 struct Point { x: float; y: float; }
 struct Pose { at: Point; turns: [short:2]; color: Color; }
 table Weapon { name: string (required); damage: short; }
+table Mate { name: string (key); age: ubyte; }
+table Trophy { rank: short = 3 (key); }
 union Gear { Weapon, Pose, Note: string }
 table Orc {
   name: string;
@@ -36,6 +39,10 @@ table Orc {
   motto: Gear;
   is_boss: bool;
   left: Weapon;
+  traits: Traits;
+  kit: [Gear];
+  crew: [Mate];
+  trophies: [Trophy];
 }
 root_type Orc;
 ";
@@ -72,7 +79,7 @@ fn main(rt: HostRuntime) -> io::Result<()> {
         return println!(rt; "the schema has a fault");
     };
     let shown = dump_schema(alloc, &schema, root)?;
-    match binary(alloc, &schema, root, &text, Caches::all(), None, false) {
+    match binary(alloc, &schema, root, &text, PackOptions::default(), Caches::all(), None, false) {
         Ok(bytes) => print_json(&rt, &shown, &bytes),
         Err(error) => println!(rt; "{error:?}"),
     }

@@ -4,7 +4,7 @@ use Rattle.std.specs.Prelude.{nat_lt}
 use Rattle.std.specs.List.{insert}
 use Rattle.planus.specs.declared.replaying.steps.Field.{Field}
 use Rattle.planus.specs.Steps.{bare_field, content_of}
-use Rattle.planus_pack.specs.Tables.{alignment_of, place_in, inserted}
+use Rattle.planus_pack.specs.Fields.{alignment_of, place_in, inserted}
 
 module _ (f : Field) where
   abbrev inserts : List Field → Type 0

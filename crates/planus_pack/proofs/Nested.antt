@@ -5,6 +5,7 @@ use Rattle.planus_schema.specs.declared.schema.Declared.{Declared}
 use Rattle.planus_json_syntax.specs.Values.{JsonV}
 use Rattle.planus_pack.specs.declared.pack_fault.PackFault.TheVariants as fault
 use Rattle.planus_pack.specs.Plain.{with_struct, with_struct_at}
+use Rattle.planus_pack.specs.Rules.{RulesV}
 use Rattle.planus_pack.specs.Tables.{with_table, table_in}
 
 module _ (declared : List Declared) (i : ℕ) (json : JsonV) where
@@ -23,15 +24,15 @@ module _ (declared : List Declared) (i : ℕ) (json : JsonV) where
       let e : suc depth - 1 ≡ depth = omega arith in
       rw e refl
 
+module _ (by : RulesV) (i : ℕ) (json : JsonV) where
   pub table_too_deep : (depth : ℕ) (steps : List Step) → depth ≡ 0
-      → with_table declared depth i steps json ≡ Err (fault.TooDeep, json.at)
+      → with_table by depth i steps json ≡ Err (fault.TooDeep, json.at)
   unfolding with_table
   table_too_deep zero steps h = refl
   table_too_deep (suc depth) steps h = absurd (omega (arith, h))
 
   pub table_within : (depth : ℕ) (steps : List Step) → 0 < depth
-      → with_table declared depth i steps json
-      ≡ table_in declared (with_table declared (depth - 1)) i steps json
+      → with_table by depth i steps json ≡ table_in by (with_table by (depth - 1)) i steps json
   unfolding with_table
   table_within zero steps h = absurd (omega (arith, h))
   table_within (suc depth) steps h =

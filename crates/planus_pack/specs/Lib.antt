@@ -1,9 +1,14 @@
 pub mod Faults
 pub mod Parts
+pub mod Rules
 pub mod Numbers
 pub mod Floats
 pub mod Lookup
 pub mod Plain
+pub mod Defaults
+pub mod Fields
+pub mod Unions
+pub mod Keys
 pub mod Tables
 pub mod Results
 pub mod Packs

@@ -17,7 +17,7 @@ use Rattle.planus_schema.specs.declared.schema.UnionMember.{UnionMember}
 use Rattle.planus_schema.specs.Slots.{is_union}
 use Rattle.planus_json_syntax.specs.Values.{JsonV, MemberV}
 use Rattle.planus_pack.specs.Numbers.{integer_in}
-use Rattle.planus_pack.specs.Parts.{unless_null}
+use Rattle.planus_pack.specs.Parts.{is_null}
 
 -- ---- declarations
 
@@ -85,11 +85,12 @@ abbrev pub is_struct_field : List ℕ → List StructField → Bool
 is_struct_field key [] = false
 is_struct_field key (f ∷ fs) = bytes_eq f.name.items key || is_struct_field key fs
 
--- the type of a union: the first member with its key
+-- the type of a union: what the first member with its key gives
 abbrev pub type_given : List ℕ → List MemberV → Option JsonV
 type_given name [] = None
 type_given name (m ∷ ms) =
-    if is_type_key name m.key then unless_null m.value else type_given name ms
+    if is_type_key name m.key && not (is_null m.value.value) then Some m.value
+    else type_given name ms
 
 -- ---- members of unions
 

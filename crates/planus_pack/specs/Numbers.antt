@@ -1,7 +1,10 @@
 -- Numbers of words.
-use Rattle.std.specs.Prelude.{ℕ, ◌-◌, Bool, false, ◌&&◌, nat_lt, if◌then◌else◌}
+use Rattle.std.specs.Prelude.{ℕ, ◌-◌, ◌==◌, Bool, false, ◌&&◌, nat_lt, if◌then◌else◌, fold}
 use Rattle.std.specs.Prelude.{List, [], ◌∷◌, length, take, codes, Option, Some, None, Result, Ok, Err}
 use Rattle.std.specs.Int.{w64, to_le_bytes}
+use Rattle.std.specs.Int.Bits.{bit_or}
+use Rattle.std.specs.List.{slice_split}
+use Rattle.std.specs.Option.{option_map}
 use Rattle.std.specs.Str.{bytes_eq}
 use Rattle.planus_schema.specs.declared.number.Number.{Number}
 use Rattle.planus_schema.specs.declared.scalar.Scalar.{Scalar}
@@ -45,6 +48,29 @@ abbrev pub value_named : List ℕ → List EnumValue → Option Number
 value_named w [] = None
 value_named w (v ∷ vs) = if bytes_eq v.name.items w then Some v.number else value_named w vs
 
+-- the bits so far and those of a flag, if each name is one's
+abbrev pub with_flag : List EnumValue → Option ℕ → List ℕ → Option ℕ
+with_flag vs None w = None
+with_flag vs (Some bits) [] = Some bits
+with_flag vs (Some bits) (b ∷ w) =
+    option_map (λ n. bit_or bits n.magnitude) (value_named (b ∷ w) vs)
+
+abbrev pub is_space : ℕ → Bool
+is_space b = b == 32
+
+-- no flag has no bit
+abbrev pub some_flags : Option ℕ → Option Number
+some_flags None = None
+some_flags (Some n) = if n == 0 then None else Some (natural n)
+
+-- the flags of a text, with spaces between their names
+abbrev pub flags_named : List ℕ → List EnumValue → Option Number
+flags_named w vs = some_flags (fold (with_flag vs) (Some 0) (slice_split is_space w))
+
+-- the number that a text names
+abbrev pub named : Enum → List ℕ → Option Number
+named e w = if e.flags then flags_named w e.values.items else value_named w e.values.items
+
 -- what a name says, else the number that a word is, which no value need have
 abbrev pub named_or : Scalar → ℕ → List ℕ → Option Number → Result Number Fault
 named_or s at w (Some n) = Ok n
@@ -52,7 +78,7 @@ named_or s at w None = wanted fault.UnknownName at (integer_in w) >>= fitting s 
 
 abbrev pub enum_at : Enum → JsonV → Result Number Fault
 enum_at e json = wanted fault.UnknownName json.at (word_of json.value)
-    >>= λ w. named_or e.scalar json.at w (value_named w e.values.items)
+    >>= λ w. named_or e.scalar json.at w (named e w)
 
 -- two's complement, in 64 bits
 abbrev pub bits : Number → ℕ

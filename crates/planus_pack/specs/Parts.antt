@@ -1,9 +1,11 @@
 -- The parts of a value of a text.
-use Rattle.std.specs.Prelude.{ℕ, Bool, false, if◌then◌else◌, List, [], ◌∷◌, codes}
+use Rattle.std.specs.Prelude.{ℕ, ◌==◌, Bool, false, ◌&&◌, not, if◌then◌else◌, List, [], ◌∷◌, codes, map}
 use Rattle.std.specs.Prelude.{Option, Some, None}
 use Rattle.std.specs.Str.{bytes_eq}
 use Rattle.planus_json_syntax.specs.Values.{ValueV, word, text, list, object, Items, no_items}
 use Rattle.planus_json_syntax.specs.Values.{item, Members, no_members, member, JsonV, MemberV}
+use Rattle.planus_json_syntax.specs.Values.{member_view}
+use Rattle.planus_pack.specs.declared.object.Object.{Object}
 
 abbrev pub items_in : Items → List JsonV
 items_in no_items = []
@@ -46,11 +48,24 @@ is_null (text w) = false
 is_null (list js) = false
 is_null (object ms) = false
 
--- a member that is `null` is as if absent
-abbrev pub unless_null : JsonV → Option JsonV
-unless_null json = if is_null json.value then None else Some json
-
--- the value of the first member with this key
+-- The value of the first member with this key. A member that is `null` is as if absent.
 abbrev pub given : List ℕ → List MemberV → Option JsonV
 given key [] = None
-given key (m ∷ ms) = if bytes_eq m.key key then unless_null m.value else given key ms
+given key (m ∷ ms) =
+    if bytes_eq m.key key && not (is_null m.value.value) then Some m.value else given key ms
+
+abbrev pub is_at : ℕ → Option JsonV → Bool
+is_at at None = false
+is_at at (Some json) = json.at == at
+
+-- whether a member stands for what one before it gave
+abbrev pub stands_again : MemberV → List MemberV → Bool
+stands_again m ms = not (is_at m.value.at (given m.key ms))
+
+-- an object of a text: the place of its first byte, and its members
+pub record ObjectV : Type 0 where
+  pub at : ℕ
+  pub members : List MemberV
+
+abbrev pub object_view : Object → ObjectV
+object_view o = record { at = o.at; members = map member_view o.members.now }

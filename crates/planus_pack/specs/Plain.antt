@@ -110,7 +110,7 @@ module _ (declared : List Declared) where
 
     -- a struct whose object has these members
     abbrev pub with_members : ℕ → List MemberV → List StructField → ℕ → List ℕ → Bytes
-    with_members at ms fs size bytes = each_once ms >>= λ _. each_known fs ms
+    with_members at ms fs size bytes = each_known fs ms >>= λ _. each_once ms
         >>= λ _. with_fields at ms (length bytes) fs bytes
         >>= λ more. Ok (padded (length bytes) size more)
 

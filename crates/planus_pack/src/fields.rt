@@ -2,13 +2,13 @@
 
 ghost use Rattle.std.specs.Prelude.{◌≡◌, ◌≤◌, length, map, OnOk};
 ghost use Rattle.planus.specs.Steps.{bare_field, content_of};
-ghost use Rattle.planus_pack.specs.Tables as spec;
+ghost use Rattle.planus_pack.specs.Fields as spec;
 ghost use Rattle.planus_pack.specs.Results.{Gives};
 
 use crate::pack_error::PackError;
 use crate::pack_fault::PackFault;
 use planus::{Field, FieldValue};
-use planus_schema::{TableField, is_union};
+use planus_schema::TableField;
 use std::alloc::AllocError;
 
 fn alignment_of(value: &FieldValue) -> u8
@@ -79,14 +79,6 @@ fn has_slot(slot: usize, fields: &[Field]) -> bool
     false
 }
 
-fn is_lone(field: &TableField, given: &[Field]) -> bool
-    ensures { result ≡ spec.is_lone field.now (map bare_field given.now) }
-{
-    let typed = has_slot(field.slot.saturating_sub(1), given);
-    let valued = has_slot(field.slot, given);
-    is_union(field.kind) && (typed && !valued || !typed && valued)
-}
-
 /// Fails where a field is wanted that isn't given by the object at `at`.
 pub(crate) fn complete(
     at: usize,
@@ -100,10 +92,6 @@ pub(crate) fn complete(
     'fields: while let Some((first, after)) = rest.split_first() {
         if first.required && !has_slot(first.slot, given) {
             let kind = PackFault::MissingField;
-            return Err(PackError::Fault { at, kind });
-        }
-        if is_lone(first, given) {
-            let kind = PackFault::LoneUnion;
             return Err(PackError::Fault { at, kind });
         }
         rest = after;

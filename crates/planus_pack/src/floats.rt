@@ -33,7 +33,7 @@ fn double_bits(text: &str) -> Option<u64>
     }
 }
 
-fn float_bits(scalar: Scalar, text: &str) -> Option<u64>
+pub(crate) fn float_bits(scalar: Scalar, text: &str) -> Option<u64>
     ensures { result ≡ spec.float_bits scalar text.now }
 {
     match scalar {

@@ -12,18 +12,25 @@ macro_rules! or_return {
     };
 }
 
+mod defaults;
 mod fields;
 mod floats;
+mod keys;
 mod lookup;
 mod numbers;
+mod object;
 mod pack_error;
 mod pack_fault;
+mod pack_options;
 mod packing;
 mod plain;
+mod rules;
 mod tables;
+mod unions;
 mod values;
 
 pub use pack_error::PackError;
 pub use pack_fault::PackFault;
+pub use pack_options::PackOptions;
 pub use packing::binary;
 pub use tables::steps_of;

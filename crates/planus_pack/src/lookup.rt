@@ -6,7 +6,7 @@ ghost use Rattle.planus_json_syntax.specs.Values.{json_view, member_view};
 ghost use Rattle.planus_pack.specs.Lookup as spec;
 
 use crate::numbers::integer_in;
-use crate::values::unless_null;
+use crate::values::is_null;
 use planus_json_syntax::{Json, Member};
 use planus_schema::{
     Body, Declared, Enum, Number, Struct, StructField, Table, TableField, Union, UnionMember,
@@ -154,8 +154,8 @@ pub(crate) fn type_given<'a>(name: &[u8], members: &'a [Member]) -> Option<&'a J
 {
     let mut rest = members;
     'members: while let Some((first, after)) = rest.split_first() {
-        if is_type_key(name, first.key.as_bytes()) {
-            return unless_null(&first.value);
+        if is_type_key(name, first.key.as_bytes()) && !is_null(&first.value.value) {
+            return Some(&first.value);
         }
         rest = after;
     }

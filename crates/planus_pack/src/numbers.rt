@@ -89,7 +89,51 @@ fn value_named(name: &[u8], values: &[EnumValue]) -> Option<Number>
     None
 }
 
-/// Returns the number of an enum's value.
+/// Returns the bits so far and those of a flag, if each name is one's.
+fn with_flag(values: &[EnumValue], bits: Option<u64>, name: &str) -> Option<u64>
+    ensures { result ≡ spec.with_flag values.now bits name.now }
+{
+    let bits = bits?;
+    if name.is_empty() {
+        return Some(bits);
+    }
+    match value_named(name.as_bytes(), values) {
+        Some(flag) => Some(bits | flag.magnitude),
+        None => None,
+    }
+}
+
+/// Returns the flags of a text, with spaces between their names.
+fn flags_named(text: &str, values: &[EnumValue]) -> Option<Number>
+    ensures { result ≡ spec.flags_named text.now values.now }
+{
+    let mut bits = Some(0);
+    'names: for name in text.split(' ') {
+        bits = with_flag(values, bits, name);
+    }
+    some_flags(bits)
+}
+
+fn some_flags(bits: Option<u64>) -> Option<Number>
+    ensures { result ≡ spec.some_flags bits }
+{
+    match bits {
+        Some(0) | None => None,
+        Some(bits) => Some(natural(bits)),
+    }
+}
+
+fn named(one: &Enum, text: &str) -> Option<Number>
+    ensures { result ≡ spec.named one.now text.now }
+{
+    if one.flags {
+        flags_named(text, &one.values)
+    } else {
+        value_named(text.as_bytes(), &one.values)
+    }
+}
+
+/// Returns the number of an enum's value, or of a set of flags.
 pub(crate) fn enum_at(one: &Enum, json: &Json) -> Result<Number, PackError>
     ensures { Gives (λ n. n) result (spec.enum_at one.now (json_view json.now)) }
 {
@@ -97,17 +141,17 @@ pub(crate) fn enum_at(one: &Enum, json: &Json) -> Result<Number, PackError>
     let Some(text) = word_of(&json.value) else {
         return Err(PackError::Fault { at, kind });
     };
-    let word = text.as_bytes();
-    if let Some(number) = value_named(word, &one.values) {
+    if let Some(number) = named(one, text) {
         return Ok(number);
     }
-    match integer_in(word) {
+    match integer_in(text.as_bytes()) {
         Some(number) => fitting(one.scalar, at, number),
         None => Err(PackError::Fault { at, kind }),
     }
 }
 
-fn bits(number: Number) -> u64
+/// Returns two's complement, in 64 bits.
+pub(crate) fn bits(number: Number) -> u64
     ensures { result ≡ spec.bits number }
 {
     if number.negative && 0 < number.magnitude {

@@ -1,6 +1,6 @@
 //! The buffer of a text.
 
-ghost use Rattle.std.specs.Prelude.{◌≡◌, ◌∷◌, [], length, map, Err, IfErr, IfOk};
+ghost use Rattle.std.specs.Prelude.{◌≡◌, ◌++◌, [], length, map, Err, None, IfErr, IfOk};
 ghost use Rattle.planus.specs.Replays.{Replays};
 ghost use Rattle.planus.specs.Steps.{bare_step};
 ghost use Rattle.planus_write.specs.View.{settings_of};
@@ -9,6 +9,7 @@ ghost use Rattle.planus_json_syntax.specs.Values.{json_view};
 ghost use Rattle.planus_pack.specs.Packs as spec;
 
 use crate::pack_error::PackError;
+use crate::pack_options::PackOptions;
 use crate::tables::steps_of;
 use planus::{ReplayError, Step, replay};
 use planus_json_syntax::{Json, JsonError, parse};
@@ -16,32 +17,34 @@ use planus_schema::Schema;
 use planus_write::Caches;
 use std::alloc::{AllocError, Global};
 
-fn not_one(len: usize, values: &[Json]) -> Option<usize>
-    ensures { result ≡ spec.not_one len (map json_view values.now) }
+/// Returns where a text of this length has no value, or a second one that isn't wanted.
+fn miscounted(sized: bool, len: usize, values: &[Json]) -> Option<usize>
+    ensures { (way : spec.Way) → way.sized ≡ sized
+        → result ≡ spec.miscounted way len (map json_view values.now) }
 {
     match values {
         [] => Some(len),
         [_] => None,
-        [_, second, ..] => Some(second.at),
+        [_, second, ..] => { if sized { None } else { Some(second.at) } }
     }
 }
 
-/// Returns the one value of a text.
-fn value_in(alloc: Global, text: &[u8]) -> Result<Json, PackError>
-    ensures spelled { IfOk result (λ value. Spells text.now (json_view value ∷ [])) }
-    ensures fails { IfErr result (spec.HasNoValue text.now) }
+/// Returns the values of a text.
+fn values_in(alloc: Global, sized: bool, text: &[u8]) -> Result<Vec<Json>, PackError>
+    ensures spelled { IfOk result (λ values. Spells text.now (map json_view values.items)) }
+    ensures counted { IfOk result (λ values. (way : spec.Way) → way.sized ≡ sized
+        → spec.miscounted way (length text.now) (map json_view values.items) ≡ None) }
+    ensures fails { IfErr result (λ error. (way : spec.Way) → way.sized ≡ sized
+        → spec.HasNoValues way text.now error) }
 {
-    let mut values = match parse(alloc, text) {
+    let values = match parse(alloc, text) {
         Ok(values) => values,
         Err(JsonError::OutOfMemory) => return Err(PackError::OutOfMemory),
         Err(JsonError::Fault { at, kind }) => return Err(PackError::Text { at, kind }),
     };
-    if let Some(at) = not_one(text.len(), &values) {
-        return Err(PackError::NotOne { at });
-    }
-    match values.pop() {
-        Some(value) => Ok(value),
-        None => unreachable!(),
+    match miscounted(sized, text.len(), &values) {
+        Some(at) => Err(PackError::NotOne { at }),
+        None => Ok(values),
     }
 }
 
@@ -99,27 +102,84 @@ fn pack_error(error: ReplayError) -> PackError
     }
 }
 
+/// How the buffers of a text are written.
+#[derive(Clone, Copy)]
+struct Way<'a> {
+    schema: &'a Schema,
+    root: usize,
+    options: PackOptions,
+    caches: Caches,
+    id: Option<[u8; 4]>,
+    sized: bool,
+}
+
+fn packed(alloc: Global, way: &Way<'_>, value: &Json) -> Result<Vec<u8>, PackError>
+    ensures packed { IfOk result (λ bytes. spec.PacksValue (spec.way_of way.now)
+        (json_view value.now) bytes.items) }
+    ensures fails { IfErr result (spec.FailsValue (spec.way_of way.now) (json_view value.now)) }
+{
+    let steps = or_return!(steps_of(alloc, way.schema, way.root, value, way.options));
+    match finished(alloc, way.caches, way.id, way.sized, steps) {
+        Ok(bytes) => Ok(bytes),
+        Err(error) => Err(pack_error(error)),
+    }
+}
+
+/// Returns bytes and others behind them.
+fn joined(front: Vec<u8>, rest: Vec<u8>) -> Result<Vec<u8>, AllocError>
+    ensures { IfOk result (λ all. all.items ≡ front.items ++ rest.items) }
+{
+    if front.is_empty() {
+        return Ok(rest);
+    }
+    let mut all = front;
+    all.extend_from_slice(&rest)?;
+    Ok(all)
+}
+
+fn each_packed(alloc: Global, way: &Way<'_>, values: &[Json]) -> Result<Vec<u8>, PackError>
+    ensures packed { IfOk result (λ bytes. spec.PacksAfter (spec.way_of way.now) []
+        (map json_view values.now) bytes.items) }
+    ensures fails { IfErr result (spec.FailsAny (spec.way_of way.now) (map json_view values.now)) }
+{
+    let mut bytes = Vec::new(alloc);
+    let mut rest = values;
+    'values: while let Some((first, after)) = rest.split_first() {
+        let own = or_return!(packed(alloc, way, first));
+        bytes = joined(bytes, own)?;
+        rest = after;
+    }
+    Ok(bytes)
+}
+
 /// Returns the buffer of the one value of a text, as the table whose declaration has the index
-/// `root`; with a file identifier, and its size first, where these are asked for.
+/// `root`; with a file identifier, and its size first, where these are asked for. With sizes a text
+/// has one value or more, whose buffers stand one after another.
 pub fn binary(
     alloc: Global,
     schema: &Schema,
     root: usize,
     text: &[u8],
+    options: PackOptions,
     caches: Caches,
     id: Option<[u8; 4]>,
     sized: bool,
 ) -> Result<Vec<u8>, PackError>
-    // The text spells one value, which means the steps that the buffer is replayed from.
-    ensures packed { IfOk result (λ bytes. spec.Packs (settings_of caches) schema.now root id sized
-        text.now bytes.items) }
+    // The text spells values, of which each means the steps that its buffer is replayed from.
+    ensures packed { IfOk result (λ bytes. spec.Packs (settings_of caches) options schema.now root id
+        sized text.now bytes.items) }
     // Which error, and where.
-    ensures fails { IfErr result (spec.Fails (settings_of caches) schema.now root id sized text.now) }
+    ensures fails { IfErr result (spec.Fails (settings_of caches) options schema.now root id sized
+        text.now) }
 {
-    let value = or_return!(value_in(alloc, text));
-    let steps = or_return!(steps_of(alloc, schema, root, &value));
-    match finished(alloc, caches, id, sized, steps) {
-        Ok(bytes) => Ok(bytes),
-        Err(error) => Err(pack_error(error)),
-    }
+    let values = or_return!(values_in(alloc, sized, text));
+    let way = Way {
+        schema,
+        root,
+        options,
+        caches,
+        id,
+        sized,
+    };
+    each_packed(alloc, &way, &values)
 }

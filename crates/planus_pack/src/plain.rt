@@ -29,7 +29,7 @@ fn place_of(key: &[u8], members: &[Member]) -> Option<usize>
 }
 
 /// Fails where a key stands again.
-pub(crate) fn each_once(members: &[Member]) -> Result<usize, PackError>
+fn each_once(members: &[Member]) -> Result<usize, PackError>
     ensures { Gives (λ n. n) result (spec.each_once (map member_view members.now)) }
 {
     let mut rest = members;
@@ -241,8 +241,8 @@ fn with_struct_of(
     let Some(members) = members_of(&json.value) else {
         return Err(PackError::Fault { at, kind });
     };
-    or_return!(each_once(members));
     or_return!(each_known(&one.fields, members));
+    or_return!(each_once(members));
     let start = bytes.len();
     or_return!(with_fields(declared, depth, at, members, start, &one.fields, bytes));
     pad(bytes, start, one.size)?;

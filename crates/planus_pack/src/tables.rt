@@ -1,26 +1,30 @@
 //! Tables, and what their fields hold.
 
 ghost use Rattle.std.specs.Prelude.{◌≡◌, ◌≤◌, [], map, IfOk};
-ghost use Rattle.std.specs.Option.{option_map};
 ghost use Rattle.planus.specs.Steps.{bare_field, bare_step, content_of};
 ghost use Rattle.planus_json_syntax.specs.Values.{json_view, member_view, value_view};
 ghost use Rattle.planus_pack.specs.Tables as spec;
 ghost use Rattle.planus_pack.specs.Lookup.{union_typed as type_of};
+ghost use Rattle.planus_pack.specs.Parts.{object_view};
 ghost use Rattle.planus_pack.specs.Results.{Gives};
+ghost use Rattle.planus_pack.specs.Rules.{rules_of};
 
+use crate::defaults::is_default;
 use crate::fields::{complete, with_slot};
-use crate::lookup::{
-    field_named, is_no_member, member_called, table_at, type_given, union_at, union_typed,
-};
+use crate::keys::in_key_order;
+use crate::lookup::{field_named, table_at, type_given, union_typed};
+use crate::object::Object;
 use crate::pack_error::PackError;
 use crate::pack_fault::PackFault;
-use crate::plain::{each_once, with_each, with_plain};
-use crate::values::{is_null, items_of, members_of, text_of, word_of};
+use crate::pack_options::PackOptions;
+use crate::plain::{with_each, with_plain};
+use crate::rules::Rules;
+use crate::unions::{chosen, union_in, with_type, with_unions};
+use crate::values::{is_null, items_of, members_of, stands_again, text_of};
 use planus::{Field, FieldValue, Step};
 use planus_json_syntax::{Json, Member, Value};
 use planus_schema::{
-    Base, Declared, FieldType, Measure, Schema, Table, TableField, Union, UnionMember, is_union,
-    measure_of,
+    Base, Declared, FieldType, Measure, Schema, Table, TableField, Union, is_union, measure_of,
 };
 use std::alloc::Global;
 
@@ -34,25 +38,6 @@ fn put(steps: &mut Vec<Step>, step: Step) -> Result<usize, PackError>
     let number = steps.len();
     steps.push(step)?;
     Ok(number)
-}
-
-/// Returns the member that a union's type names, if any.
-fn chosen<'a>(one: &'a Union, json: &Json) -> Result<Option<&'a UnionMember>, PackError>
-    ensures { Gives (option_map (λ m. m.now)) result
-        (spec.chosen one.now (json_view json.now)) }
-{
-    let (at, kind) = (json.at, PackFault::UnknownName);
-    let Some(text) = word_of(&json.value) else {
-        return Err(PackError::Fault { at, kind });
-    };
-    let word = text.as_bytes();
-    if is_no_member(word) {
-        return Ok(None);
-    }
-    match member_called(word, &one.members) {
-        Some(member) => Ok(Some(member)),
-        None => Err(PackError::Fault { at, kind }),
-    }
 }
 
 fn is_plain(base: Base) -> bool
@@ -157,20 +142,20 @@ fn put_struct(
 #[cycle(tables)]
 fn refer(
     alloc: Global,
-    declared: &[Declared],
+    rules: &Rules<'_>,
     depth: usize,
     base: Base,
     steps: &mut Vec<Step>,
     json: &Json,
 ) -> Result<usize, PackError>
-    ensures { Gives (λ n. (map bare_step steps.new.items, n)) result
-        (spec.refer declared.now (spec.with_table declared.now depth) base
+    ensures { Gives (λ n. (map bare_step steps.new.items, n)) result (spec.refer (rules_of rules.now)
+        (spec.with_table (rules_of rules.now) depth) base
         (map bare_step steps.old.items) (json_view json.now)) }
 {
     match base {
         Base::Text => put_text(alloc, steps, json),
-        Base::Struct(_) => put_struct(alloc, declared, base, steps, json),
-        Base::Table(index) => with_table(alloc, declared, depth, index, steps, json),
+        Base::Struct(_) => put_struct(alloc, rules.declared, base, steps, json),
+        Base::Table(index) => with_table(alloc, rules, depth, index, steps, json),
         _ => {
             let (at, kind) = (json.at, PackFault::Unsupported);
             Err(PackError::Fault { at, kind })
@@ -181,20 +166,21 @@ fn refer(
 #[cycle(tables)]
 fn refer_each(
     alloc: Global,
-    declared: &[Declared],
+    rules: &Rules<'_>,
     depth: usize,
     base: Base,
     steps: &mut Vec<Step>,
     items: &[Json],
 ) -> Result<Vec<usize>, PackError>
     ensures { Gives (λ found. (map bare_step steps.new.items, found.items)) result
-        (spec.refer_each declared.now (spec.with_table declared.now depth) base
+        (spec.refer_each (rules_of rules.now)
+        (spec.with_table (rules_of rules.now) depth) base
         (map bare_step steps.old.items) [] (map json_view items.now)) }
 {
     let mut found = Vec::new(alloc);
     let mut rest = items;
     'items: while let Some((first, after)) = rest.split_first() {
-        let number = or_return!(refer(alloc, declared, depth, base, steps, first));
+        let number = or_return!(refer(alloc, rules, depth, base, steps, first));
         found.push(number)?;
         rest = after;
     }
@@ -204,14 +190,14 @@ fn refer_each(
 #[cycle(tables)]
 fn vector(
     alloc: Global,
-    declared: &[Declared],
+    rules: &Rules<'_>,
     depth: usize,
     base: Base,
     steps: &mut Vec<Step>,
     json: &Json,
 ) -> Result<usize, PackError>
-    ensures { Gives (λ n. (map bare_step steps.new.items, n)) result
-        (spec.vector declared.now (spec.with_table declared.now depth) base
+    ensures { Gives (λ n. (map bare_step steps.new.items, n)) result (spec.vector (rules_of rules.now)
+        (spec.with_table (rules_of rules.now) depth) base
         (map bare_step steps.old.items) (json_view json.now)) }
 {
     let Some(items) = items_of(&json.value) else {
@@ -219,87 +205,159 @@ fn vector(
         return Err(PackError::Fault { at, kind });
     };
     if is_plain(base) {
-        let step = or_return!(plain_items(alloc, declared, base, json.at, items));
+        let step = or_return!(plain_items(alloc, rules.declared, base, json.at, items));
         return put(steps, step);
     }
-    let found = or_return!(refer_each(alloc, declared, depth, base, steps, items));
-    put(steps, Step::Refs(found))
+    let found = or_return!(refer_each(alloc, rules, depth, base, steps, items));
+    let ordered = in_key_order(alloc, rules.declared, base, steps, found)?;
+    put(steps, Step::Refs(ordered))
 }
 
 /// Returns what a field holds that is no union.
 #[cycle(tables)]
 fn content(
     alloc: Global,
-    declared: &[Declared],
+    rules: &Rules<'_>,
     depth: usize,
     kind: FieldType,
     steps: &mut Vec<Step>,
     json: &Json,
 ) -> Result<FieldValue, PackError>
     ensures { Gives (λ value. (map bare_step steps.new.items, content_of value)) result
-        (spec.content declared.now (spec.with_table declared.now depth) kind
+        (spec.content (rules_of rules.now)
+        (spec.with_table (rules_of rules.now) depth) kind
         (map bare_step steps.old.items) (json_view json.now)) }
 {
     if kind.vector {
-        let number = or_return!(vector(alloc, declared, depth, kind.base, steps, json));
+        let number = or_return!(vector(alloc, rules, depth, kind.base, steps, json));
         return Ok(FieldValue::Ref(number));
     }
     if is_plain(kind.base) {
-        let (alignment, bytes) = or_return!(plain_value(alloc, declared, kind.base, json));
+        let (alignment, bytes) = or_return!(plain_value(alloc, rules.declared, kind.base, json));
         return Ok(FieldValue::Plain { alignment, bytes });
     }
-    let number = or_return!(refer(alloc, declared, depth, kind.base, steps, json));
+    let number = or_return!(refer(alloc, rules, depth, kind.base, steps, json));
     Ok(FieldValue::Ref(number))
-}
-
-fn union_index(base: Base) -> Option<usize>
-    ensures { result ≡ spec.union_index base }
-{
-    match base {
-        Base::Union(index) => Some(index),
-        _ => None,
-    }
-}
-
-/// Returns the union that a field holds, if it is no vector of them.
-fn union_in(declared: &[Declared], kind: FieldType) -> Option<&Union>
-    ensures { option_map (λ u. u.now) result ≡ spec.union_in declared.now kind }
-{
-    if kind.vector {
-        return None;
-    }
-    match union_index(kind.base) {
-        Some(index) => union_at(declared, index),
-        None => None,
-    }
 }
 
 #[cycle(tables)]
 fn union_value(
     alloc: Global,
-    declared: &[Declared],
+    rules: &Rules<'_>,
     depth: usize,
-    at: usize,
-    members: &[Member],
+    object: &Object<'_>,
     field: &TableField,
     one: &Union,
     steps: &mut Vec<Step>,
     json: &Json,
 ) -> Result<FieldValue, PackError>
     ensures { Gives (λ value. (map bare_step steps.new.items, content_of value)) result
-        (spec.union_value declared.now (spec.with_table declared.now depth) at
-        (map member_view members.now) field.now one.now
+        (spec.union_value (rules_of rules.now)
+        (spec.with_table (rules_of rules.now) depth)
+        (object_view object.now) field.now one.now
         (map bare_step steps.old.items) (json_view json.now)) }
 {
-    let kind = PackFault::LoneUnion;
-    let Some(named) = type_given(&field.name, members) else {
+    let (at, kind) = (object.at, PackFault::LoneUnion);
+    let Some(named) = type_given(&field.name, object.members) else {
         return Err(PackError::Fault { at, kind });
     };
     let Some(member) = or_return!(chosen(one, named)) else {
         return Err(PackError::Fault { at, kind });
     };
-    let number = or_return!(refer(alloc, declared, depth, member.base, steps, json));
+    let number = or_return!(refer(alloc, rules, depth, member.base, steps, json));
     Ok(FieldValue::Ref(number))
+}
+
+/// Returns an item of a vector of unions: its tag, and the number of its value.
+#[cycle(tables)]
+fn union_item(
+    alloc: Global,
+    rules: &Rules<'_>,
+    depth: usize,
+    one: &Union,
+    steps: &mut Vec<Step>,
+    named: &Json,
+    json: &Json,
+) -> Result<(u8, usize), PackError>
+    ensures { Gives (λ item. (map bare_step steps.new.items, item)) result
+        (spec.union_item (rules_of rules.now)
+        (spec.with_table (rules_of rules.now) depth) one.now
+        (map bare_step steps.old.items) (json_view named.now) (json_view json.now)) }
+{
+    let Some(member) = or_return!(chosen(one, named)) else {
+        let (at, kind) = (named.at, PackFault::Unsupported);
+        return Err(PackError::Fault { at, kind });
+    };
+    let number = or_return!(refer(alloc, rules, depth, member.base, steps, json));
+    Ok((member.tag, number))
+}
+
+#[cycle(tables)]
+fn union_items(
+    alloc: Global,
+    rules: &Rules<'_>,
+    depth: usize,
+    one: &Union,
+    steps: &mut Vec<Step>,
+    types: &[Json],
+    items: &[Json],
+) -> Result<Vec<(u8, usize)>, PackError>
+    ensures { Gives (λ found. (map bare_step steps.new.items, found.items)) result
+        (spec.union_items (rules_of rules.now)
+        (spec.with_table (rules_of rules.now) depth) one.now
+        (map bare_step steps.old.items) [] (map json_view types.now) (map json_view items.now)) }
+{
+    let mut found = Vec::new(alloc);
+    let mut named = types;
+    let mut rest = items;
+    'types: while let Some((first, after)) = named.split_first() {
+        let Some((item, others)) = rest.split_first() else {
+            return Ok(found);
+        };
+        let one = or_return!(union_item(alloc, rules, depth, one, steps, first, item));
+        found.push(one)?;
+        named = after;
+        rest = others;
+    }
+    Ok(found)
+}
+
+/// Puts a vector of unions.
+#[cycle(tables)]
+fn union_vector(
+    alloc: Global,
+    rules: &Rules<'_>,
+    depth: usize,
+    object: &Object<'_>,
+    field: &TableField,
+    one: &Union,
+    steps: &mut Vec<Step>,
+    json: &Json,
+) -> Result<usize, PackError>
+    ensures { Gives (λ n. (map bare_step steps.new.items, n)) result (spec.union_vector (rules_of rules.now)
+        (spec.with_table (rules_of rules.now) depth)
+        (object_view object.now) field.now one.now
+        (map bare_step steps.old.items) (json_view json.now)) }
+{
+    let Some(named) = type_given(&field.name, object.members) else {
+        let (at, kind) = (object.at, PackFault::LoneUnion);
+        return Err(PackError::Fault { at, kind });
+    };
+    let Some(types) = items_of(&named.value) else {
+        let (at, kind) = (named.at, PackFault::WrongKind);
+        return Err(PackError::Fault { at, kind });
+    };
+    let at = json.at;
+    let Some(items) = items_of(&json.value) else {
+        let kind = PackFault::WrongKind;
+        return Err(PackError::Fault { at, kind });
+    };
+    if types.len() != items.len() {
+        let kind = PackFault::WrongLength;
+        return Err(PackError::Fault { at, kind });
+    }
+    let found = or_return!(union_items(alloc, rules, depth, one, steps, types, items));
+    put(steps, Step::Unions(found))
 }
 
 /// Returns whether a field's buffer is given by an object.
@@ -312,118 +370,161 @@ fn is_nested(field: &TableField, value: &Value) -> bool
 #[cycle(tables)]
 fn field_value(
     alloc: Global,
-    declared: &[Declared],
+    rules: &Rules<'_>,
     depth: usize,
-    at: usize,
-    members: &[Member],
+    object: &Object<'_>,
     field: &TableField,
     steps: &mut Vec<Step>,
     json: &Json,
 ) -> Result<FieldValue, PackError>
     ensures { Gives (λ value. (map bare_step steps.new.items, content_of value)) result
-        (spec.field_value declared.now (spec.with_table declared.now depth) at
-        (map member_view members.now) field.now
+        (spec.field_value (rules_of rules.now)
+        (spec.with_table (rules_of rules.now) depth)
+        (object_view object.now) field.now
         (map bare_step steps.old.items) (json_view json.now)) }
 {
+    let (at, kind) = (json.at, PackFault::Unsupported);
     if is_nested(field, &json.value) {
-        let (at, kind) = (json.at, PackFault::Unsupported);
         return Err(PackError::Fault { at, kind });
     }
     if !is_union(field.kind) {
-        return content(alloc, declared, depth, field.kind, steps, json);
+        return content(alloc, rules, depth, field.kind, steps, json);
     }
-    match union_in(declared, field.kind) {
-        Some(one) => union_value(alloc, declared, depth, at, members, field, one, steps, json),
-        None => {
-            let (at, kind) = (json.at, PackFault::Unsupported);
-            Err(PackError::Fault { at, kind })
-        }
+    match union_in(rules.declared, field.kind) {
+        Some(one) => union_value(alloc, rules, depth, object, field, one, steps, json),
+        None => Err(PackError::Fault { at, kind }),
     }
 }
 
-#[cycle(tables)]
-fn with_value(
-    alloc: Global,
-    declared: &[Declared],
-    depth: usize,
+/// Returns whether a field is left out, as its absence reads the same.
+fn is_omitted(rules: &Rules<'_>, field: &TableField, value: &FieldValue) -> bool
+    ensures { result ≡ spec.is_omitted (rules_of rules.now) field.now (content_of value.now) }
+{
+    rules.options.omit_defaults && is_default(rules.declared, field, value)
+}
+
+fn slotted(
+    rules: &Rules<'_>,
     at: usize,
-    members: &[Member],
+    field: &TableField,
+    value: FieldValue,
+    fields: &mut Vec<Field>,
+) -> Result<(), PackError>
+    ensures { Gives (λ _. map bare_field fields.new.items) result
+        (spec.slotted (rules_of rules.now) at field.now (content_of value)
+        (map bare_field fields.old.items)) }
+{
+    if is_omitted(rules, field, &value) {
+        return Ok(());
+    }
+    with_slot(at, field.slot, value, fields)
+}
+
+/// Adds a vector of unions.
+#[cycle(tables)]
+fn unions_member(
+    alloc: Global,
+    rules: &Rules<'_>,
+    depth: usize,
+    object: &Object<'_>,
     steps: &mut Vec<Step>,
     fields: &mut Vec<Field>,
     member: &Member,
     field: &TableField,
 ) -> Result<(), PackError>
     ensures { Gives (λ _. (map bare_step steps.new.items, map bare_field fields.new.items)) result
-        (spec.with_value declared.now (spec.with_table declared.now depth) at
-        (map member_view members.now) (map bare_step steps.old.items)
+        (spec.unions_member (rules_of rules.now)
+        (spec.with_table (rules_of rules.now) depth)
+        (object_view object.now) (map bare_step steps.old.items)
         (map bare_field fields.old.items) (member_view member.now) field.now) }
 {
     let json = &member.value;
-    if is_null(&json.value) {
-        return Ok(());
-    }
-    let value = or_return!(field_value(alloc, declared, depth, at, members, field, steps, json,));
-    with_slot(member.at, field.slot, value, fields)
+    let Some(one) = union_in(rules.declared, field.kind) else {
+        let (at, kind) = (json.at, PackFault::Unsupported);
+        return Err(PackError::Fault { at, kind });
+    };
+    let number = or_return!(union_vector(alloc, rules, depth, object, field, one, steps, json));
+    with_unions(member.at, field.slot, number, fields)
 }
 
-fn type_slot(
-    at: usize,
-    field: &TableField,
-    fields: &mut Vec<Field>,
-    member: Option<&UnionMember>,
-) -> Result<(), PackError>
-    ensures { Gives (λ _. map bare_field fields.new.items) result
-        (spec.type_slot at field.now (map bare_field fields.old.items)
-        (option_map (λ m. m.now) member.entry)) }
-{
-    match member {
-        Some(member) => {
-            let value = FieldValue::Number {
-                width: 1,
-                value: u64::from(member.tag),
-            };
-            with_slot(at, field.slot.saturating_sub(1), value, fields)
-        }
-        None => Ok(()),
-    }
-}
-
-/// Adds the type of a union.
-fn with_type(
-    declared: &[Declared],
+/// Adds a member that gives a field.
+#[cycle(tables)]
+fn given_value(
+    alloc: Global,
+    rules: &Rules<'_>,
+    depth: usize,
+    object: &Object<'_>,
+    steps: &mut Vec<Step>,
     fields: &mut Vec<Field>,
     member: &Member,
     field: &TableField,
 ) -> Result<(), PackError>
-    ensures { Gives (λ _. map bare_field fields.new.items) result
-        (spec.with_type declared.now (map bare_field fields.old.items) (member_view member.now)
-        field.now) }
+    ensures { Gives (λ _. (map bare_step steps.new.items, map bare_field fields.new.items)) result
+        (spec.given_value (rules_of rules.now)
+        (spec.with_table (rules_of rules.now) depth)
+        (object_view object.now) (map bare_step steps.old.items)
+        (map bare_field fields.old.items) (member_view member.now) field.now) }
 {
+    if is_union(field.kind) && field.kind.vector {
+        return unions_member(alloc, rules, depth, object, steps, fields, member, field);
+    }
     let json = &member.value;
-    if is_null(&json.value) {
+    let value = or_return!(field_value(alloc, rules, depth, object, field, steps, json));
+    slotted(rules, member.at, field, value, fields)
+}
+
+/// Adds a member whose key is the name of a field.
+#[cycle(tables)]
+fn with_value(
+    alloc: Global,
+    rules: &Rules<'_>,
+    depth: usize,
+    object: &Object<'_>,
+    steps: &mut Vec<Step>,
+    fields: &mut Vec<Field>,
+    member: &Member,
+    field: &TableField,
+) -> Result<(), PackError>
+    ensures { Gives (λ _. (map bare_step steps.new.items, map bare_field fields.new.items)) result
+        (spec.with_value (rules_of rules.now)
+        (spec.with_table (rules_of rules.now) depth)
+        (object_view object.now) (map bare_step steps.old.items)
+        (map bare_field fields.old.items) (member_view member.now) field.now) }
+{
+    if is_null(&member.value.value) {
         return Ok(());
     }
-    let Some(one) = union_in(declared, field.kind) else {
-        let (at, kind) = (json.at, PackFault::Unsupported);
+    if stands_again(member, object.members) {
+        let (at, kind) = (member.at, PackFault::GivenTwice);
         return Err(PackError::Fault { at, kind });
-    };
-    let named = or_return!(chosen(one, json));
-    type_slot(member.at, field, fields, named)
+    }
+    given_value(alloc, rules, depth, object, steps, fields, member, field)
+}
+
+/// Returns whether a key is skipped where no field has it.
+fn is_skipped(options: PackOptions, key: &[u8]) -> bool
+    ensures { result ≡ spec.is_skipped options key.now }
+{
+    options.skip_unknown || key == b"$schema".as_slice()
 }
 
 /// Adds a member whose key is no field's name.
 fn other_member(
-    declared: &[Declared],
+    rules: &Rules<'_>,
+    object: &Object<'_>,
     table: &[TableField],
     fields: &mut Vec<Field>,
     member: &Member,
 ) -> Result<(), PackError>
     ensures { Gives (λ _. map bare_field fields.new.items) result
-        (spec.other_member declared.now (map bare_field fields.old.items)
-        (member_view member.now) (type_of (member_view member.now).key table.now)) }
+        (spec.other_member (rules_of rules.now) (object_view object.now)
+        (map bare_field fields.old.items) (member_view member.now)
+        (type_of (member_view member.now).key table.now)) }
 {
-    match union_typed(member.key.as_bytes(), table) {
-        Some(field) => with_type(declared, fields, member, field),
+    let key = member.key.as_bytes();
+    match union_typed(key, table) {
+        Some(field) => with_type(rules.declared, object, fields, member, field),
+        None if is_skipped(rules.options, key) => Ok(()),
         None => {
             let (at, kind) = (member.at, PackFault::UnknownKey);
             Err(PackError::Fault { at, kind })
@@ -434,52 +535,49 @@ fn other_member(
 #[cycle(tables)]
 fn with_member(
     alloc: Global,
-    declared: &[Declared],
+    rules: &Rules<'_>,
     depth: usize,
-    at: usize,
-    members: &[Member],
+    object: &Object<'_>,
     table: &[TableField],
     steps: &mut Vec<Step>,
     fields: &mut Vec<Field>,
     member: &Member,
 ) -> Result<(), PackError>
     ensures { Gives (λ _. (map bare_step steps.new.items, map bare_field fields.new.items)) result
-        (spec.with_member declared.now (spec.with_table declared.now depth) at
-        (map member_view members.now) table.now (map bare_step steps.old.items)
+        (spec.with_member (rules_of rules.now)
+        (spec.with_table (rules_of rules.now) depth)
+        (object_view object.now) table.now (map bare_step steps.old.items)
         (map bare_field fields.old.items) (member_view member.now)) }
 {
     match field_named(member.key.as_bytes(), table) {
-        Some(field) => with_value(
-            alloc, declared, depth, at, members, steps, fields, member, field,
-        ),
-        None => other_member(declared, table, fields, member),
+        Some(field) => with_value(alloc, rules, depth, object, steps, fields, member, field),
+        None => other_member(rules, object, table, fields, member),
     }
 }
 
 #[cycle(tables)]
 fn with_members(
     alloc: Global,
-    declared: &[Declared],
+    rules: &Rules<'_>,
     depth: usize,
-    at: usize,
-    members: &[Member],
+    object: &Object<'_>,
     table: &[TableField],
     steps: &mut Vec<Step>,
 ) -> Result<Vec<Field>, PackError>
     ensures { Gives (λ fields. (map bare_step steps.new.items, map bare_field fields.items)) result
-        (spec.with_members declared.now (spec.with_table declared.now depth) at
-        (map member_view members.now) table.now (map bare_step steps.old.items) []
-        (map member_view members.now)) }
+        (spec.with_members (rules_of rules.now)
+        (spec.with_table (rules_of rules.now) depth)
+        (object_view object.now) table.now (map bare_step steps.old.items) []
+        (object_view object.now).members) }
 {
     let mut fields = Vec::new(alloc);
-    let mut rest = members;
+    let mut rest = object.members;
     'members: while let Some((first, after)) = rest.split_first() {
         or_return!(with_member(
             alloc,
-            declared,
+            rules,
             depth,
-            at,
-            members,
+            object,
             table,
             steps,
             &mut fields,
@@ -493,30 +591,22 @@ fn with_members(
 #[cycle(tables)]
 fn table_of(
     alloc: Global,
-    declared: &[Declared],
+    rules: &Rules<'_>,
     depth: usize,
     table: &Table,
     steps: &mut Vec<Step>,
     json: &Json,
 ) -> Result<usize, PackError>
-    ensures { Gives (λ n. (map bare_step steps.new.items, n)) result
-        (spec.table_of declared.now (spec.with_table declared.now depth) table.now
+    ensures { Gives (λ n. (map bare_step steps.new.items, n)) result (spec.table_of (rules_of rules.now)
+        (spec.with_table (rules_of rules.now) depth) table.now
         (map bare_step steps.old.items) (json_view json.now)) }
 {
     let (at, kind) = (json.at, PackFault::WrongKind);
     let Some(members) = members_of(&json.value) else {
         return Err(PackError::Fault { at, kind });
     };
-    or_return!(each_once(members));
-    let fields = or_return!(with_members(
-        alloc,
-        declared,
-        depth,
-        at,
-        members,
-        &table.fields,
-        steps,
-    ));
+    let object = Object { at, members };
+    let fields = or_return!(with_members(alloc, rules, depth, &object, &table.fields, steps,));
     or_return!(complete(at, &fields, &table.fields));
     put(steps, Step::Table(fields))
 }
@@ -524,18 +614,18 @@ fn table_of(
 #[cycle(tables)]
 fn table_in(
     alloc: Global,
-    declared: &[Declared],
+    rules: &Rules<'_>,
     depth: usize,
     index: usize,
     steps: &mut Vec<Step>,
     json: &Json,
 ) -> Result<usize, PackError>
-    ensures { Gives (λ n. (map bare_step steps.new.items, n)) result
-        (spec.table_in declared.now (spec.with_table declared.now depth) index
+    ensures { Gives (λ n. (map bare_step steps.new.items, n)) result (spec.table_in (rules_of rules.now)
+        (spec.with_table (rules_of rules.now) depth) index
         (map bare_step steps.old.items) (json_view json.now)) }
 {
-    match table_at(declared, index) {
-        Some(table) => table_of(alloc, declared, depth, table, steps, json),
+    match table_at(rules.declared, index) {
+        Some(table) => table_of(alloc, rules, depth, table, steps, json),
         None => {
             let (at, kind) = (json.at, PackFault::Unsupported);
             Err(PackError::Fault { at, kind })
@@ -546,52 +636,50 @@ fn table_in(
 #[cycle(tables)]
 fn with_table(
     alloc: Global,
-    declared: &[Declared],
+    rules: &Rules<'_>,
     depth: usize,
     index: usize,
     steps: &mut Vec<Step>,
     json: &Json,
 ) -> Result<usize, PackError>
     ensures { Gives (λ n. (map bare_step steps.new.items, n)) result
-        (spec.with_table declared.now depth index
+        (spec.with_table (rules_of rules.now) depth index
         (map bare_step steps.old.items) (json_view json.now)) }
 {
     if depth == 0 {
         let (at, kind) = (json.at, PackFault::TooDeep);
         return Err(PackError::Fault { at, kind });
     }
-    table_in(alloc, declared, depth - 1, index, steps, json)
+    table_in(alloc, rules, depth - 1, index, steps, json)
 }
 
 /// Returns the steps by which [`planus::replay`] writes the table that an object means: the last
 /// writes it. `root` is the index of the table's declaration.
 ///
-/// Children are written in the order of the text, a vector in the order given, also where its
-/// tables have a key. A member that is `null` is as if absent; one that equals its default is
-/// written. A deprecated field is as any other. Flags are one name or a number.
+/// Children are written in the order of the text, vectors in the order given, but for those of
+/// tables with a key, which are sorted by it: the first of equal ones first. A member that is `null` is as if absent; a field that equals its default is
+/// written, unless the options leave it out. A deprecated field is as any other. The member
+/// `"$schema"` of a table is skipped.
 ///
-/// Fails with the first fault of the value: of an object first where a key stands again, then of
-/// its members in the order of the text, then what is missing. With [`PackFault::Unsupported`] for
-/// vectors of unions, an object in place of a nested buffer's bytes, a slot above 255 and an
-/// alignment above 16.
+/// Fails with the first fault of the value: of a table's object that of its members in the order of
+/// the text, then what is missing. With [`PackFault::Unsupported`] for an object in place of a
+/// nested buffer's bytes, `NONE` in a vector of unions, a slot above 255 and an alignment above 16.
 pub fn steps_of(
     alloc: Global,
     schema: &Schema,
     root: usize,
     value: &Json,
+    options: PackOptions,
 ) -> Result<Vec<Step>, PackError>
     // Exactly the steps that the value means, or its first fault, unless memory is refused.
     ensures { Gives (λ steps. map bare_step steps.items) result
-        (spec.steps_of schema.now root (json_view value.now)) }
+        (spec.steps_of (spec.rules schema.now options) root (json_view value.now)) }
 {
     let mut steps = Vec::new(alloc);
-    or_return!(with_table(
-        alloc,
-        &schema.declarations,
-        MOST_DEPTH,
-        root,
-        &mut steps,
-        value,
-    ));
+    let rules = Rules {
+        declared: &schema.declarations,
+        options,
+    };
+    or_return!(with_table(alloc, &rules, MOST_DEPTH, root, &mut steps, value));
     Ok(steps)
 }

@@ -55,27 +55,28 @@ pub(crate) fn is_null(value: &Value) -> bool
     }
 }
 
-pub(crate) fn unless_null(json: &Json) -> Option<&Json>
-    ensures { option_map (λ j. json_view j.now) result ≡ spec.unless_null (json_view json.now) }
-{
-    if is_null(&json.value) {
-        None
-    } else {
-        Some(json)
-    }
-}
-
-/// Returns the value of the first member with this key, unless it is `null`.
+/// Returns the value of the first member with this key that isn't `null`.
 pub(crate) fn given<'a>(key: &[u8], members: &'a [Member]) -> Option<&'a Json>
     ensures { option_map (λ j. json_view j.now) result
         ≡ spec.given key.now (map member_view members.now) }
 {
     let mut rest = members;
     'members: while let Some((first, after)) = rest.split_first() {
-        if first.key.as_bytes() == key {
-            return unless_null(&first.value);
+        if first.key.as_bytes() == key && !is_null(&first.value.value) {
+            return Some(&first.value);
         }
         rest = after;
     }
     None
+}
+
+/// Returns whether one of the members before this one gave the same.
+pub(crate) fn stands_again(member: &Member, members: &[Member]) -> bool
+    ensures { result
+        ≡ spec.stands_again (member_view member.now) (map member_view members.now) }
+{
+    match given(member.key.as_bytes(), members) {
+        Some(first) => first.at != member.value.at,
+        None => true,
+    }
 }

@@ -1,6 +1,6 @@
 use Rattle.std.proofs.Common.{◌≡◌, length, map}
 use Rattle.planus.specs.Steps.{bare_field}
-use Rattle.planus_pack.specs.Tables as spec
+use Rattle.planus_pack.specs.Fields as spec
 use Rattle.planus_pack.proofs.fields.complete.Given as goal
 
 abbrev pub invariant-fields : goal.invariant-fields

@@ -1,0 +1,11 @@
+use Rattle.std.proofs.Common.{◌≡◌, length, map}
+use Rattle.planus.specs.Steps.{bare_field}
+use Rattle.planus_pack.specs.Keys as spec
+use Rattle.planus_pack.proofs.keys.field_in.Given as goal
+
+abbrev pub invariant-fields : goal.invariant-fields
+invariant-fields l =
+    spec.field_in l.slot (map bare_field l.rest) ≡ spec.field_in l.slot (map bare_field l.fields)
+
+abbrev pub decreases-fields : goal.decreases-fields
+decreases-fields l = length l.rest
