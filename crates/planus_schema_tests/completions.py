@@ -19,8 +19,9 @@ OTHER = re.compile(r"\| dot .*")
 
 # The words of a call up to where it is completed, and what may stand there.
 COMPLETED = {
-    ("",): "check format view json rattle dot conform completions help",
+    ("",): "check format view json binary rattle dot conform completions help",
     ("c",): "check conform completions",
+    ("b",): "binary",
     ("--v",): "--version",
     ("view", ""): "",
     ("view", "--l"): "--lines",

@@ -22,6 +22,7 @@ WRITING = [
     ["view", SCHEMA, BUFFER],
     ["view", "--lines", "100000", "--bytes", "10000000", "wide.fbs", "wide.bin"],
     ["json", "wide.fbs", "wide.bin"],
+    ["binary", "wide.fbs", "wide.json"],
     ["format", SCHEMA],
     ["help"],
     ["view", "--help"],
@@ -30,11 +31,12 @@ WRITING = [
 
 
 def wide(folder):
-    """A schema and a buffer of it whose view has more than a block."""
+    """A schema, and a buffer of it and JSON whose view and buffer have more than a block."""
     (folder / "wide.fbs").write_text("table T { x: [uint]; } root_type T;")
     count = 20000
     head = bytes.fromhex("0c000000 0000 0600 0800 0400 06000000 04000000")
     (folder / "wide.bin").write_bytes(head + count.to_bytes(4, "little") + bytes(4 * count))
+    (folder / "wide.json").write_text("{ x: [" + "0," * count + "] }")
 
 
 def closed():

@@ -7,6 +7,7 @@ use Rattle.planus_cli.specs.declared.arguments.Command.{Command}
 use Rattle.planus_cli.specs.declared.arguments.Command.TheVariants.{Check, Format, View, Dot, Conform, Completions}
 use Rattle.planus_cli.specs.declared.arguments.Command.TheVariants.{Rattle as RattleCommand}
 use Rattle.planus_cli.specs.declared.arguments.Command.TheVariants.{Json as JsonCommand}
+use Rattle.planus_cli.specs.declared.arguments.Command.TheVariants.{Binary}
 use Rattle.planus_cli.specs.Arguments.{option_of, command_of}
 use Rattle.planus_cli.specs.Completions.{option_words, names}
 
@@ -47,6 +48,18 @@ move6 : (a b c d e f h k : Bool) → (a || (b || (c || (d || (e || (f || (h || (
 move6 true b c d e f h k = sym (or_true (h || k))
 move6 false b c d e f h k = move5 b c d e f h k
 
+move7 : (a b c d e f g h k : Bool) → (a || (b || (c || (d || (e || (f || (g || (h || (k || false))))))))) ≡ ((h || k) || (a || (b || (c || (d || (e || (f || (g || false))))))))
+move7 true b c d e f g h k = sym (or_true (h || k))
+move7 false b c d e f g h k = move6 b c d e f g h k
+
+move8 : (a b c d e f g i h k : Bool) → (a || (b || (c || (d || (e || (f || (g || (i || (h || (k || false)))))))))) ≡ ((h || k) || (a || (b || (c || (d || (e || (f || (g || (i || false)))))))))
+move8 true b c d e f g i h k = sym (or_true (h || k))
+move8 false b c d e f g i h k = move7 b c d e f g i h k
+
+move9 : (a b c d e f g i j h k : Bool) → (a || (b || (c || (d || (e || (f || (g || (i || (j || (h || (k || false))))))))))) ≡ ((h || k) || (a || (b || (c || (d || (e || (f || (g || (i || (j || false))))))))))
+move9 true b c d e f g i j h k = sym (or_true (h || k))
+move9 false b c d e f g i j h k = move8 b c d e f g i j h k
+
 pub options_listed : (command : Command) (w : List ℕ) → list_any (bytes_eq w) (option_words command) ≡ is_some (option_of command w)
 options_listed Check w = simp some_of (move1 (bytes_eq w (codes "-I")) (bytes_eq w (codes "--help")) (bytes_eq w (codes "-h")))
 options_listed Format w = simp some_of (move2 (bytes_eq w (codes "--write")) (bytes_eq w (codes "--check")) (bytes_eq w (codes "--help")) (bytes_eq w (codes "-h")))
@@ -54,22 +67,24 @@ options_listed View w = simp some_of (move5 (bytes_eq w (codes "-I")) (bytes_eq 
     (bytes_eq w (codes "--help")) (bytes_eq w (codes "-h")))
 options_listed JsonCommand w = simp some_of (move6 (bytes_eq w (codes "-I")) (bytes_eq w (codes "--root")) (bytes_eq w (codes "--size-prefixed")) (bytes_eq w (codes "--compact")) (bytes_eq w (codes "--strict"))
     (bytes_eq w (codes "--bytes")) (bytes_eq w (codes "--help")) (bytes_eq w (codes "-h")))
+options_listed Binary w = simp some_of (move9 (bytes_eq w (codes "-I")) (bytes_eq w (codes "-o")) (bytes_eq w (codes "--root")) (bytes_eq w (codes "--size-prefixed")) (bytes_eq w (codes "--identifier")) (bytes_eq w (codes "--share")) (bytes_eq w (codes "--omit-defaults")) (bytes_eq w (codes "--skip-unknown")) (bytes_eq w (codes "--bytes")) (bytes_eq w (codes "--help")) (bytes_eq w (codes "-h")))
 options_listed RattleCommand w = simp some_of (move5 (bytes_eq w (codes "-I")) (bytes_eq w (codes "-o")) (bytes_eq w (codes "--check")) (bytes_eq w (codes "--no-verified")) (bytes_eq w (codes "--c")) (bytes_eq w (codes "--help")) (bytes_eq w (codes "-h")))
 options_listed Dot w = simp some_of (move1 (bytes_eq w (codes "-I")) (bytes_eq w (codes "--help")) (bytes_eq w (codes "-h")))
 options_listed Conform w = simp some_of (move6 (bytes_eq w (codes "-I")) (bytes_eq w (codes "--backward")) (bytes_eq w (codes "--forward")) (bytes_eq w (codes "--rename")) (bytes_eq w (codes "--against")) (bytes_eq w (codes "--json")) (bytes_eq w (codes "--help")) (bytes_eq w (codes "-h")))
 options_listed Completions w = simp some_of (move0 (bytes_eq w (codes "--help")) (bytes_eq w (codes "-h")))
 
-last8 : (a b c d e f g h i : Bool) → (a || (b || (c || (d || (e || (f || (g || (h || (i || false))))))))) ≡ ((a || (b || (c || (d || (e || (f || (g || (h || false)))))))) || i)
-last8 true b c d e f g h i = refl
-last8 false true c d e f g h i = refl
-last8 false false true d e f g h i = refl
-last8 false false false true e f g h i = refl
-last8 false false false false true f g h i = refl
-last8 false false false false false true g h i = refl
-last8 false false false false false false true h i = refl
-last8 false false false false false false false true i = refl
-last8 false false false false false false false false true = refl
-last8 false false false false false false false false false = refl
+last9 : (a b c d e f g h i j : Bool) → (a || (b || (c || (d || (e || (f || (g || (h || (i || (j || false)))))))))) ≡ ((a || (b || (c || (d || (e || (f || (g || (h || (i || false))))))))) || j)
+last9 true b c d e f g h i j = refl
+last9 false true c d e f g h i j = refl
+last9 false false true d e f g h i j = refl
+last9 false false false true e f g h i j = refl
+last9 false false false false true f g h i j = refl
+last9 false false false false false true g h i j = refl
+last9 false false false false false false true h i j = refl
+last9 false false false false false false false true i j = refl
+last9 false false false false false false false false true j = refl
+last9 false false false false false false false false false true = refl
+last9 false false false false false false false false false false = refl
 
 pub commands_listed : (w : List ℕ) → list_any (bytes_eq w) names ≡ (is_some (command_of w) || bytes_eq w (codes "help"))
-commands_listed w = simp some_of (last8 (bytes_eq w (codes "check")) (bytes_eq w (codes "format")) (bytes_eq w (codes "view")) (bytes_eq w (codes "json")) (bytes_eq w (codes "rattle")) (bytes_eq w (codes "dot")) (bytes_eq w (codes "conform")) (bytes_eq w (codes "completions")) (bytes_eq w (codes "help")))
+commands_listed w = simp some_of (last9 (bytes_eq w (codes "check")) (bytes_eq w (codes "format")) (bytes_eq w (codes "view")) (bytes_eq w (codes "json")) (bytes_eq w (codes "binary")) (bytes_eq w (codes "rattle")) (bytes_eq w (codes "dot")) (bytes_eq w (codes "conform")) (bytes_eq w (codes "completions")) (bytes_eq w (codes "help")))

@@ -11,6 +11,7 @@ use Rattle.planus_cli.specs.declared.arguments.Command.{Command}
 use Rattle.planus_cli.specs.declared.arguments.Command.TheVariants.{Check, Format, View}
 use Rattle.planus_cli.specs.declared.arguments.Command.TheVariants.{Rattle as RattleCommand}
 use Rattle.planus_cli.specs.declared.arguments.Command.TheVariants.{Json as JsonCommand}
+use Rattle.planus_cli.specs.declared.arguments.Command.TheVariants.{Binary}
 use Rattle.planus_cli.specs.declared.arguments.Command.TheVariants.{Dot, Conform, Completions}
 use Rattle.planus_cli.specs.declared.arguments.Shell.{Shell}
 use Rattle.planus_cli.specs.declared.arguments.Shell.TheVariants.{Bash, Zsh, Fish}
@@ -22,7 +23,9 @@ use Rattle.planus_cli.specs.declared.arguments.Choice.TheVariants.{Compact, Stri
 use Rattle.planus_cli.specs.declared.arguments.Choice.TheVariants.{Check as CheckChoice}
 use Rattle.planus_cli.specs.declared.arguments.Choice.TheVariants.{NoVerified, Backward, Forward}
 use Rattle.planus_cli.specs.declared.arguments.Choice.TheVariants.{Rename, Against, Json}
-use Rattle.planus_cli.specs.declared.arguments.Choice.TheVariants.{Foreign}
+use Rattle.planus_cli.specs.declared.arguments.Choice.TheVariants.{Foreign, OutputFile}
+use Rattle.planus_cli.specs.declared.arguments.Choice.TheVariants.{Identifier, Share}
+use Rattle.planus_cli.specs.declared.arguments.Choice.TheVariants.{OmitDefaults, SkipUnknown}
 use Rattle.planus_cli.specs.declared.arguments.Choice.TheVariants.{Help as HelpChoice}
 use Rattle.planus_cli.specs.declared.arguments.Joined.{Joined}
 use Rattle.planus_cli.specs.declared.arguments.Words.{Words}
@@ -40,6 +43,11 @@ pub record WordsV : Type 0 where
   pub compact : Bool
   pub strict : Bool
   pub output : Option (List ℕ)
+  pub output_file : Option (List ℕ)
+  pub identifier : Bool
+  pub share : Bool
+  pub omit_defaults : Bool
+  pub skip_unknown : Bool
   pub check : Bool
   pub no_verified : Bool
   pub foreign : Option (List ℕ)
@@ -65,6 +73,11 @@ no_words = record {
   compact = false;
   strict = false;
   output = None;
+  output_file = None;
+  identifier = false;
+  share = false;
+  omit_defaults = false;
+  skip_unknown = false;
   check = false;
   no_verified = false;
   foreign = None;
@@ -91,6 +104,11 @@ words_of w = record {
   compact = w.compact;
   strict = w.strict;
   output = option_map (λ s. s.now) w.output;
+  output_file = option_map (λ s. s.now) w.output_file;
+  identifier = w.identifier;
+  share = w.share;
+  omit_defaults = w.omit_defaults;
+  skip_unknown = w.skip_unknown;
   check = w.check;
   no_verified = w.no_verified;
   foreign = option_map (λ s. s.now) w.foreign;
@@ -122,6 +140,17 @@ json_option w = if bytes_eq w (codes "-I") then Some Folder
     else if bytes_eq w (codes "--size-prefixed") then Some SizePrefixed
     else if bytes_eq w (codes "--compact") then Some Compact
     else if bytes_eq w (codes "--strict") then Some Strict
+    else if bytes_eq w (codes "--bytes") then Some Bytes else None
+
+abbrev pub binary_option : List ℕ → Option Choice
+binary_option w = if bytes_eq w (codes "-I") then Some Folder
+    else if bytes_eq w (codes "-o") then Some OutputFile
+    else if bytes_eq w (codes "--root") then Some Root
+    else if bytes_eq w (codes "--size-prefixed") then Some SizePrefixed
+    else if bytes_eq w (codes "--identifier") then Some Identifier
+    else if bytes_eq w (codes "--share") then Some Share
+    else if bytes_eq w (codes "--omit-defaults") then Some OmitDefaults
+    else if bytes_eq w (codes "--skip-unknown") then Some SkipUnknown
     else if bytes_eq w (codes "--bytes") then Some Bytes else None
 
 abbrev pub rattle_option : List ℕ → Option Choice
@@ -156,6 +185,7 @@ option_of command w = if is_help w then Some HelpChoice else option_in command
         else if bytes_eq w (codes "--check") then Some CheckChoice else None
     option_in View = view_option w
     option_in JsonCommand = json_option w
+    option_in Binary = binary_option w
     option_in RattleCommand = rattle_option w
     option_in Conform = conform_option w
     option_in Dot = if bytes_eq w (codes "-I") then Some Folder else None
@@ -184,6 +214,9 @@ joined_in View w = option_or (joined_by Folder (codes "-I") w)
     (option_or (joined_by Lines (codes "--lines=") w) (joined_by Bytes (codes "--bytes=") w)))
 joined_in JsonCommand w = option_or (joined_by Folder (codes "-I") w)
     (option_or (joined_by Root (codes "--root=") w) (joined_by Bytes (codes "--bytes=") w))
+joined_in Binary w = option_or (joined_by Folder (codes "-I") w)
+    (option_or (joined_by OutputFile (codes "-o") w)
+    (option_or (joined_by Root (codes "--root=") w) (joined_by Bytes (codes "--bytes=") w)))
 joined_in RattleCommand w = option_or (joined_by Folder (codes "-I") w)
     (option_or (joined_by Output (codes "-o") w) (joined_by Foreign (codes "--c=") w))
 joined_in Conform w = option_or (joined_by Folder (codes "-I") w)
@@ -199,6 +232,7 @@ with_choice ws Root = record ws { wants = Some Root }
 with_choice ws Lines = record ws { wants = Some Lines }
 with_choice ws Bytes = record ws { wants = Some Bytes }
 with_choice ws Output = record ws { wants = Some Output }
+with_choice ws OutputFile = record ws { wants = Some OutputFile }
 with_choice ws Rename = record ws { wants = Some Rename }
 with_choice ws Against = record ws { wants = Some Against }
 with_choice ws Foreign = record ws { wants = Some Foreign }
@@ -208,6 +242,10 @@ with_choice ws Json = record ws { json = true }
 with_choice ws SizePrefixed = record ws { size_prefixed = true }
 with_choice ws Compact = record ws { compact = true }
 with_choice ws Strict = record ws { strict = true }
+with_choice ws Identifier = record ws { identifier = true }
+with_choice ws Share = record ws { share = true }
+with_choice ws OmitDefaults = record ws { omit_defaults = true }
+with_choice ws SkipUnknown = record ws { skip_unknown = true }
 with_choice ws CheckChoice = record ws { check = true }
 with_choice ws NoVerified = record ws { no_verified = true }
 with_choice ws Write = record ws { write = true }
@@ -220,6 +258,7 @@ with_value ws Root w = record ws { root = Some w }
 with_value ws Lines w = record ws { lines = Some w }
 with_value ws Bytes w = record ws { bytes = Some w }
 with_value ws Output w = record ws { output = Some w }
+with_value ws OutputFile w = record ws { output_file = Some w }
 with_value ws Rename w = record ws { renames = ws.renames ++ w ∷ [] }
 with_value ws Against w = record ws { against = Some w }
 with_value ws Foreign w = record ws { foreign = Some w }
@@ -227,6 +266,10 @@ with_value ws Write w = ws
 with_value ws SizePrefixed w = ws
 with_value ws Compact w = ws
 with_value ws Strict w = ws
+with_value ws Identifier w = ws
+with_value ws Share w = ws
+with_value ws OmitDefaults w = ws
+with_value ws SkipUnknown w = ws
 with_value ws CheckChoice w = ws
 with_value ws NoVerified w = ws
 with_value ws Backward w = ws
@@ -272,6 +315,7 @@ empty_choice ws = if list_any is_empty_word ws.folders then Some Folder
     else if is_empty_value ws.lines then Some Lines
     else if is_empty_value ws.bytes then Some Bytes
     else if is_empty_value ws.output then Some Output
+    else if is_empty_value ws.output_file then Some OutputFile
     else if is_empty_value ws.against then Some Against
     else if is_empty_value ws.foreign then Some Foreign else None
 
@@ -377,7 +421,7 @@ abbrev pub is_empty : List (List ℕ) → Bool
 is_empty [] = true
 is_empty (x ∷ xs) = false
 
--- `view` and `json` need a schema, a buffer and numbers
+-- `view`, `json` and `binary` need a schema, a buffer or JSON, and numbers
 abbrev pub buffer_request : Command → WordsV → Asked
 buffer_request command ws = if not (length ws.files == 2) then no_buffer command
     else if is_no_number ws.lines then no_number command Lines (unwrap_or ws.lines [])
@@ -436,6 +480,7 @@ run_request Check ws = run Check ws
 run_request Format ws = format_request ws
 run_request View ws = buffer_request View ws
 run_request JsonCommand ws = buffer_request JsonCommand ws
+run_request Binary ws = buffer_request Binary ws
 run_request RattleCommand ws = rattle_request ws
 run_request Dot ws = dot_request ws
 run_request Conform ws = conform_request ws
@@ -469,6 +514,7 @@ command_of w = if bytes_eq w (codes "check") then Some Check
     else if bytes_eq w (codes "format") then Some Format
     else if bytes_eq w (codes "view") then Some View
     else if bytes_eq w (codes "json") then Some JsonCommand
+    else if bytes_eq w (codes "binary") then Some Binary
     else if bytes_eq w (codes "rattle") then Some RattleCommand
     else if bytes_eq w (codes "dot") then Some Dot
     else if bytes_eq w (codes "conform") then Some Conform

@@ -7,6 +7,7 @@ use Rattle.planus_cli.specs.declared.arguments.Command.{Command}
 use Rattle.planus_cli.specs.declared.arguments.Command.TheVariants.{Check, Format, View}
 use Rattle.planus_cli.specs.declared.arguments.Command.TheVariants.{Rattle as RattleCommand}
 use Rattle.planus_cli.specs.declared.arguments.Command.TheVariants.{Json as JsonCommand}
+use Rattle.planus_cli.specs.declared.arguments.Command.TheVariants.{Binary}
 use Rattle.planus_cli.specs.declared.arguments.Command.TheVariants.{Dot, Conform, Completions}
 use Rattle.planus_cli.specs.declared.completions.Frame.{Frame}
 
@@ -70,8 +71,8 @@ shells = codes "bash" ∷ codes "zsh" ∷ codes "fish" ∷ []
 
 -- the commands
 abbrev pub names : List (List ℕ)
-names = codes "check" ∷ codes "format" ∷ codes "view" ∷ codes "json" ∷ codes "rattle"
-    ∷ codes "dot" ∷ codes "conform" ∷ codes "completions" ∷ codes "help" ∷ []
+names = codes "check" ∷ codes "format" ∷ codes "view" ∷ codes "json" ∷ codes "binary"
+    ∷ codes "rattle" ∷ codes "dot" ∷ codes "conform" ∷ codes "completions" ∷ codes "help" ∷ []
 
 -- the options of a command
 abbrev pub option_words : Command → List (List ℕ)
@@ -81,6 +82,9 @@ option_words View = codes "-I" ∷ codes "--root" ∷ codes "--size-prefixed" �
     ∷ codes "--bytes" ∷ codes "--help" ∷ codes "-h" ∷ []
 option_words JsonCommand = codes "-I" ∷ codes "--root" ∷ codes "--size-prefixed"
     ∷ codes "--compact" ∷ codes "--strict" ∷ codes "--bytes" ∷ codes "--help" ∷ codes "-h" ∷ []
+option_words Binary = codes "-I" ∷ codes "-o" ∷ codes "--root" ∷ codes "--size-prefixed"
+    ∷ codes "--identifier" ∷ codes "--share" ∷ codes "--omit-defaults" ∷ codes "--skip-unknown"
+    ∷ codes "--bytes" ∷ codes "--help" ∷ codes "-h" ∷ []
 option_words RattleCommand = codes "-I" ∷ codes "-o" ∷ codes "--check" ∷ codes "--no-verified"
     ∷ codes "--c" ∷ codes "--help" ∷ codes "-h" ∷ []
 option_words Dot = codes "-I" ∷ codes "--help" ∷ codes "-h" ∷ []
@@ -106,16 +110,17 @@ unfoldable pub other_rows : FrameV → List ℕ
 other_rows frame = row_text frame (codes "completions") (option_words Completions) shells
     ++ row_text frame (codes "help") [] names
 
--- a row for each command, with its options; files are the arguments of the first seven
+-- a row for each command, with its options; files are the arguments of the first eight
 unfoldable pub rows_text : FrameV → List ℕ
 rows_text frame = row_text frame (codes "check") (option_words Check) []
     ++ (row_text frame (codes "format") (option_words Format) []
     ++ (row_text frame (codes "view") (option_words View) []
     ++ (row_text frame (codes "json") (option_words JsonCommand) []
+    ++ (row_text frame (codes "binary") (option_words Binary) []
     ++ (row_text frame (codes "rattle") (option_words RattleCommand) []
     ++ (row_text frame (codes "dot") (option_words Dot) []
     ++ (row_text frame (codes "conform") (option_words Conform) []
-    ++ other_rows frame))))))
+    ++ other_rows frame)))))))
 
 unfoldable pub script_in : FrameV → List ℕ
 script_in frame = frame.head ++ (rows_text frame ++ (frame.first ++ (spaced first_options

@@ -17,6 +17,8 @@ pub mod Near
 pub mod Viewing
 pub mod Buffers
 pub mod PrintingJson
+pub mod PackTexts
+pub mod Packing
 pub mod Printing
 pub mod Drawing
 pub mod Changes

@@ -6,11 +6,12 @@ use Rattle.planus_cli.specs.declared.arguments.Command.{Command}
 use Rattle.planus_cli.specs.declared.arguments.Command.TheVariants.{Check, Format, View}
 use Rattle.planus_cli.specs.declared.arguments.Command.TheVariants.{Rattle as RattleCommand}
 use Rattle.planus_cli.specs.declared.arguments.Command.TheVariants.{Json as JsonCommand}
+use Rattle.planus_cli.specs.declared.arguments.Command.TheVariants.{Binary}
 use Rattle.planus_cli.specs.declared.arguments.Command.TheVariants.{Dot, Conform, Completions}
 use Rattle.planus_cli.specs.Completions.{option_words, script_of}
 use Rattle.planus_cli.specs.declared.arguments.Choice.{Choice}
 use Rattle.planus_cli.specs.declared.arguments.Choice.TheVariants.{Root, Lines, Bytes, Output}
-use Rattle.planus_cli.specs.declared.arguments.Choice.TheVariants.{Rename, Against, Foreign}
+use Rattle.planus_cli.specs.declared.arguments.Choice.TheVariants.{Rename, Against, Foreign, OutputFile}
 use Rattle.planus_cli.specs.declared.said.Said.{Said}
 use Rattle.planus_cli.specs.Near.{nearest}
 use Rattle.planus_cli.specs.Shown.{shown}
@@ -31,8 +32,8 @@ said_view said = record { wrong = said.wrong; text = said.text.items }
 
 -- the words that a call may begin with
 unfoldable pub command_words : List (List ℕ)
-command_words = codes "check" ∷ codes "format" ∷ codes "view" ∷ codes "json" ∷ codes "rattle"
-    ∷ codes "dot" ∷ codes "conform" ∷ codes "completions" ∷ codes "help"
+command_words = codes "check" ∷ codes "format" ∷ codes "view" ∷ codes "json" ∷ codes "binary"
+    ∷ codes "rattle" ∷ codes "dot" ∷ codes "conform" ∷ codes "completions" ∷ codes "help"
     ∷ codes "--help" ∷ codes "-h" ∷ codes "--version" ∷ codes "-V" ∷ []
 
 -- what is said after a word that is no command or option: the nearest that is one, if one is near
@@ -44,16 +45,17 @@ abbrev pub version_text : List ℕ
 version_text = codes "planus 0.1.0\n"
 
 abbrev pub help_text : List ℕ
-help_text = codes "planus reads schemas of flatbuffers, shows buffers by them, and prints their code.\n\nusage: planus check [-I FOLDER].. SCHEMA..\n       planus format [--write | --check] SCHEMA..\n       planus view [OPTION].. SCHEMA BUFFER\n       planus json [OPTION].. SCHEMA BUFFER\n       planus rattle [--check] [--no-verified] [--c PREFIX] [-I FOLDER].. SCHEMA -o FOLDER\n       planus dot [-I FOLDER].. SCHEMA\n       planus conform [OPTION].. OLD NEW\n       planus conform [OPTION].. --against FOLDER SCHEMA..\n       planus completions bash|zsh|fish\n       planus help [COMMAND], planus [COMMAND] --help, planus --version\n\nSCHEMA, BUFFER, OLD and NEW are files, or - for standard input; after --, each word is\none. The value of an option may be in the same word: -IFOLDER, -oFOLDER, --root=NAME.\n-h is --help, and -V is --version.\n"
+help_text = codes "planus reads schemas of flatbuffers, shows and packs buffers by them, and prints code.\n\nusage: planus check [-I FOLDER].. SCHEMA..\n       planus format [--write | --check] SCHEMA..\n       planus view [OPTION].. SCHEMA BUFFER\n       planus json [OPTION].. SCHEMA BUFFER\n       planus binary [OPTION].. SCHEMA JSON\n       planus rattle [--check] [--no-verified] [--c PREFIX] [-I FOLDER].. SCHEMA -o FOLDER\n       planus dot [-I FOLDER].. SCHEMA\n       planus conform [OPTION].. OLD NEW\n       planus conform [OPTION].. --against FOLDER SCHEMA..\n       planus completions bash|zsh|fish\n       planus help [COMMAND], planus [COMMAND] --help, planus --version\n\nSCHEMA, BUFFER, JSON, OLD and NEW are files, or - for standard input; after --, each\nword is one. The value of an option may be in the same word: -IFOLDER, -oFOLDER,\n--root=NAME. -h is --help, and -V is --version.\n"
 
 -- the usage line of a command, with which its help begins, or of the program; what is said of a
 -- wrong call ends with it
 unfoldable pub usage_of : Option Command → List ℕ
-usage_of None = codes "usage: planus COMMAND ..; the commands are check, format, view, json, rattle, dot, conform, completions and help\n"
+usage_of None = codes "usage: planus COMMAND ..; the commands are check, format, view, json, binary, rattle, dot, conform, completions and help\n"
 usage_of (Some Check) = codes "usage: planus check [-I FOLDER].. SCHEMA..\n"
 usage_of (Some Format) = codes "usage: planus format [--write | --check] SCHEMA..\n"
 usage_of (Some View) = codes "usage: planus view [OPTION].. SCHEMA BUFFER\n"
 usage_of (Some JsonCommand) = codes "usage: planus json [OPTION].. SCHEMA BUFFER\n"
+usage_of (Some Binary) = codes "usage: planus binary [OPTION].. SCHEMA JSON\n"
 usage_of (Some RattleCommand) = codes "usage: planus rattle [--check] [--no-verified] [--c PREFIX] [-I FOLDER].. SCHEMA -o FOLDER\n"
 usage_of (Some Dot) = codes "usage: planus dot [-I FOLDER].. SCHEMA\n"
 usage_of (Some Conform) = codes "usage: planus conform [OPTION].. OLD NEW\n       planus conform [OPTION].. --against FOLDER SCHEMA..\n"
@@ -64,6 +66,7 @@ details_of Check = codes "\nSays on standard error what is wrong with each schem
 details_of Format = codes "\nPrints the canonical text of each schema, with its comments.\n\n  --write  replaces each file by its text\n  --check  prints nothing, and says which files don't have that text\n\nEnds with 0 where nothing is wrong, with 1 where a schema has a fault or --check names\na file, and with 2 where the call is wrong or a file can't be read or written.\n"
 details_of View = codes "\nPrints what a buffer holds, a line a value, as far as the lines and bytes go.\n\n  --root NAME      the root is this table, and not that of the schema\n  --size-prefixed  BUFFER is any number of buffers, each after its size\n  --lines N        at most N lines, and not 1000\n  --bytes N        at most N bytes, and not 1048576\n  -I FOLDER        included files are sought in this folder too\n\nEnds with 0 where all is shown, with 1 where something is wrong with the buffer or\nmore follows, and with 2 where the call is wrong or a file can't be read.\n"
 details_of JsonCommand = codes "\nPrints a buffer as JSON, a member or an item a line, with the fields that it has. If\nsomething is wrong with the buffer it prints nothing, and says where and what.\n\n  --root NAME      the root is this table, and not that of the schema\n  --size-prefixed  BUFFER is any number of buffers, each after its size\n  --compact        each buffer is one line, without spaces\n  --strict         a float that JSON has no number for is in quotes\n  --bytes N        at most N bytes for each buffer, and not 67108864\n  -I FOLDER        included files are sought in this folder too\n\nThe JSON of a buffer is held whole before it is printed, so --bytes says how much\nmemory that takes. The JSON of a large buffer may want a greater N.\nEnds with 0 where all is printed, with 1 where something is wrong with a buffer or its\nJSON is longer, and with 2 where the call is wrong or a file can't be read.\n"
+details_of Binary = codes "\nPacks JSON as a buffer by a schema, and writes it to standard output. If something is\nwrong with the JSON it writes nothing, and says where and what.\n\n  -o FILE          the buffer goes to this file, which is replaced only by a whole one\n  --root NAME      the root is this table, and not that of the schema\n  --size-prefixed  JSON is any number of values, each packed as a buffer after its size\n  --identifier     buffers have the schema's file identifier\n  --share          of a buffer equal strings and byte vectors are written once\n  --omit-defaults  a field of a table that holds its default is left out\n  --skip-unknown   a member of a table that no field has is left out, and no fault\n  --bytes N        at most N bytes are written, and not 67108864\n  -I FOLDER        included files are sought in this folder too\n\nEnds with 0 where the buffer is written, with 1 where something is wrong with the JSON\nor the buffer is longer, and with 2 where the call is wrong or a file can't be read or\nwritten.\n"
 details_of Dot = codes "\nPrints the graph of a schema for Graphviz: a node for each declaration, with its\nfields and their types, and an edge for each that names a declaration. For a picture,\nplanus dot a.fbs | dot -Tsvg -o a.svg. Included files are sought beside the file and\nin each FOLDER.\nEnds with 0 where the graph is printed, with 1 where the schema has a fault, and with\n2 where the call is wrong or a file can't be read.\n"
 details_of Conform = codes "\nSays on standard error what breaks where the schema NEW replaces OLD: each change by\nwhich code of one reads data of the other otherwise, and what to do instead. A note\nsays what changes your own code alone.\n\n  --against FOLDER  SCHEMA is NEW, and OLD the file of its name in this folder\n  --backward        only what breaks new code that reads old data\n  --forward         only what breaks old code that reads new data\n  --rename OLD=NEW  what is OLD in the old schema is NEW in the new one\n  --json            a line of JSON on standard output for each change, for a program\n  -I FOLDER         included files are sought in this folder too\n\nEnds with 0 where nothing breaks, with 1 where something does or a schema has a fault,\nand with 2 where the call is wrong or a file can't be read.\n"
 details_of Completions = codes "\nPrints the script by which this shell completes calls of planus: commands, their\noptions, and files. It says how it is used.\n"
@@ -77,6 +80,7 @@ no_value_text Root = codes "planus: no name follows --root\n"
 no_value_text Lines = codes "planus: no number follows --lines\n"
 no_value_text Bytes = codes "planus: no number follows --bytes\n"
 no_value_text Output = codes "planus: no folder follows -o\n"
+no_value_text OutputFile = codes "planus: no file follows -o\n"
 no_value_text Rename = codes "planus: no names follow --rename\n"
 no_value_text Against = codes "planus: no folder follows --against\n"
 no_value_text Foreign = codes "planus: no prefix follows --c\n"
@@ -87,6 +91,7 @@ no_shell_text = codes "planus: completions has one shell: bash, zsh or fish\n"
 
 abbrev pub no_buffer_text : Command → List ℕ
 no_buffer_text JsonCommand = codes "planus: json has a schema and a buffer\n"
+no_buffer_text Binary = codes "planus: binary has a schema and JSON\n"
 no_buffer_text command = codes "planus: view has a schema and a buffer\n"
 
 abbrev pub several_schemas_text : Command → List ℕ
@@ -102,6 +107,7 @@ empty_value_text Root = codes "planus: the name of --root is empty\n"
 empty_value_text Lines = codes "planus: the number of --lines is empty\n"
 empty_value_text Bytes = codes "planus: the number of --bytes is empty\n"
 empty_value_text Output = codes "planus: the folder of -o is empty\n"
+empty_value_text OutputFile = codes "planus: the name of -o is empty\n"
 empty_value_text Against = codes "planus: the folder of --against is empty\n"
 empty_value_text Foreign = codes "planus: the prefix of --c is empty\n"
 empty_value_text choice = codes "planus: the folder of -I is empty\n"

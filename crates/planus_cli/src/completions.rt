@@ -100,6 +100,7 @@ fn names() -> &'static [&'static str]
         "format",
         "view",
         "json",
+        "binary",
         "rattle",
         "dot",
         "conform",
@@ -185,6 +186,7 @@ fn put_rows(text: &mut Vec<u8>, frame: &Frame) -> Result<(), AllocError>
     put_command(text, frame, "format", Command::Format)?;
     put_command(text, frame, "view", Command::View)?;
     put_command(text, frame, "json", Command::Json)?;
+    put_command(text, frame, "binary", Command::Binary)?;
     put_command(text, frame, "rattle", Command::Rattle)?;
     put_command(text, frame, "dot", Command::Dot)?;
     put_command(text, frame, "conform", Command::Conform)?;

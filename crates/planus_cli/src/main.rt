@@ -1,10 +1,11 @@
 //! The program `planus`: checks schemas of flatbuffers, prints them in their canonical layout,
-//! shows what buffers hold by them, prints buffers as JSON, prints their code as the files of a
-//! crate, draws their graphs, and says what breaks from one to another. A command is a file of its
-//! name, and `json` is `print_json`; start at `program`.
+//! shows what buffers hold by them, prints buffers as JSON and packs JSON as buffers, prints their
+//! code as the files of a crate, draws their graphs, and says what breaks from one to another. A
+//! command is a file of its name, and `json` is `print_json`; start at `program`.
 #![tactic(auto)]
 
 mod arguments;
+mod binary;
 mod changes;
 mod check;
 mod completions;
@@ -25,6 +26,7 @@ mod meaning;
 mod message;
 mod near;
 mod output;
+mod pack_texts;
 mod pairs;
 mod parsed;
 mod parts;

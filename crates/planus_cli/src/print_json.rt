@@ -21,7 +21,7 @@ use std::alloc::{AllocError, Global};
 use std::io::Write;
 
 /// The default of `--bytes`: four times the greatest length of a file.
-const BYTES: usize = 67108864;
+pub(crate) const BYTES: usize = 67108864;
 
 /// How the buffers of a file are printed.
 #[derive(Clone, Copy)]

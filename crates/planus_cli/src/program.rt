@@ -14,7 +14,7 @@ use crate::dot::draw_graph;
 use crate::files::{Files, HostFiles};
 use crate::format::format_file;
 use crate::output::Output;
-use crate::pairs::show_files;
+use crate::pairs::{PairCommand, show_files};
 use crate::rattle::print_code;
 use crate::said::{CLEAN, FAILED, say as say_of};
 use crate::sources::check_at;
@@ -81,8 +81,9 @@ fn run_request<F: Files, W: Write, X: Write>(
         return Ok(FAILED);
     };
     match command {
-        Command::View => show_files(files, alloc, false, words, writer, errors),
-        Command::Json => show_files(files, alloc, true, words, writer, errors),
+        Command::View => show_files(files, alloc, PairCommand::View, words, writer, errors),
+        Command::Json => show_files(files, alloc, PairCommand::Json, words, writer, errors),
+        Command::Binary => show_files(files, alloc, PairCommand::Binary, words, writer, errors),
         Command::Rattle => print_code(files, alloc, words, errors),
         Command::Dot => draw_graph(files, alloc, words, writer, errors),
         Command::Conform => conform(files, alloc, words, writer, errors),

@@ -66,7 +66,7 @@ fn put_front(out: &mut Vec<u8>, front: &[u8]) -> Result<(), AllocError>
     }
 }
 
-fn put_rest(out: &mut Vec<u8>, rest: &[u8]) -> Result<(), AllocError>
+pub(crate) fn put_rest(out: &mut Vec<u8>, rest: &[u8]) -> Result<(), AllocError>
     ensures { OnOk result (out.new.items ≡ out.old.items ++ spec.rest_shown rest.now) }
 {
     if rest.len() > MOST_BESIDE {

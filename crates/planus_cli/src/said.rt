@@ -25,12 +25,13 @@ use std::io::Write;
 const VERSION: &str = "planus 0.1.0\n";
 
 const HELP: &str = "\
-planus reads schemas of flatbuffers, shows buffers by them, and prints their code.
+planus reads schemas of flatbuffers, shows and packs buffers by them, and prints code.
 
 usage: planus check [-I FOLDER].. SCHEMA..
        planus format [--write | --check] SCHEMA..
        planus view [OPTION].. SCHEMA BUFFER
        planus json [OPTION].. SCHEMA BUFFER
+       planus binary [OPTION].. SCHEMA JSON
        planus rattle [--check] [--no-verified] [--c PREFIX] [-I FOLDER].. SCHEMA -o FOLDER
        planus dot [-I FOLDER].. SCHEMA
        planus conform [OPTION].. OLD NEW
@@ -38,13 +39,13 @@ usage: planus check [-I FOLDER].. SCHEMA..
        planus completions bash|zsh|fish
        planus help [COMMAND], planus [COMMAND] --help, planus --version
 
-SCHEMA, BUFFER, OLD and NEW are files, or - for standard input; after --, each word is
-one. The value of an option may be in the same word: -IFOLDER, -oFOLDER, --root=NAME.
--h is --help, and -V is --version.
+SCHEMA, BUFFER, JSON, OLD and NEW are files, or - for standard input; after --, each
+word is one. The value of an option may be in the same word: -IFOLDER, -oFOLDER,
+--root=NAME. -h is --help, and -V is --version.
 ";
 
 const PROGRAM_USAGE: &str =
-    "usage: planus COMMAND ..; the commands are check, format, view, json, rattle, dot, conform, completions and help\n";
+    "usage: planus COMMAND ..; the commands are check, format, view, json, binary, rattle, dot, conform, completions and help\n";
 
 const USAGE_OF_CHECK: &str = "usage: planus check [-I FOLDER].. SCHEMA..\n";
 
@@ -99,6 +100,27 @@ The JSON of a buffer is held whole before it is printed, so --bytes says how muc
 memory that takes. The JSON of a large buffer may want a greater N.
 Ends with 0 where all is printed, with 1 where something is wrong with a buffer or its
 JSON is longer, and with 2 where the call is wrong or a file can't be read.
+";
+
+const USAGE_OF_BINARY: &str = "usage: planus binary [OPTION].. SCHEMA JSON\n";
+
+const DETAILS_OF_BINARY: &str = "
+Packs JSON as a buffer by a schema, and writes it to standard output. If something is
+wrong with the JSON it writes nothing, and says where and what.
+
+  -o FILE          the buffer goes to this file, which is replaced only by a whole one
+  --root NAME      the root is this table, and not that of the schema
+  --size-prefixed  JSON is any number of values, each packed as a buffer after its size
+  --identifier     buffers have the schema's file identifier
+  --share          of a buffer equal strings and byte vectors are written once
+  --omit-defaults  a field of a table that holds its default is left out
+  --skip-unknown   a member of a table that no field has is left out, and no fault
+  --bytes N        at most N bytes are written, and not 67108864
+  -I FOLDER        included files are sought in this folder too
+
+Ends with 0 where the buffer is written, with 1 where something is wrong with the JSON
+or the buffer is longer, and with 2 where the call is wrong or a file can't be read or
+written.
 ";
 
 const USAGE_OF_RATTLE: &str =
@@ -173,6 +195,8 @@ const NO_BUFFER: &str = "planus: view has a schema and a buffer\n";
 
 const NO_BUFFER_FOR_JSON: &str = "planus: json has a schema and a buffer\n";
 
+const NO_JSON: &str = "planus: binary has a schema and JSON\n";
+
 const SEVERAL_SCHEMAS: &str = "planus: rattle has one schema\n";
 
 const SEVERAL_FOR_DOT: &str = "planus: dot has one schema\n";
@@ -225,6 +249,7 @@ fn command_words() -> &'static [&'static str]
         "format",
         "view",
         "json",
+        "binary",
         "rattle",
         "dot",
         "conform",
@@ -261,6 +286,21 @@ pub(crate) fn option_words(command: Command) -> &'static [&'static str]
                 "--size-prefixed",
                 "--compact",
                 "--strict",
+                "--bytes",
+                "--help",
+                "-h",
+            ]
+        }
+        Command::Binary => {
+            &[
+                "-I",
+                "-o",
+                "--root",
+                "--size-prefixed",
+                "--identifier",
+                "--share",
+                "--omit-defaults",
+                "--skip-unknown",
                 "--bytes",
                 "--help",
                 "-h",
@@ -325,6 +365,7 @@ fn usage_of(command: Option<Command>) -> &'static str
         Some(Command::Format) => USAGE_OF_FORMAT,
         Some(Command::View) => USAGE_OF_VIEW,
         Some(Command::Json) => USAGE_OF_JSON,
+        Some(Command::Binary) => USAGE_OF_BINARY,
         Some(Command::Rattle) => USAGE_OF_RATTLE,
         Some(Command::Dot) => USAGE_OF_DOT,
         Some(Command::Conform) => USAGE_OF_CONFORM,
@@ -340,6 +381,7 @@ fn details_of(command: Command) -> &'static str
         Command::Format => DETAILS_OF_FORMAT,
         Command::View => DETAILS_OF_VIEW,
         Command::Json => DETAILS_OF_JSON,
+        Command::Binary => DETAILS_OF_BINARY,
         Command::Rattle => DETAILS_OF_RATTLE,
         Command::Dot => DETAILS_OF_DOT,
         Command::Conform => DETAILS_OF_CONFORM,
@@ -355,6 +397,7 @@ fn no_value(choice: Choice) -> &'static str
         Choice::Lines => "planus: no number follows --lines\n",
         Choice::Bytes => "planus: no number follows --bytes\n",
         Choice::Output => "planus: no folder follows -o\n",
+        Choice::OutputFile => "planus: no file follows -o\n",
         Choice::Rename => "planus: no names follow --rename\n",
         Choice::Against => "planus: no folder follows --against\n",
         Choice::Foreign => "planus: no prefix follows --c\n",
@@ -370,6 +413,7 @@ fn empty_value(choice: Choice) -> &'static str
         Choice::Lines => "planus: the number of --lines is empty\n",
         Choice::Bytes => "planus: the number of --bytes is empty\n",
         Choice::Output => "planus: the folder of -o is empty\n",
+        Choice::OutputFile => "planus: the name of -o is empty\n",
         Choice::Against => "planus: the folder of --against is empty\n",
         Choice::Foreign => "planus: the prefix of --c is empty\n",
         _ => "planus: the folder of -I is empty\n",
@@ -448,6 +492,7 @@ fn no_buffer(command: Command) -> &'static str
 {
     match command {
         Command::Json => NO_BUFFER_FOR_JSON,
+        Command::Binary => NO_JSON,
         _ => NO_BUFFER,
     }
 }

@@ -55,3 +55,16 @@ returns-in-Json g c =
     subst (λ request. Runs disk (asked request) status before after unsaid said) (sym c.in-Run.is)
     (subst (λ command. RunsCommand disk command (words_of c.in-Run.words) status before after unsaid said) (sym c.in-Json.is) runs))
     c.show_files-in-Json.ensures
+
+pub returns-in-Binary : goal.returns-in-Binary
+returns-in-Binary g c =
+    let disk = g.F.Files.disk c.args.files.now in
+    let before = g.W.Write.contents c.args.writer.now in
+    let after = g.W.Write.contents c.show_files-in-Binary.new.writer in
+    let unsaid = g.X.Write.contents c.args.errors.now in
+    let said = g.X.Write.contents c.show_files-in-Binary.new.errors in
+    if_ok c.show_files-in-Binary.result
+    (λ status runs.
+    subst (λ request. Runs disk (asked request) status before after unsaid said) (sym c.in-Run.is)
+    (subst (λ command. RunsCommand disk command (words_of c.in-Run.words) status before after unsaid said) (sym c.in-Binary.is) runs))
+    c.show_files-in-Binary.ensures
