@@ -14,4 +14,5 @@ mod Led
 mod PrintedJson
 pub mod Listed
 mod Rows
+mod Deeper
 pub mod Conformed

@@ -17,6 +17,7 @@ pub mod Near
 pub mod Viewing
 pub mod Buffers
 pub mod PrintingJson
+pub mod Paths
 pub mod PackTexts
 pub mod Packing
 pub mod Printing

@@ -8,6 +8,7 @@ use Rattle.planus.specs.declared.replaying.faults.ReplayError.TheVariants as rep
 use Rattle.planus_json_syntax.specs.Tokens.{is_word_byte}
 use Rattle.planus_pack.specs.declared.pack_fault.PackFault.{PackFault}
 use Rattle.planus_pack.specs.declared.pack_fault.PackFault.TheVariants as fault
+use Rattle.planus_cli.specs.Paths.{lead_of}
 use Rattle.planus_cli.specs.Reports.{rest_shown}
 
 -- a word ends before this byte: within quotes before the next quote
@@ -47,9 +48,14 @@ kind_message fault.WrongLength word = codes "the list has another length than th
 kind_message fault.Unsupported word =
     codes "the type of the field isn't supported by planus binary"
 
--- of a fault of a value, or of the key of a member, that begins at a place of the text
+-- of a fault whose word begins at a place of the text
+abbrev pub bare_message : PackFault → List ℕ → ℕ → List ℕ
+bare_message kind text at = kind_message kind (word_of (drop at text))
+
+-- of a fault of a value, or of the key of a member, that begins at a place of the text, after the
+-- path to it
 abbrev pub fault_message : PackFault → List ℕ → ℕ → List ℕ
-fault_message kind text at = kind_message kind (word_of (drop at text))
+fault_message kind text at = lead_of text at ++ bare_message kind text at
 
 -- where a text of this length has no value, or a second one
 abbrev pub not_one_message : ℕ → ℕ → List ℕ

@@ -30,6 +30,7 @@ mod pack_texts;
 mod pairs;
 mod parsed;
 mod parts;
+mod paths;
 mod placed;
 mod prefixed;
 mod print_json;

@@ -5,6 +5,7 @@ ghost use Rattle.std.specs.String.{string_bytes};
 ghost use Rattle.planus_json_syntax.specs.Tokens.{is_word_byte as in_word};
 ghost use Rattle.planus_cli.specs.PackTexts as spec;
 
+use crate::paths::lead_of;
 use crate::report::put_rest;
 use planus::ReplayError;
 use planus_pack::PackFault;
@@ -106,8 +107,21 @@ fn kind_message(alloc: Global, kind: PackFault, word: &[u8]) -> Result<Vec<u8>, 
     }
 }
 
+/// Returns the message of a fault whose word begins with the byte of index `at`.
+fn bare_message(
+    alloc: Global,
+    kind: PackFault,
+    text: &[u8],
+    at: usize,
+) -> Result<Vec<u8>, AllocError>
+    ensures { IfOk result (λ message. message.items ≡ spec.bare_message kind text.now at) }
+{
+    let (_, rest) = text.split_at(at.min(text.len()));
+    kind_message(alloc, kind, word_of(rest))
+}
+
 /// Returns the message of a fault of a value, or of the key of a member, that begins with the byte
-/// of index `at`.
+/// of index `at`, after the path to it.
 pub(crate) fn fault_message(
     alloc: Global,
     kind: PackFault,
@@ -116,8 +130,9 @@ pub(crate) fn fault_message(
 ) -> Result<Vec<u8>, AllocError>
     ensures { IfOk result (λ message. message.items ≡ spec.fault_message kind text.now at) }
 {
-    let (_, rest) = text.split_at(at.min(text.len()));
-    kind_message(alloc, kind, word_of(rest))
+    let mut message = lead_of(alloc, text, at)?;
+    message.extend_from_slice(&bare_message(alloc, kind, text, at)?)?;
+    Ok(message)
 }
 
 /// Returns the message where a text of this length hasn't one value.
