@@ -26,25 +26,25 @@ word_of [] = []
 word_of (b ∷ bs) = if b == 34 then front_word true bs
     else if is_word_byte b then front_word false (b ∷ bs) else b ∷ []
 
--- a message with a word in it, of which at most 80 bytes are shown
-abbrev pub about : List ℕ → List ℕ → List ℕ → List ℕ
-about before word after = before ++ (codes "`" ++ (rest_shown word ++ (codes "`" ++ after)))
+-- a message that begins with a word, of which at most 80 bytes are shown
+abbrev pub about : List ℕ → List ℕ → List ℕ
+about word after = codes "`" ++ (rest_shown word ++ (codes "`" ++ after))
 
 -- of a fault whose word is this
 abbrev pub kind_message : PackFault → List ℕ → List ℕ
 kind_message fault.WrongKind word =
     codes "the value isn't what its type wants: an object for a table or a struct, a list for a vector or an array, a string for a string"
-kind_message fault.UnknownKey word = about (codes "the type has no field ") word []
-kind_message fault.GivenTwice word = about [] word (codes " is given twice")
+kind_message fault.UnknownKey word = codes "the type has no field of this name"
+kind_message fault.GivenTwice word = codes "the key is given twice"
 kind_message fault.MissingField word =
     codes "a required field of the table, or a field of the struct, is missing"
 kind_message fault.LoneUnion word = codes "a union has its type and no value, or its value and no type"
 kind_message fault.TooDeep word = codes "tables or structs nest deeper than 64"
-kind_message fault.NotANumber word = about [] word (codes " is no number of the type")
-kind_message fault.OutOfRange word = about [] word (codes " doesn't fit the type")
+kind_message fault.NotANumber word = about word (codes " is no number of the type")
+kind_message fault.OutOfRange word = about word (codes " doesn't fit the type")
 kind_message fault.UnknownName word =
-    about [] word (codes " is no value of the enum, or member of the union")
-kind_message fault.WrongLength word = codes "the list has another length than the array"
+    about word (codes " is no value of the enum, or member of the union")
+kind_message fault.WrongLength word = codes "the list hasn't as many items as the array, or as the unions have types"
 kind_message fault.Unsupported word =
     codes "the type of the field isn't supported by planus binary"
 

@@ -66,7 +66,7 @@ details_of Check = codes "\nSays on standard error what is wrong with each schem
 details_of Format = codes "\nPrints the canonical text of each schema, with its comments.\n\n  --write  replaces each file by its text\n  --check  prints nothing, and says which files don't have that text\n\nEnds with 0 where nothing is wrong, with 1 where a schema has a fault or --check names\na file, and with 2 where the call is wrong or a file can't be read or written.\n"
 details_of View = codes "\nPrints what a buffer holds, a line a value, as far as the lines and bytes go.\n\n  --root NAME      the root is this table, and not that of the schema\n  --size-prefixed  BUFFER is any number of buffers, each after its size\n  --lines N        at most N lines, and not 1000\n  --bytes N        at most N bytes, and not 1048576\n  -I FOLDER        included files are sought in this folder too\n\nEnds with 0 where all is shown, with 1 where something is wrong with the buffer or\nmore follows, and with 2 where the call is wrong or a file can't be read.\n"
 details_of JsonCommand = codes "\nPrints a buffer as JSON, a member or an item a line, with the fields that it has. If\nsomething is wrong with the buffer it prints nothing, and says where and what.\n\n  --root NAME      the root is this table, and not that of the schema\n  --size-prefixed  BUFFER is any number of buffers, each after its size\n  --compact        each buffer is one line, without spaces\n  --strict         a float that JSON has no number for is in quotes\n  --bytes N        at most N bytes for each buffer, and not 67108864\n  -I FOLDER        included files are sought in this folder too\n\nThe JSON of a buffer is held whole before it is printed, so --bytes says how much\nmemory that takes. The JSON of a large buffer may want a greater N.\nEnds with 0 where all is printed, with 1 where something is wrong with a buffer or its\nJSON is longer, and with 2 where the call is wrong or a file can't be read.\n"
-details_of Binary = codes "\nPacks JSON as a buffer by a schema, and writes it to standard output. If something is\nwrong with the JSON it writes nothing, and says where and what.\n\n  -o FILE          the buffer goes to this file, which is replaced only by a whole one\n  --root NAME      the root is this table, and not that of the schema\n  --size-prefixed  JSON is any number of values, each packed as a buffer after its size\n  --identifier     buffers have the schema's file identifier\n  --share          of a buffer equal strings and byte vectors are written once\n  --omit-defaults  a field of a table that holds its default is left out\n  --skip-unknown   a member of a table that no field has is left out, and no fault\n  --bytes N        at most N bytes are written, and not 67108864\n  -I FOLDER        included files are sought in this folder too\n\nEnds with 0 where the buffer is written, with 1 where something is wrong with the JSON\nor the buffer is longer, and with 2 where the call is wrong or a file can't be read or\nwritten.\n"
+details_of Binary = codes "\nPacks JSON as a buffer by a schema, and writes it to standard output. If something is\nwrong with the JSON it writes nothing, and says where and what.\n\n  -o FILE          the buffer goes to this file, which is replaced only by a whole one\n  --root NAME      the root is this table, and not that of the schema\n  --size-prefixed  JSON is one value or more, each packed as a buffer after its size\n  --identifier     buffers have the schema's file identifier\n  --share          of a buffer equal strings and byte vectors are written once\n  --omit-defaults  a field of a table that holds its default is left out\n  --skip-unknown   a member of a table that no field has is left out, and no fault\n  --bytes N        at most N bytes are written, and not 67108864\n  -I FOLDER        included files are sought in this folder too\n\nEnds with 0 where the buffer is written, with 1 where something is wrong with the JSON\nor the buffer is longer, and with 2 where the call is wrong or a file can't be read or\nwritten.\n"
 details_of Dot = codes "\nPrints the graph of a schema for Graphviz: a node for each declaration, with its\nfields and their types, and an edge for each that names a declaration. For a picture,\nplanus dot a.fbs | dot -Tsvg -o a.svg. Included files are sought beside the file and\nin each FOLDER.\nEnds with 0 where the graph is printed, with 1 where the schema has a fault, and with\n2 where the call is wrong or a file can't be read.\n"
 details_of Conform = codes "\nSays on standard error what breaks where the schema NEW replaces OLD: each change by\nwhich code of one reads data of the other otherwise, and what to do instead. A note\nsays what changes your own code alone.\n\n  --against FOLDER  SCHEMA is NEW, and OLD the file of its name in this folder\n  --backward        only what breaks new code that reads old data\n  --forward         only what breaks old code that reads new data\n  --rename OLD=NEW  what is OLD in the old schema is NEW in the new one\n  --json            a line of JSON on standard output for each change, for a program\n  -I FOLDER         included files are sought in this folder too\n\nEnds with 0 where nothing breaks, with 1 where something does or a schema has a fault,\nand with 2 where the call is wrong or a file can't be read.\n"
 details_of Completions = codes "\nPrints the script by which this shell completes calls of planus: commands, their\noptions, and files. It says how it is used.\n"

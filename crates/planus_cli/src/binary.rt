@@ -33,7 +33,7 @@ struct Packing<'a> {
     caches: Caches,
     /// The identifier of buffers, where they have one.
     id: Option<[u8; 4]>,
-    /// Whether the text is any number of values, each of which is packed after its size.
+    /// Whether the text is one value or more, each of which is packed after its size.
     sized: bool,
 }
 

@@ -14,13 +14,17 @@ use std::alloc::{AllocError, Global};
 const WRONG_KIND: &str =
     "the value isn't what its type wants: an object for a table or a struct, a list for a vector or an array, a string for a string";
 
+const UNKNOWN_KEY: &str = "the type has no field of this name";
+
+const GIVEN_TWICE: &str = "the key is given twice";
+
 const MISSING_FIELD: &str = "a required field of the table, or a field of the struct, is missing";
 
 const LONE_UNION: &str = "a union has its type and no value, or its value and no type";
 
 const TOO_DEEP: &str = "tables or structs nest deeper than 64";
 
-const WRONG_LENGTH: &str = "the list has another length than the array";
+const WRONG_LENGTH: &str = "the list hasn't as many items as the array, or as the unions have types";
 
 const UNSUPPORTED: &str = "the type of the field isn't supported by planus binary";
 
@@ -66,12 +70,11 @@ fn word_of(bytes: &[u8]) -> &[u8]
     }
 }
 
-/// Returns a message with a word in it.
-fn about(alloc: Global, before: &str, word: &[u8], after: &str) -> Result<Vec<u8>, AllocError>
-    ensures { IfOk result (λ text. text.items ≡ spec.about before.now word.now after.now) }
+/// Returns a message that begins with a word.
+fn about(alloc: Global, word: &[u8], after: &str) -> Result<Vec<u8>, AllocError>
+    ensures { IfOk result (λ text. text.items ≡ spec.about word.now after.now) }
 {
-    let mut text = Vec::from_slice(alloc, before.as_bytes())?;
-    text.push(b'`')?;
+    let mut text = Vec::from_slice(alloc, b"`")?;
     put_rest(&mut text, word)?;
     text.push(b'`')?;
     text.extend_from_slice(after.as_bytes())?;
@@ -89,16 +92,15 @@ fn kind_message(alloc: Global, kind: PackFault, word: &[u8]) -> Result<Vec<u8>, 
 {
     match kind {
         PackFault::WrongKind => plain(alloc, WRONG_KIND),
-        PackFault::UnknownKey => about(alloc, "the type has no field ", word, ""),
-        PackFault::GivenTwice => about(alloc, "", word, " is given twice"),
+        PackFault::UnknownKey => plain(alloc, UNKNOWN_KEY),
+        PackFault::GivenTwice => plain(alloc, GIVEN_TWICE),
         PackFault::MissingField => plain(alloc, MISSING_FIELD),
         PackFault::LoneUnion => plain(alloc, LONE_UNION),
         PackFault::TooDeep => plain(alloc, TOO_DEEP),
-        PackFault::NotANumber => about(alloc, "", word, " is no number of the type"),
-        PackFault::OutOfRange => about(alloc, "", word, " doesn't fit the type"),
+        PackFault::NotANumber => about(alloc, word, " is no number of the type"),
+        PackFault::OutOfRange => about(alloc, word, " doesn't fit the type"),
         PackFault::UnknownName => about(
             alloc,
-            "",
             word,
             " is no value of the enum, or member of the union",
         ),

@@ -110,7 +110,7 @@ wrong with the JSON it writes nothing, and says where and what.
 
   -o FILE          the buffer goes to this file, which is replaced only by a whole one
   --root NAME      the root is this table, and not that of the schema
-  --size-prefixed  JSON is any number of values, each packed as a buffer after its size
+  --size-prefixed  JSON is one value or more, each packed as a buffer after its size
   --identifier     buffers have the schema's file identifier
   --share          of a buffer equal strings and byte vectors are written once
   --omit-defaults  a field of a table that holds its default is left out
