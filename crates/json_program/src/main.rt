@@ -79,7 +79,16 @@ fn main(rt: HostRuntime) -> io::Result<()> {
         return println!(rt; "the schema has a fault");
     };
     let shown = dump_schema(alloc, &schema, root)?;
-    match binary(alloc, &schema, root, &text, PackOptions::default(), Caches::all(), None, false) {
+    match binary(
+        alloc,
+        &schema,
+        root,
+        &text,
+        PackOptions::default(),
+        Caches::all(),
+        None,
+        false,
+    ) {
         Ok(bytes) => print_json(&rt, &shown, &bytes),
         Err(error) => println!(rt; "{error:?}"),
     }

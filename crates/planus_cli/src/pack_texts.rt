@@ -24,7 +24,8 @@ const LONE_UNION: &str = "a union has its type and no value, or its value and no
 
 const TOO_DEEP: &str = "tables or structs nest deeper than 64";
 
-const WRONG_LENGTH: &str = "the list hasn't as many items as the array, or as the unions have types";
+const WRONG_LENGTH: &str =
+    "the list hasn't as many items as the array, or as the unions have types";
 
 const UNSUPPORTED: &str = "the type of the field isn't supported by planus binary";
 
