@@ -1,1 +1,2 @@
+pub mod Boxes
 pub mod Shown

@@ -17,13 +17,12 @@ module _ {R : Type 0} (type_ : List ℕ) (table : Table) where
       λ made. fields_given x fields Shown (λ others. shows (made, others))
 
   one_given :
-      (e : OwnError) (fields : List (OwnedField R)) (Behind Shown : Type 0)
-      → (HasFields type_ fields table (Err e) → Behind)
-      → GivenOne type_ table e Behind fields Shown → Shown
-  one_given e [] Behind Shown leads given = given
-  one_given e (field ∷ fields) Behind Shown leads given =
-      one_given e fields (field.IsThere type_ table → Behind) Shown
-      (λ others there. leads (inr (there, others))) (given (λ made. leads (inl made)))
+      (e : OwnError) (fields : List (OwnedField R)) (Shown : Type 0)
+      → (HasFields type_ fields table (Err e) → Shown)
+      → GivenOne type_ table e fields Shown → Shown
+  one_given e [] Shown leads given = given
+  one_given e (field ∷ fields) Shown leads given =
+      one_given e fields Shown (λ others. leads (inr others)) (given (λ made. leads (inl made)))
 
 module _ {R : Type 0} where
   shown_of_record : (owned : Owning R) (table : Table) (x : R)
@@ -36,8 +35,7 @@ module _ {R : Type 0} where
       → ShownOfError owned table e (IsMade owned table (Err e))
   shown_of_error too_deep table e = λ same. ap (λ e. Err e) same
   shown_of_error (record_of type_ fields) table e =
-      one_given type_ table e fields (HasFields type_ fields table (Err e))
-      (HasFields type_ fields table (Err e)) (λ has. has)
+      one_given type_ table e fields (HasFields type_ fields table (Err e)) (λ has. has)
 
   module _ (owned : ℕ → Owning R) (depth n : ℕ) (is : depth ≡ suc n) (table : Table) where
     pub record_at : (x : R) → ShownOfRecord (owned (suc n)) table x (IsMade (owned depth) table (Ok x))

@@ -4,6 +4,7 @@ use Rattle.std.specs.Prelude.{string_bytes}
 use Rattle.std.specs.Borrow.{Bor}
 use Rattle.std.specs.declared.alloc.Global.{Global}
 use Rattle.planus_read.specs.declared.located.Error.{Error}
+use Rattle.planus_read.specs.declared.table_reader.Table.{Table}
 use Rattle.planus_owned.specs.declared.errors.OwnError.{OwnError}
 use Rattle.planus_owned.specs.declared.errors.OwnError.TheVariants.{OutOfMemory, Read}
 
@@ -37,3 +38,15 @@ abbrev pub CopiesBox :
     → Type 0
 CopiesBox Made x (Ok boxed) = Made x (Ok boxed.value)
 CopiesBox Made x (Err e) = (e ≡ OutOfMemory) ⊎ Made x (Err e)
+
+-- what an accessor with this contract returns, by table, slot, names in errors and result
+abbrev pub Accessor : Type 0 → Type 1
+Accessor T = Table → ℕ → List ℕ → List ℕ → Result T Error → Type 0
+
+-- what is made of what the accessor returns
+pub record IsMadeFrom {T V : Type 0} (Returns : Accessor T) (Copies : T → Result V OwnError → Type 0)
+    (table : Table) (slot : ℕ) (type_ method : List ℕ) (r : Result V OwnError)
+    : Type 0 where
+  pub read : Result T Error
+  pub returned : Returns table slot type_ method read
+  pub made : IsMadeOf Copies read r

@@ -13,13 +13,11 @@ module _ {R : Type 0} (type_ : List ℕ) (table : Table) where
   GivenFields x (field ∷ fields) Shown =
       field.Made type_ table (Ok (field.part x)) → GivenFields x fields Shown
 
-  -- Where it is enough to show it of the error of any one field behind others that have a value. That
-  -- these have is what Behind asks before it is shown.
-  abbrev pub GivenOne : OwnError → Type 0 → List (OwnedField R) → Type 0 → Type 0
-  GivenOne e Behind [] Shown = Shown
-  GivenOne e Behind (field ∷ fields) Shown =
-      (field.Made type_ table (Err e) → Behind)
-      → GivenOne e (field.IsThere type_ table → Behind) fields Shown
+  -- where it is enough to show it of the error of any one field
+  abbrev pub GivenOne : OwnError → List (OwnedField R) → Type 0 → Type 0
+  GivenOne e [] Shown = Shown
+  GivenOne e (field ∷ fields) Shown =
+      (field.Made type_ table (Err e) → Shown) → GivenOne e fields Shown
 
 module _ {R : Type 0} where
   -- this is shown of the record where its fields are
@@ -27,8 +25,8 @@ module _ {R : Type 0} where
   ShownOfRecord too_deep table x Shown = ⊥ → Shown
   ShownOfRecord (record_of type_ fields) table x Shown = GivenFields type_ table x fields Shown
 
-  -- this is shown of the error where it is that of the first field that has one
+  -- this is shown of the error where it is that of a field
   abbrev pub ShownOfError : Owning R → Table → OwnError → Type 0 → Type 0
   ShownOfError too_deep table e Shown = e ≡ TooDeep → Shown
   ShownOfError (record_of type_ fields) table e Shown =
-      GivenOne type_ table e Shown fields Shown → Shown
+      GivenOne type_ table e fields Shown → Shown

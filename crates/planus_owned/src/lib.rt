@@ -1,6 +1,6 @@
 //! Owned records: values that have all that a table holds, made of its view.
 //!
-//! [`own_value`] and the functions beside it make a field of what an accessor returned. A record's
+//! [`own_plain`] and the functions beside it make a field of what an accessor returns. A record's
 //! own function calls one of them for each field; what it returns is said by a list of these fields
 //! (`specs/Records.antt`).
 #![tactic(auto)]
@@ -13,11 +13,8 @@ mod texts;
 mod values;
 
 pub use depth::below;
-pub use errors::OwnError;
-pub use errors::Result;
+pub use errors::{OwnError, Result};
 pub use owned::Owned;
-pub use tables::own_table;
-pub use tables::own_table_if;
-pub use texts::own_text;
-pub use texts::own_text_if;
-pub use values::own_value;
+pub use tables::{own_table, own_table_if};
+pub use texts::{own_text, own_text_if};
+pub use values::{own_plain, own_plain_if, own_plain_or};

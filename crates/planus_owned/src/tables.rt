@@ -1,9 +1,11 @@
 //! Tables in tables.
 
-ghost use Rattle.std.specs.Prelude.{ℕ, Result as std_result};
+ghost use Rattle.std.specs.Prelude.{ℕ, List, Result as std_result};
+ghost use Rattle.planus.specs.Printed.{IsTableField, IsTableRequired};
+ghost use Rattle.planus_read.specs.declared.table_reader.Table.{Table};
 ghost use Rattle.planus_owned.specs.declared.errors.OwnError.{OwnError};
 ghost use Rattle.planus_owned.specs.Made.{IsMadeOf, CopiesBox, CopiesIf};
-ghost use Rattle.planus_owned.specs.Records.{IsMade};
+ghost use Rattle.planus_owned.specs.Records.{IsMade, OwnsTable, OwnsTableIf};
 
 use crate::errors::OwnError;
 use crate::owned::Owned;
@@ -28,23 +30,13 @@ fn boxed<'n, V, R: Drop, F: FnOnce(V) -> Result<R, OwnError<'n>>>(
     }
 }
 
-/// Returns the record that `own` makes of the table that an accessor returned. Fails as the accessor
-/// or as `own`, or with [`OwnError::OutOfMemory`].
-pub fn own_table<
-    'a,
-    'n,
-    V: TableView<'a>,
-    R: Owned + Drop,
-    F: FnOnce(V) -> Result<R, OwnError<'n>>,
->(
+fn boxed_of<'n, V, R: Drop, F: FnOnce(V) -> Result<R, OwnError<'n>>>(
     read: Result<V, Error<'n>>,
     own: F,
     alloc: Global,
 ) -> Result<Box<R>, OwnError<'n>>
     requires { F.IsAlwaysCallable own }
-    ensures { (n : ℕ) → ((view : V) (r : std_result R OwnError) → F.post own view r
-        → IsMade (R.owned n) (V.table view) r)
-        → IsMadeOf (CopiesBox (λ view r. IsMade (R.owned n) (V.table view) r)) read.entry result }
+    ensures { IsMadeOf (CopiesBox (F.post own)) read.entry result }
 {
     match read {
         Ok(view) => boxed(view, own, alloc),
@@ -52,23 +44,13 @@ pub fn own_table<
     }
 }
 
-/// The same of a field that may be absent.
-pub fn own_table_if<
-    'a,
-    'n,
-    V: TableView<'a>,
-    R: Owned + Drop,
-    F: FnOnce(V) -> Result<R, OwnError<'n>>,
->(
+fn boxed_if<'n, V, R: Drop, F: FnOnce(V) -> Result<R, OwnError<'n>>>(
     read: Result<Option<V>, Error<'n>>,
     own: F,
     alloc: Global,
 ) -> Result<Option<Box<R>>, OwnError<'n>>
     requires { F.IsAlwaysCallable own }
-    ensures { (n : ℕ) → ((view : V) (r : std_result R OwnError) → F.post own view r
-        → IsMade (R.owned n) (V.table view) r)
-        → IsMadeOf (CopiesIf (CopiesBox (λ view r. IsMade (R.owned n) (V.table view) r)))
-        read.entry result }
+    ensures { IsMadeOf (CopiesIf (CopiesBox (F.post own))) read.entry result }
 {
     let found = match read {
         Ok(found) => found,
@@ -81,4 +63,43 @@ pub fn own_table_if<
         },
         None => Ok(None),
     }
+}
+
+/// Returns the record that `own` makes of the table that an accessor returned, as
+/// [`table_required`](planus::table_required). Fails as the accessor or as `own`, or with
+/// [`OwnError::OutOfMemory`].
+pub fn own_table<
+    'a,
+    'n,
+    V: TableView<'a>,
+    R: Owned + Drop,
+    F: FnOnce(V) -> Result<R, OwnError<'n>>,
+>(read: Result<V, Error<'n>>, own: F, alloc: Global) -> Result<Box<R>, OwnError<'n>>
+    requires { F.IsAlwaysCallable own }
+    ensures { (n : ℕ) (table : Table) (slot : ℕ) (type_ method : List ℕ)
+        → IsTableRequired V.Kind V.table table slot type_ method read.entry
+        → ((view : V) (r : std_result R OwnError) → F.post own view r
+        → IsMade (R.owned n) (V.table view) r)
+        → OwnsTable V.Kind V.table (R.owned n) table slot type_ method result }
+{
+    boxed_of(read, own, alloc)
+}
+
+/// The same of a field that may be absent, as of [`table_field`](planus::table_field): `None` of
+/// `None`.
+pub fn own_table_if<
+    'a,
+    'n,
+    V: TableView<'a>,
+    R: Owned + Drop,
+    F: FnOnce(V) -> Result<R, OwnError<'n>>,
+>(read: Result<Option<V>, Error<'n>>, own: F, alloc: Global) -> Result<Option<Box<R>>, OwnError<'n>>
+    requires { F.IsAlwaysCallable own }
+    ensures { (n : ℕ) (table : Table) (slot : ℕ) (type_ method : List ℕ)
+        → IsTableField V.Kind V.table table slot type_ method read.entry
+        → ((view : V) (r : std_result R OwnError) → F.post own view r
+        → IsMade (R.owned n) (V.table view) r)
+        → OwnsTableIf V.Kind V.table (R.owned n) table slot type_ method result }
+{
+    boxed_if(read, own, alloc)
 }
