@@ -16,8 +16,6 @@ mod person;
 mod port;
 mod pos;
 mod ship;
-#[cfg(test)]
-mod tests;
 
 pub use kind::Kind;
 pub use person::{Person, PersonFields, PersonRef};

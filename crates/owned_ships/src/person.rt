@@ -61,7 +61,8 @@ impl<'a> PersonRef<'a> {
         plain_field_or(&self.0, 1, 18, "Person", "age")
     }
 
-    /// Makes a record of it, of at most so many tables within each other.
+    /// Makes a record of it, in which at most `depth` tables lie within each other, itself included.
+    /// Fails as a field's read, or with `OwnError::TooDeep` or `OwnError::OutOfMemory`.
     pub fn to_record(&self, depth: u32, alloc: Global) -> planus_owned::Result<Person>
         ensures { IsMade (person_owned depth) self.now.0 result }
     {

@@ -81,7 +81,8 @@ impl<'a> PortRef<'a> {
         )
     }
 
-    /// Makes a record of it, of at most so many tables within each other.
+    /// Makes a record of it, in which at most `depth` tables lie within each other, itself included.
+    /// Fails as a field's read, or with `OwnError::TooDeep` or `OwnError::OutOfMemory`.
     pub fn to_record(&self, depth: u32, alloc: Global) -> planus_owned::Result<Port>
         ensures { IsMade (port_owned depth) self.now.0 result }
     {

@@ -214,7 +214,8 @@ impl<'a> ShipRef<'a> {
         )
     }
 
-    /// Makes a record of it, of at most so many tables within each other.
+    /// Makes a record of it, in which at most `depth` tables lie within each other, itself included.
+    /// Fails as a field's read, or with `OwnError::TooDeep` or `OwnError::OutOfMemory`.
     #[cycle(ship)]
     pub fn to_record(&self, depth: u32, alloc: Global) -> planus_owned::Result<Ship>
         ensures { IsMade (ship_owned depth) self.now.0 result }

@@ -44,8 +44,9 @@ abbrev pub Accessor : Type 0 → Type 1
 Accessor T = Table → ℕ → List ℕ → List ℕ → Result T Error → Type 0
 
 -- what is made of what the accessor returns
-pub record IsMadeFrom {T V : Type 0} (Returns : Accessor T) (Copies : T → Result V OwnError → Type 0)
-    (table : Table) (slot : ℕ) (type_ method : List ℕ) (r : Result V OwnError)
+pub record IsMadeFrom {T V : Type 0} (Returns : Accessor T)
+    (Copies : T → Result V OwnError → Type 0) (table : Table) (slot : ℕ) (type_ method : List ℕ)
+    (r : Result V OwnError)
     : Type 0 where
   pub read : Result T Error
   pub returned : Returns table slot type_ method read

@@ -12,8 +12,8 @@ use Rattle.planus_owned.specs.declared.errors.OwnError.TheVariants.{TooDeep}
 use Rattle.planus_owned.specs.Made.{Accessor, IsMadeFrom, CopiesValue, CopiesText, CopiesIf}
 use Rattle.planus_owned.specs.Made.{CopiesBox}
 
--- A field of records: which part of a record it is, and what is made of a table for it, by the table's
--- name in errors.
+-- A field of records: which part of a record it is, and what is made of a table for it, by the
+-- table's name in errors.
 pub record OwnedField (R : Type 0) : Type 1 where
   pub Value : Type 0
   pub part : R → Value
@@ -29,8 +29,8 @@ HasFields type_ [] table (Err e) = ⊥
 HasFields type_ (field ∷ fields) table (Err e) =
     field.Made type_ table (Err e) ⊎ HasFields type_ fields table (Err e)
 
--- What records are made of: of nothing where no more tables may lie within each other, else of these
--- fields of a table of this name.
+-- What records are made of: of nothing where no more tables may lie within each other, else of
+-- these fields of a table of this name.
 pub data Owning (R : Type 0) : Type 1 where
   too_deep : Owning R
   record_of : List ℕ → List (OwnedField R) → Owning R
@@ -51,6 +51,7 @@ module _ {R V : Type 0} (K : Type 0) (table_of : V → Table) (owned : Owning R)
   abbrev pub OwnsTable : Table → ℕ → List ℕ → List ℕ → Result (Box R Global) OwnError → Type 0
   OwnsTable = IsMadeFrom (IsTableRequired K table_of) (CopiesBox (IsMadeOfView owned table_of))
 
+  -- the same of a field that may be absent
   abbrev pub OwnsTableIf :
       Table → ℕ → List ℕ → List ℕ → Result (Option (Box R Global)) OwnError → Type 0
   OwnsTableIf =
@@ -71,6 +72,7 @@ module _ {R : Type 0} where
   abbrev pub text : ℕ → List ℕ → (R → String Global) → OwnedField R
   text = made_of IsTextRequired CopiesText
 
+  -- a string that may be absent
   abbrev pub text_if : ℕ → List ℕ → (R → Option (String Global)) → OwnedField R
   text_if = made_of IsTextField (CopiesIf CopiesText)
 
@@ -79,9 +81,11 @@ module _ {R : Type 0} where
     abbrev pub plain : ℕ → List ℕ → (R → T) → OwnedField R
     plain = made_of (IsPlainRequired shape) CopiesValue
 
+    -- the same, which may be absent
     abbrev pub plain_if : ℕ → List ℕ → (R → Option T) → OwnedField R
     plain_if = made_of (IsPlainField shape) CopiesValue
 
+    -- the same, with its default if absent
     abbrev pub plain_or : T → ℕ → List ℕ → (R → T) → OwnedField R
     plain_or default = made_of (IsPlainFieldOr shape default) CopiesValue
 
@@ -90,6 +94,7 @@ module _ {R : Type 0} where
     abbrev pub table : ℕ → List ℕ → (R → Box V Global) → OwnedField R
     table = made_of (IsTableRequired K table_of) (CopiesBox (IsMadeOfView owned table_of))
 
+    -- the same, which may be absent
     abbrev pub table_if : ℕ → List ℕ → (R → Option (Box V Global)) → OwnedField R
     table_if =
         made_of (IsTableField K table_of) (CopiesIf (CopiesBox (IsMadeOfView owned table_of)))
