@@ -16,6 +16,8 @@ mod person;
 mod port;
 mod pos;
 mod ship;
+#[cfg(test)]
+mod tests;
 
 pub use kind::Kind;
 pub use person::{Person, PersonFields, PersonRef};
